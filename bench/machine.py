@@ -1,10 +1,11 @@
 #!/usr/bin/env python3
 """Times the machine on program files that take many turns, beside the same programs in Lua.
 
-usage: machine.py CBI      where CBI is the built tool (README.md says how it is built)
+usage: machine.py [--instructions] CBI      where CBI is the built tool (README.md says how it is built)
 
 Each program is written here as nodes; a label names the node after it. Printed are the processor seconds of the process and the most
-memory that it held, and for Lua the same, where lua5.4 is on the path.
+memory that it held, and for Lua the same, where lua5.4 is on the path. With --instructions those of a turn are printed, of a call or of a store, as
+the difference of two runs over the turns between them, as callgrind counts them.
 """
 import os
 import shutil
@@ -14,29 +15,45 @@ import time
 from typing import List, Tuple
 
 from programs import END, below, counted, get, program, put
-from timing import timed
+from timing import instructions, timed
 
 TURNS = "100000000"
 
-LOOP = program([("main", "value", 0, [1, 1],
-                 put(1, 0) + counted(0, 10000000, "loop", ["local 1"] + get(1) + get(0) + ["math add", "push i 1023", "math rem", "store", "drop"]) + END)], 0)
 
-FIB = program([("fib", "value", 1, [1],
-                get(0) + ["push i 2", "math lt", "fork @small @large", "small:"] + get(0) + ["return", "large:"]
-                + get(0) + ["push i 1", "math sub", "call 0"] + get(0) + ["push i 2", "math sub", "call 0", "math add", "return"]),
-               ("main", "value", 0, [], ["push i 32", "call 0", "drop"] + END)], 1)
+def loop(turns: int) -> str:
+    body = ["local 1"] + get(1) + get(0) + ["math add", "push i 1023", "math rem", "store", "drop"]
+    return program([("main", "value", 0, [1, 1], put(1, 0) + counted(0, turns, "loop", body) + END)], 0)
 
-ARRAY = program([("main", "value", 0, [1, 1, 1000],
-                  ["zero 2 i"] + counted(0, 10000, "rounds",
-                                         counted(1, 1000, "cells", ["local 2"] + get(1) + ["move 1", "local 2"] + get(1)
-                                                 + ["move 1", "load i"] + get(1) + ["math add", "push i 1023", "math rem", "store", "drop"])) + END)], 0)
 
-STRIDED = program([("main", "value", 0, [1, 1, 1],
-                    ["local 2", "push u 4000000", "alloc", "store", "drop"]
-                    + counted(0, 16, "rounds", put(1, 0) + ["cells:"] + below(1, 4000000, "cells_in", "cells_out") + ["cells_in:", "local 2", "load p"] + get(1)
-                              + ["move 1"] + get(0) + ["store", "drop", "local 1"] + get(1) + ["push i 7", "math add", "store", "drop", "again @cells", "cells_out:"]) + END)], 0)
+def calls(number: int) -> str:
+    """fib(number)"""
+    fib = (get(0) + ["push i 2", "math lt", "fork @small @large", "small:"] + get(0) + ["return", "large:"]
+           + get(0) + ["push i 1", "math sub", "call 0"] + get(0) + ["push i 2", "math sub", "call 0", "math add", "return"])
+    return program([("fib", "value", 1, [1], fib), ("main", "value", 0, [], [f"push i {number}", "call 0", "drop"] + END)], 1)
 
-PUTCHAR = program([("main", "value", 0, [1], counted(0, 10000000, "loop", ["push i 97", "put", "drop"]) + END)], 0)
+
+def array(rounds: int) -> str:
+    """Sums over an array of 1,000 cells."""
+    body = (["local 2"] + get(1) + ["move 1", "local 2"] + get(1)
+            + ["move 1", "load i"] + get(1) + ["math add", "push i 1023", "math rem", "store", "drop"])
+    return program([("main", "value", 0, [1, 1, 1000], ["zero 2 i"] + counted(0, rounds, "rounds", counted(1, 1000, "cells", body)) + END)], 0)
+
+
+def strided(rounds: int, cells: int = 4000000) -> str:
+    """Stores into each seventh cell of memory from `malloc`."""
+    body = (put(1, 0) + ["cells:"] + below(1, cells, "cells_in", "cells_out") + ["cells_in:", "local 2", "load p"] + get(1) + ["move 1"] + get(0)
+            + ["store", "drop", "local 1"] + get(1) + ["push i 7", "math add", "store", "drop", "again @cells", "cells_out:"])
+    return program([("main", "value", 0, [1, 1, 1], ["local 2", f"push u {cells}", "alloc", "store", "drop"] + counted(0, rounds, "rounds", body) + END)], 0)
+
+
+def putchars(turns: int) -> str:
+    return program([("main", "value", 0, [1], counted(0, turns, "loop", ["push i 97", "put", "drop"]) + END)], 0)
+
+
+def made_calls(number: int) -> int:
+    """How often fib(number) calls fib."""
+    return 1 if number < 2 else 1 + made_calls(number - 1) + made_calls(number - 2)
+
 
 LUA = {
     "loop": "local s=0 for i=0,9999999 do s=(s+i)%1023 end",
@@ -45,7 +62,10 @@ LUA = {
     "strided": "local a={} for i=0,3999999 do a[i]=0 end for r=0,15 do for i=0,3999999,7 do a[i]=r end end",
     "putchar": "local w=io.write for i=1,10000000 do w('a') end",
 }
-PROGRAMS = {"loop": LOOP, "calls": FIB, "array": ARRAY, "strided": STRIDED, "putchar": PUTCHAR}
+PROGRAMS = {"loop": loop(10000000), "calls": calls(32), "array": array(10000), "strided": strided(16), "putchar": putchars(10000000)}
+# two programs that differ in how often they do one thing, and how much oftener the second does it
+PAIRS = {"loop": (loop(10000), loop(30000), 20000), "calls": (calls(14), calls(18), made_calls(18) - made_calls(14)), "array": (array(10), array(30), 20000),
+         "strided": (strided(4, 40000), strided(12, 40000), 8 * 5715), "putchar": (putchars(10000), putchars(30000), 20000)}
 
 
 def measured(words: List[str]) -> Tuple[int, float, int]:
@@ -54,23 +74,43 @@ def measured(words: List[str]) -> Tuple[int, float, int]:
     return best.status, best.seconds, best.memory
 
 
-def main() -> None:
-    if len(sys.argv) != 2 or sys.argv[1].startswith("-"):
-        sys.exit(__doc__)
-    tool = sys.argv[1]
-    lua = shutil.which("lua5.4")
-    print(f"{os.cpu_count()} processors, {time.strftime('%Y-%m-%d')}")
-    with tempfile.TemporaryDirectory() as folder:
-        for name, text in PROGRAMS.items():
+def count_instructions(tool: str, folder: str) -> None:
+    for name, (few, many, more) in PAIRS.items():
+        counts = []
+        for text in (few, many):
             path = os.path.join(folder, name)
             with open(path, "w") as file:
                 file.write(text)
-            status, seconds, memory = measured([tool, "run", "--turns", TURNS, path])
-            line = f"{name:8} cbi {seconds:6.2f} s {memory:5} MB status {status}"
-            if lua:
-                _, by_lua, lua_memory = measured([lua, "-e", LUA[name]])
-                line += f"   lua {by_lua:6.2f} s {lua_memory:5} MB   ratio {seconds / by_lua:5.2f}"
-            print(line, flush=True)
+            count = instructions([tool, "run", "--turns", TURNS, path])
+            if count is None:
+                sys.exit("there is no valgrind: Debian's package of that name has it")
+            counts.append(count)
+        print(f"{name:8} {(counts[1] - counts[0]) / more:7.1f} instructions", flush=True)
+
+
+def time_programs(tool: str, folder: str) -> None:
+    lua = shutil.which("lua5.4")
+    for name, text in PROGRAMS.items():
+        path = os.path.join(folder, name)
+        with open(path, "w") as file:
+            file.write(text)
+        status, seconds, memory = measured([tool, "run", "--turns", TURNS, path])
+        line = f"{name:8} cbi {seconds:6.2f} s {memory:5} MB status {status}"
+        if lua:
+            _, by_lua, lua_memory = measured([lua, "-e", LUA[name]])
+            line += f"   lua {by_lua:6.2f} s {lua_memory:5} MB   ratio {seconds / by_lua:5.2f}"
+        print(line, flush=True)
+
+
+def main() -> None:
+    words = sys.argv[1:]
+    counts = "--instructions" in words
+    words = [word for word in words if word != "--instructions"]
+    if len(words) != 1 or words[0].startswith("-"):
+        sys.exit(__doc__)
+    print(f"{os.cpu_count()} processors, {time.strftime('%Y-%m-%d')}")
+    with tempfile.TemporaryDirectory() as folder:
+        (count_instructions if counts else time_programs)(words[0], folder)
 
 
 if __name__ == "__main__":

@@ -1,9 +1,12 @@
 """Runs processes and measures them, for the scripts beside this file."""
 import hashlib
 import os
+import re
+import shutil
 import subprocess
+import tempfile
 import time
-from typing import Callable, List, NamedTuple, Sequence, Tuple
+from typing import Callable, List, NamedTuple, Optional, Sequence, Tuple
 
 
 class Timed(NamedTuple):
@@ -47,3 +50,17 @@ def compared(commands: Sequence[Tuple[str, List[str]]], out_path: str, tell: Cal
         else:
             print(it.said[-300:])
     print("  not compared" if len(digests) < len(commands) else "  the same bytes" if len(set(digests)) == 1 else "  OTHER BYTES")
+
+
+def instructions(command: Sequence[str]) -> Optional[int]:
+    """How many instructions a command takes, as callgrind counts them; None where there is no valgrind (Debian's `valgrind`)."""
+    valgrind = shutil.which("valgrind")
+    if not valgrind:
+        return None
+    with tempfile.TemporaryDirectory() as folder:
+        words = [valgrind, "--tool=callgrind", f"--callgrind-out-file={os.path.join(folder, 'counts')}", *command]
+        said = subprocess.run(words, stdin=subprocess.DEVNULL, stdout=subprocess.DEVNULL, stderr=subprocess.PIPE, check=False).stderr.decode("ascii", "replace")
+    found = re.search(r"Collected : (\d+)", said)
+    if not found:
+        raise SystemExit(f"callgrind counted nothing of {' '.join(command[:2])} ..: {said.strip()[-300:]}")
+    return int(found[1])

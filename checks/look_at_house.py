@@ -222,6 +222,12 @@ class House(unittest.TestCase):
         self.write("crates/top/src/low.rt", "ghost use Rattle.low.specs.Low.{IsDeep};\n\nfn deep()\n    ensures { IsDeep }\n{\n}\n")
         self.assertEqual(self.call("checks/house").stdout, "house: 0 new, 0 in all\n")
 
+    def test_a_definition_that_is_named_by_one_word_is_told(self) -> None:
+        self.write("crates/top/specs/Top.antt", TOP_SPEC + "\nabbrev pub left : List ℕ → List ℕ\nleft xs = left_over xs\n\nabbrev pub left_over : List ℕ → List ℕ\nleft_over xs =\n"
+                   + "    record { rest = left xs }\n\npub record IsLeft (xs : List ℕ) : Type 0 where\n  pub rest : IsWhole (left xs)\n"
+                   + "\nabbrev pub IsOver : Type 0\nIsOver = IsLeft [] × IsOver\n")
+        self.told("bare-word crates/top/specs/Top.antt:left: 1")
+
     def test_lemmas_that_say_the_same_are_told(self) -> None:
         self.write("crates/low/proofs/Low.antt", LOW_LEMMA)
         self.write("crates/top/proofs/Top.antt", TOP_LEMMA)
@@ -240,6 +246,11 @@ class House(unittest.TestCase):
         self.write("crates/top/specs/Top.antt", TOP_SPEC)
         self.write("crates/top/src/lib.rt", "ghost use Rattle.low.specs.Low.{IsDeep};\n" + TOP_SOURCE)
         self.told("unused-import top: 1")
+        # two signs in a string begin no comment
+        self.write("crates/top/src/lib.rt", TOP_SOURCE)
+        self.write("crates/top/specs/Top.antt", TOP_SPEC.replace("{IsDeep}", "{IsDeep, IsKept}")
+                   + "\nabbrev pub IsSaid : Type 0\nIsSaid = Says \"--turns\" × IsKept [] × IsSaid\n")
+        self.assertEqual(self.call("checks/house").stdout, "house: 0 new, 0 in all\n")
 
     def test_a_file_that_isnt_there_is_told_where_a_document_names_it(self) -> None:
         self.write("CONTRIBUTING.md", "`top/specs/Top.antt`, `specs/Low.antt`, `Top.antt`, `crates/low/src/lib.rt`\n")

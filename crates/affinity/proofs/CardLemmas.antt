@@ -3,7 +3,7 @@ use Rattle.std.proofs.Common.{◌≡◌, ℕ, suc, ◌+◌, ◌≤◌, Bool, Lis
 use Rattle.std.specs.Prelude.{All, map}
 use Rattle.std.proofs.lemmas.List.{append-nil}
 use Rattle.std.proofs.lemmas.List.Elements.{All-cons, All-nil}
-use Rattle.cbi_base.specs.Text.{ended, spaced, text_of}
+use Rattle.cbi_base.specs.Text.{line_with_newline, line_of_fields, text_of}
 use Rattle.cbi_base.specs.declared.policy.Policy.TheVariants.{All as Every}
 use Rattle.collector.specs.Sites.{branches_of}
 use Rattle.report_file.specs.declared.report.Report.{Report}
@@ -11,7 +11,7 @@ use Rattle.flow.specs.declared.site.TableParts.{TableParts}
 use Rattle.elimination_tallies.specs.declared.labelled.LabelledRun.{LabelledRun}
 use Rattle.elimination_tallies.specs.declared.listed.Listed.{Listed}
 use Rattle.elimination_tallies.specs.Recount.{recount}
-use Rattle.elimination.specs.Elimination.{IsElimination, after}
+use Rattle.elimination.specs.Elimination.{IsElimination, runs_after_leader}
 use Rattle.elimination.proofs.EliminationLemmas.{passes-positive}
 use Rattle.elimination.proofs.UniqueLemmas.{true-falls}
 use Rattle.affinity.specs.declared.dealing.Card.{Card}
@@ -25,15 +25,15 @@ listed-within branches all runs [] most is = All-nil (λ (row : Listed). IsListe
 listed-within branches all runs (row ∷ more) most is =
     All-cons (λ (x : Listed). IsListed branches all x.predicate) row more
     (record { is_one = is.0.leads.is_one; some = omega (arith, most row.predicate, passes-positive (recount branches runs row.predicate) is.0.leads.passes) })
-    (listed-within branches all (after branches Every row.predicate runs) more (λ p. omega (arith, most p, true-falls branches Every row.predicate p runs)) is.1)
+    (listed-within branches all (runs_after_leader branches Every row.predicate runs) more (λ p. omega (arith, most p, true-falls branches Every row.predicate p runs)) is.1)
 
 pub are-listed : (branches : List Bool) (runs : List LabelledRun) (rows : List Listed) → IsElimination branches Every runs rows → All (λ (row : Listed). IsListed branches runs row.predicate) rows
 are-listed branches runs rows is = listed-within branches runs runs rows (λ p. omega arith) is
 
 -- texts of lines, one behind another
-pub lines-append : (xs ys : List (List (List ℕ))) → text_of (map spaced (xs ++ ys)) ≡ text_of (map spaced xs) ++ text_of (map spaced ys)
+pub lines-append : (xs ys : List (List (List ℕ))) → text_of (map line_of_fields (xs ++ ys)) ≡ text_of (map line_of_fields xs) ++ text_of (map line_of_fields ys)
 lines-append [] ys = refl
-lines-append (x ∷ xs) ys = ap (λ t. ended (spaced x) ++ t) (lines-append xs ys) ∙ sym (append_assoc (ended (spaced x)) (text_of (map spaced xs)) (text_of (map spaced ys)))
+lines-append (x ∷ xs) ys = ap (λ t. line_with_newline (line_of_fields x) ++ t) (lines-append xs ys) ∙ sym (append_assoc (line_with_newline (line_of_fields x)) (text_of (map line_of_fields xs)) (text_of (map line_of_fields ys)))
 
 rows-more : (table : TableParts) (place : ℕ) (cards : List Card) (c : Card) (last : ℕ) → last ≡ place + length cards → cards_rows table place (cards ++ c ∷ []) ≡ cards_rows table place cards ++ card_rows table last c
 rows-more table place [] c last is = append-nil (card_rows table place c) ∙ ap (λ n. card_rows table n c) (omega (arith, is))
@@ -57,7 +57,7 @@ cards-many branches reports (y ∷ rows) (x ∷ cards) are = ap suc (cards-many 
 pub record DealtSoFar (table : TableParts) (reports : List Report) (rows : List Listed) (text : List ℕ) : Type 0 where
   pub cards : List Card
   pub are : AreCards (branches_of table.sites) reports rows cards
-  pub text_is : text ≡ text_of (map spaced (cards_rows table 1 cards))
+  pub text_is : text ≡ text_of (map line_of_fields (cards_rows table 1 cards))
 
 pub dealt-more : (table : TableParts) (reports : List Report) (rows more : List Listed) (row : Listed) (place : ℕ) (text new : List ℕ) → more ≡ rows ++ row ∷ [] → place ≡ length rows + 1 → DealtSoFar table reports rows text → IsCardDealt table reports place row.predicate text new
     → DealtSoFar table reports more new
@@ -68,6 +68,6 @@ dealt-more table reports rows more row place text new all last so_far dealt =
     subst (λ (rs : List Listed). DealtSoFar table reports rs new) (sym all) (record {
       cards = so_far.cards ++ c ∷ [];
       are = cards-more bs reports rows so_far.cards row c so_far.are dealt.is;
-      text_is = dealt.text_is ∙ ap (λ t. t ++ text_of (map spaced (card_rows table place c))) so_far.text_is ∙ sym (lines-append now (card_rows table place c))
-          ∙ ap (λ (ls : List (List (List ℕ))). text_of (map spaced ls)) (sym (rows-more table 1 so_far.cards c place (omega (arith, last, cards-many bs reports rows so_far.cards so_far.are))));
+      text_is = dealt.text_is ∙ ap (λ t. t ++ text_of (map line_of_fields (card_rows table place c))) so_far.text_is ∙ sym (lines-append now (card_rows table place c))
+          ∙ ap (λ (ls : List (List (List ℕ))). text_of (map line_of_fields ls)) (sym (rows-more table 1 so_far.cards c place (omega (arith, last, cards-many bs reports rows so_far.cards so_far.are))));
     })

@@ -6,7 +6,7 @@ use Rattle.std.proofs.lemmas.List.Elements.{All-cons, All-filter, All-map, All-n
 use Rattle.std.proofs.lemmas.List.Sums.{sum_by-cons}
 use Rattle.report_file.specs.declared.report.Report.{Report}
 use Rattle.elimination_tallies.specs.declared.labelled.LabelledRun.{LabelledRun}
-use Rattle.elimination_tallies.specs.Recount.{fails, is_true, labelled, recount, runs_of}
+use Rattle.elimination_tallies.specs.Recount.{is_failing, is_true, run_of_report, recount, runs_of}
 use Rattle.elimination_tallies.specs.Runs.{reports_after}
 use Rattle.affinity.specs.Cards.{IsLeastOf, failing_true, is_failing_true}
 
@@ -23,7 +23,7 @@ failing-many branches [] p = refl
 failing-many branches (r ∷ more) p =
     omega (
       arith,
-      sum_by-cons (λ (x : LabelledRun). cond (fails x.label && is_true branches p x) 1 0) (labelled r) (runs_of more),
+      sum_by-cons (λ (x : LabelledRun). cond (is_failing x.label && is_true branches p x) 1 0) (run_of_report r) (runs_of more),
       numbers-by r (filter (is_failing_true branches p) more) (is_failing_true branches p r),
       failing-many branches more p,
     )

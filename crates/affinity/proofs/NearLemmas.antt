@@ -14,7 +14,7 @@ use Rattle.elimination_tallies.specs.Predicates.{predicates_in}
 use Rattle.elimination_tallies.specs.Recount.{failing_runs, is_true}
 use Rattle.elimination_tallies.specs.Tallies.{AreRecounts, Tallies}
 use Rattle.elimination_tallies.proofs.RecountLemmas.{fails-most, recounts-numbers, recounts-scanned}
-use Rattle.elimination.specs.Elimination.{IsElimination, after}
+use Rattle.elimination.specs.Elimination.{IsElimination, runs_after_leader}
 use Rattle.affinity.specs.declared.neighbour.Neighbour.{Neighbour}
 use Rattle.affinity.specs.declared.remaining.Remaining.{Remaining}
 use Rattle.affinity.specs.Falls.{IsFall, IsWorth, Scores, scores_over, share_of}
@@ -61,21 +61,21 @@ near-same count p whole left other rest rows same left_same near =
 pub near-recounts : (branches : List Bool) (runs : List LabelledRun) (p : ℕ) (whole : Tallies) (left : Remaining) (rows : List Neighbour) → AreRecounts branches runs whole → IsWithout branches runs p left
     → AreNearBy (predicates_in whole.branches) p (scores_by whole left.all) (scores_by left.numbers left.failing) rows → AreNear branches runs p rows
 near-recounts branches runs p whole left rows recounts without near =
-    let rest = after branches Every p runs in
+    let rest = runs_after_leader branches Every p runs in
     near-same (predicates_in branches) p (scores_by whole left.all) (scores_by left.numbers left.failing) (scores_over branches runs) (scores_over branches rest) rows
     (λ q less. record { numbers = recounts-numbers branches runs whole q recounts less; failing = without.all })
     (λ q less. record { numbers = recounts-numbers branches rest left.numbers q without.recounts less; failing = without.failing })
     (subst (λ (bs : List Bool). AreNearBy (predicates_in bs) p (scores_by whole left.all) (scores_by left.numbers left.failing) rows) recounts.branches_are near)
 
 -- no more runs are left
-pub left-few : (branches : List Bool) (p : ℕ) (runs : List LabelledRun) → length (after branches Every p runs) ≤ length runs
+pub left-few : (branches : List Bool) (p : ℕ) (runs : List LabelledRun) → length (runs_after_leader branches Every p runs) ≤ length runs
 left-few branches p runs =
     let keeps : LabelledRun → Bool = λ r. not (is_true branches p r) in
     omega (arith, length-filter keeps runs, count_by-le-length keeps runs)
 
 pub comparable : (branches : List Bool) (runs : List LabelledRun) (p : ℕ) (whole : Tallies) (left : Remaining) → length runs ≤ 100000 → AreRecounts branches runs whole → IsWithout branches runs p left → AreComparable whole left
 comparable branches runs p whole left few recounts without =
-    let rest = after branches Every p runs in
+    let rest = runs_after_leader branches Every p runs in
     let few_left : length rest ≤ 100000 = omega (arith, few, left-few branches p runs) in record {
       same_branches = without.recounts.branches_are ∙ sym recounts.branches_are;
       whole_scanned = recounts-scanned branches runs whole left.all recounts few without.all;
@@ -87,10 +87,10 @@ comparable branches runs p whole left few recounts without =
 -- laws
 pub none-itself : (branches : List Bool) (runs : List LabelledRun) (p : ℕ) (rows : List Neighbour) → AreNear branches runs p rows → All (λ (n : Neighbour). n.predicate ≢ p) rows
 none-itself branches runs p rows near =
-    All-weaker (IsNeighbour (predicates_in branches) p (scores_over branches runs) (scores_over branches (after branches Every p runs))) (λ (n : Neighbour). n.predicate ≢ p) (λ n is. is.0.other) rows near.each
+    All-weaker (IsNeighbour (predicates_in branches) p (scores_over branches runs) (scores_over branches (runs_after_leader branches Every p runs))) (λ (n : Neighbour). n.predicate ≢ p) (λ n is. is.0.other) rows near.each
 
 pub one-near : (branches : List Bool) (runs : List LabelledRun) (p : ℕ) (one other : List Neighbour) → AreNear branches runs p one → AreNear branches runs p other → one ≡ other
-one-near branches runs p one other a b = one-first 5 (IsNeighbour (predicates_in branches) p (scores_over branches runs) (scores_over branches (after branches Every p runs))) one other a b
+one-near branches runs p one other a b = one-first 5 (IsNeighbour (predicates_in branches) p (scores_over branches runs) (scores_over branches (runs_after_leader branches Every p runs))) one other a b
 
 leader-share : (branches : List Bool) (runs : List LabelledRun) (row : Listed) → IsLeader branches runs row → share_of (scores_over branches runs) row.predicate ≡ millionths_of (importance_of row.tally row.failing)
 leader-share branches runs row leads =
@@ -98,7 +98,7 @@ leader-share branches runs row leads =
 
 pub second-round : (branches : List Bool) (runs : List LabelledRun) (first second : Listed) (more : List Listed) → IsElimination branches Every runs (first ∷ second ∷ more) → IsSecondRound branches runs first second
 second-round branches runs first second more is =
-    let rest = after branches Every first.predicate runs in record {
+    let rest = runs_after_leader branches Every first.predicate runs in record {
       before = leader-share branches runs first is.0;
       rest = record { passing = λ _. sym (leader-share branches rest second is.1.0); otherwise = λ none. absurd (none is.1.0.leads.passes) };
     }

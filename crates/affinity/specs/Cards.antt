@@ -2,13 +2,13 @@
 use Rattle.std.specs.Prelude.{◌≡◌, ℕ, ◌≤◌, Bool, ◌&&◌, List, [], ◌∷◌, map, filter, All, Contains}
 use Rattle.report_file.specs.declared.report.Report.{Report}
 use Rattle.elimination_tallies.specs.declared.listed.Listed.{Listed}
-use Rattle.elimination_tallies.specs.Recount.{fails, is_true, labelled, recount, runs_of}
+use Rattle.elimination_tallies.specs.Recount.{is_failing, is_true, run_of_report, recount, runs_of}
 use Rattle.affinity.specs.declared.dealing.Card.{Card}
 use Rattle.affinity.specs.Near.{AreNear}
 
 -- whether it is the report of a failing run in which the predicate was true
 abbrev pub is_failing_true : List Bool → ℕ → Report → Bool
-is_failing_true branches p r = fails r.label && is_true branches p (labelled r)
+is_failing_true branches p r = is_failing r.label && is_true branches p (run_of_report r)
 
 -- the numbers of the failing runs in which the predicate was true
 abbrev pub failing_true : List Bool → List Report → ℕ → List ℕ

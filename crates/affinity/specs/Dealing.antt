@@ -1,6 +1,6 @@
 -- Cards written one behind another.
 use Rattle.std.specs.Prelude.{◌≡◌, ℕ, ◌<◌, Bool, List, ◌++◌, map}
-use Rattle.cbi_base.specs.Text.{spaced, text_of}
+use Rattle.cbi_base.specs.Text.{line_of_fields, text_of}
 use Rattle.collector.specs.Sites.{branches_of}
 use Rattle.report_file.specs.declared.report.Report.{Report}
 use Rattle.flow.specs.declared.site.TableParts.{TableParts}
@@ -21,7 +21,7 @@ pub record IsListed (branches : List Bool) (runs : List LabelledRun) (p : ℕ) :
 pub record IsCardDealt (table : TableParts) (reports : List Report) (place p : ℕ) (before now : List ℕ) : Type 0 where
   pub card : Card
   pub is : IsCard (branches_of table.sites) reports p card
-  pub text_is : now ≡ before ++ text_of (map spaced (card_rows table place card))
+  pub text_is : now ≡ before ++ text_of (map line_of_fields (card_rows table place card))
 
 -- the text is that of a card for each of these rows
 pub record HaveCards (table : TableParts) (reports : List Report) (rows : List Listed) (text : List ℕ) : Type 0 where

@@ -5,7 +5,7 @@ use Rattle.elimination_tallies.specs.declared.labelled.LabelledRun.{LabelledRun}
 use Rattle.elimination_tallies.specs.Recount.{failing_runs}
 use Rattle.elimination_tallies.specs.Scanning.{AreScanned, tally_at}
 use Rattle.elimination_tallies.specs.Tallies.{AreRecounts, Tallies}
-use Rattle.elimination.specs.Elimination.{after}
+use Rattle.elimination.specs.Elimination.{runs_after_leader}
 use Rattle.affinity.specs.declared.remaining.Remaining.{Remaining}
 use Rattle.affinity.specs.Falls.{Scores}
 
@@ -15,8 +15,8 @@ scores_by t failing = record { numbers = tally_at t.tallies; failing = failing }
 
 -- the numbers over the runs in which p wasn't true, how many of these fail, and how many of all
 pub record IsWithout (branches : List Bool) (runs : List LabelledRun) (p : ℕ) (w : Remaining) : Type 0 where
-  pub recounts : AreRecounts branches (after branches Every p runs) w.numbers
-  pub failing : w.failing ≡ failing_runs (after branches Every p runs)
+  pub recounts : AreRecounts branches (runs_after_leader branches Every p runs) w.numbers
+  pub failing : w.failing ≡ failing_runs (runs_after_leader branches Every p runs)
   pub all : w.all ≡ failing_runs runs
 
 -- what a comparison relies on

@@ -5,7 +5,7 @@ use Rattle.fractions.specs.Fraction.{millionths_of}
 use Rattle.fractions.specs.Tally.{importance_of}
 use Rattle.elimination_tallies.specs.declared.labelled.LabelledRun.{LabelledRun}
 use Rattle.elimination_tallies.specs.declared.listed.Listed.{Listed}
-use Rattle.elimination.specs.Elimination.{IsElimination, after}
+use Rattle.elimination.specs.Elimination.{IsElimination, runs_after_leader}
 use Rattle.affinity.specs.declared.neighbour.Neighbour.{Neighbour}
 use Rattle.affinity.specs.Falls.{IsWorth, scores_over, share_of}
 use Rattle.affinity.specs.Near.{AreNear}
@@ -23,7 +23,7 @@ OneNear = (branches : List Bool) (runs : List LabelledRun) (p : ℕ) (one other 
 -- leader there
 pub record IsSecondRound (branches : List Bool) (runs : List LabelledRun) (first second : Listed) : Type 0 where
   pub before : share_of (scores_over branches runs) first.predicate ≡ millionths_of (importance_of first.tally first.failing)
-  pub rest : IsWorth (scores_over branches (after branches Every first.predicate runs)) second.predicate
+  pub rest : IsWorth (scores_over branches (runs_after_leader branches Every first.predicate runs)) second.predicate
       (millionths_of (importance_of second.tally second.failing))
 
 abbrev pub RoundsAreCompared : Type 0

@@ -3,7 +3,7 @@ use Rattle.std.specs.Prelude.{◌≡◌, ℕ, ◌<◌, ◌≤◌, ◌⊎◌, Boo
 use Rattle.cbi_base.specs.declared.policy.Policy.TheVariants.{All as Every}
 use Rattle.elimination_tallies.specs.declared.labelled.LabelledRun.{LabelledRun}
 use Rattle.elimination_tallies.specs.Predicates.{predicates_in}
-use Rattle.elimination.specs.Elimination.{after}
+use Rattle.elimination.specs.Elimination.{runs_after_leader}
 use Rattle.affinity.specs.declared.neighbour.Neighbour.{Neighbour}
 use Rattle.affinity.specs.Falls.{IsFall, Scores, scores_over}
 
@@ -32,4 +32,5 @@ AreNearBy count p whole left rows = AreFirst 5 (IsNeighbour count p whole left) 
 
 -- those near p over runs: what is left are the runs in which p wasn't true
 abbrev pub AreNear : List Bool → List LabelledRun → ℕ → List Neighbour → Type 0
-AreNear branches runs p rows = AreNearBy (predicates_in branches) p (scores_over branches runs) (scores_over branches (after branches Every p runs)) rows
+AreNear branches runs p rows =
+    AreNearBy (predicates_in branches) p (scores_over branches runs) (scores_over branches (runs_after_leader branches Every p runs)) rows

@@ -1,6 +1,6 @@
 -- The text of cards: of each its place from 1 and where its predicate stands, its runs, and a line for each predicate near it; then an end.
 use Rattle.std.specs.Prelude.{◌≡◌, ℕ, ◌+◌, ◌<◌, List, [], ◌∷◌, ◌++◌, map, codes, decimal, Option, None, Some, slice_index_or, All}
-use Rattle.cbi_base.specs.Text.{spaced, text_of}
+use Rattle.cbi_base.specs.Text.{line_of_fields, text_of}
 use Rattle.cbi_base.specs.declared.policy.Policy.TheVariants.{All as Every}
 use Rattle.collector.specs.Sites.{branches_of}
 use Rattle.report_file.specs.declared.report.Report.{Report}
@@ -37,7 +37,7 @@ cards_rows table place [] = []
 cards_rows table place (c ∷ more) = card_rows table place c ++ cards_rows table (place + 1) more
 
 abbrev pub cards_text : TableParts → List Card → List ℕ
-cards_text table cards = text_of (map spaced (cards_rows table 1 cards ++ (codes "end" ∷ []) ∷ []))
+cards_text table cards = text_of (map line_of_fields (cards_rows table 1 cards ++ (codes "end" ∷ []) ∷ []))
 
 -- the text of the cards of all leaders of the runs, where each leader's runs are discarded
 pub record AreCardsOf (table : TableParts) (reports : List Report) (text : List ℕ) : Type 0 where

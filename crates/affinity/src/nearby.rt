@@ -1,7 +1,6 @@
 ghost use Rattle.std.specs.Prelude.{◌≡◌, ◌<◌, IfOk};
 ghost use Rattle.collector.specs.Sites.{branches_of};
 ghost use Rattle.flow.specs.Predicates.{predicate_count};
-ghost use Rattle.elimination_tallies.specs.Predicates.{predicates_in};
 ghost use Rattle.elimination_tallies.specs.Recount.{runs_of};
 ghost use Rattle.elimination_tallies.specs.Tallies.{AreRecounts};
 ghost use Rattle.affinity.specs.Near.{AreNear};

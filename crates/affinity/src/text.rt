@@ -1,5 +1,5 @@
 ghost use Rattle.std.specs.Prelude.{◌≡◌, ◌<◌, ◌++◌, ◌∷◌, decimal, map, All, OnOk};
-ghost use Rattle.cbi_base.specs.Text.{ended, spaced, text_of};
+ghost use Rattle.cbi_base.specs.Text.{line_with_newline, line_of_fields, text_of};
 ghost use Rattle.flow.specs.Predicates.{predicate_count};
 ghost use Rattle.affinity.specs.declared.neighbour.Neighbour.{Neighbour};
 ghost use Rattle.affinity.specs.Text.{HasText, card_head, card_rows, near_fields, truth_fields};
@@ -36,7 +36,7 @@ fn push_head(
     predicate: u32,
 ) -> Result<(), Memory>
     requires { predicate < predicate_count table.now.sites }
-    ensures { OnOk result (out.new.items ≡ out.old.items ++ ended (spaced (card_head table.now place predicate))) }
+    ensures { OnOk result (out.new.items ≡ out.old.items ++ line_with_newline (line_of_fields (card_head table.now place predicate))) }
 {
     let functions = table.functions();
     let site = predicate_site(table, predicate).0;
@@ -53,7 +53,7 @@ fn push_head(
 
 // The line of its runs.
 fn push_truth(out: &mut Vec<u8>, card: &Card) -> Result<(), Memory>
-    ensures { OnOk result (out.new.items ≡ out.old.items ++ ended (spaced (truth_fields card.now))) }
+    ensures { OnOk result (out.new.items ≡ out.old.items ++ line_with_newline (line_of_fields (truth_fields card.now))) }
 {
     out.extend_from_slice(b"truth")?;
     push_number(out, u64::from(card.failing))?;
@@ -72,7 +72,7 @@ fn push_near(
     near: Neighbour,
 ) -> Result<(), Memory>
     requires { near.predicate < predicate_count table.now.sites }
-    ensures { OnOk result (out.new.items ≡ out.old.items ++ ended (spaced (near_fields table.now near))) }
+    ensures { OnOk result (out.new.items ≡ out.old.items ++ line_with_newline (line_of_fields (near_fields table.now near))) }
 {
     let text = predicate_name(alloc, table, near.predicate)?;
     out.extend_from_slice(b"near")?;
@@ -91,7 +91,7 @@ fn push_all_near(
     near: &[Neighbour],
 ) -> Result<(), Memory>
     requires { All (λ (n : Neighbour). n.predicate < predicate_count table.now.sites) near.now }
-    ensures { OnOk result (out.new.items ≡ out.old.items ++ text_of (map spaced (map (near_fields table.now) near.now))) }
+    ensures { OnOk result (out.new.items ≡ out.old.items ++ text_of (map line_of_fields (map (near_fields table.now) near.now))) }
 {
     for one in near {
         push_near(alloc, out, table, *one)?;
@@ -108,7 +108,7 @@ pub fn push_card(
     card: &Card,
 ) -> Result<(), Memory>
     requires { HasText table.now card.now }
-    ensures { OnOk result (out.new.items ≡ out.old.items ++ text_of (map spaced (card_rows table.now place card.now))) }
+    ensures { OnOk result (out.new.items ≡ out.old.items ++ text_of (map line_of_fields (card_rows table.now place card.now))) }
 {
     push_head(alloc, out, table, place, card.predicate)?;
     push_truth(out, card)?;

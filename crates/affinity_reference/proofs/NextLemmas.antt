@@ -1,7 +1,7 @@
 -- The first so many of a kind, one after another.
 use Rattle.std.proofs.Common.{◌≡◌, ℕ, ◌+◌, ◌<◌, ◌≤◌, inl, inr, Bool, true, false, cond, List, [], ◌∷◌, ◌++◌, length, Option, None, Some, refl, sym, subst, ◌∙◌, arith}
 use Rattle.std.specs.Prelude.{All, Contains, nat_lt}
-use Rattle.std.proofs.lemmas.Bool.{cases_lt, false≢true, le-ltb, lt-ltb}
+use Rattle.std.proofs.lemmas.Bool.{cases_lt, false≢true}
 use Rattle.std.proofs.lemmas.List.{length_push}
 use Rattle.std.proofs.lemmas.List.Elements.{All-head, All-nil, All-push, All-tail, Contains-append_left, Contains-push}
 use Rattle.base_lists.proofs.Numbers.{is_less, not_less}
@@ -9,7 +9,7 @@ use Rattle.affinity.specs.declared.neighbour.Neighbour.{Neighbour}
 use Rattle.cbi_base.specs.declared.policy.Policy.TheVariants.{All as Every}
 use Rattle.elimination_tallies.specs.declared.labelled.LabelledRun.{LabelledRun}
 use Rattle.elimination_tallies.specs.Predicates.{predicates_in}
-use Rattle.elimination.specs.Elimination.{after}
+use Rattle.elimination.specs.Elimination.{runs_after_leader}
 use Rattle.affinity.specs.Falls.{IsFall, Scores, scores_over}
 use Rattle.affinity.specs.Near.{AreFirst, AreInOrder, AreNear, AreNearBy, IsNeighbour, StandsBefore}
 use Rattle.affinity.proofs.FallLemmas.{IsSeen, seen-one}
@@ -67,7 +67,7 @@ by-test S T rows b n one is so_far true less = (
     | inl same ↦ inl same
     | inr was ↦
         let before : StandsBefore n b = inl (is_less b.fall n.fall less) in
-        elim (so_far.1 m (record { is = was; behind = other.behind })) [ inl same ↦ inr (subst (StandsBefore n) (sym same) before) | inr after ↦ inr (before-trans n b m before after) ]
+        elim (so_far.1 m (record { is = was; behind = other.behind })) [ inl same ↦ inr (subst (StandsBefore n) (sym same) before) | inr runs_after_leader ↦ inr (before-trans n b m before runs_after_leader) ]
   ],
 )
 by-test S T rows b n one is so_far false less = (
@@ -113,7 +113,7 @@ pub seen-ended : (count p : ℕ) (whole left : Scores) (k : ℕ) (rows : List Ne
 seen-ended count p whole left k rows best all so_far =
     next-same (IsSeen count p whole left k) (IsNeighbour count p whole left) rows best (λ m seen. seen.0) (λ m other. (other.is, omega (arith, other.is.0.is_one, all))) so_far
 
-pub near-is : (bs branches : List Bool) (xs runs left : List LabelledRun) (p : ℕ) (rows : List Neighbour) → bs ≡ branches → xs ≡ runs → left ≡ after branches Every p runs → AreNearBy (predicates_in bs) p (scores_over bs xs) (scores_over bs left) rows → AreNear branches runs p rows
+pub near-is : (bs branches : List Bool) (xs runs left : List LabelledRun) (p : ℕ) (rows : List Neighbour) → bs ≡ branches → xs ≡ runs → left ≡ runs_after_leader branches Every p runs → AreNearBy (predicates_in bs) p (scores_over bs xs) (scores_over bs left) rows → AreNear branches runs p rows
 near-is bs branches xs runs left p rows b x l near =
     subst (λ (ys : List LabelledRun). AreNearBy (predicates_in branches) p (scores_over branches runs) (scores_over branches ys) rows) l
     (subst (λ (rs : List LabelledRun). AreNearBy (predicates_in branches) p (scores_over branches rs) (scores_over branches left) rows) x

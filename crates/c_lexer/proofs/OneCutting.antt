@@ -8,8 +8,8 @@ use Rattle.c_lexer.specs.declared.error.LexError.TheVariants as error
 use Rattle.c_lexer_pieces.specs.Cutting.{piece_at, is_fresh}
 use Rattle.c_lexer_pieces.specs.Piece.{Piece}
 use Rattle.c_lexer_pieces.specs.Pieces.{Place}
-use Rattle.c_lexer.specs.Lexing.{IsLongest, NothingStands, Taken, Cuts, past_piece, place_after, line_of, tokens_from, start, Lexes, CutStops}
-use Rattle.c_lexer.specs.Refusals.{Says, can_begin, lexed_answer, refusal_for}
+use Rattle.c_lexer.specs.Lexing.{IsLongest, NothingStands, Taken, Cuts, past_piece, place_after, line_of, tokens_from, text_start, Lexes, CutStops}
+use Rattle.c_lexer.specs.Refusals.{LexAnswerHolds, can_begin, lexed_answer, refusal_for}
 use Rattle.c_lexer.specs.Endings.{Ending, Whole, Stopped, CutEnds}
 use Rattle.c_syntax.specs.Limits.{most_tokens}
 use Rattle.c_lexer.proofs.PieceLaws.{longest-is, nothing-at-end}
@@ -50,23 +50,23 @@ one-cutting place left (t ∷ ts) (u ∷ us) a b x y p q =
 
 pub one-ending : (text : List ℕ) (a b : Ending) → CutEnds text a → CutEnds text b → a ≡ b
 one-ending text (Whole xs) (Whole ys) x y =
-    let same = one-cutting start text x.pieces y.pieces [] [] x.cut y.cut (nothing-at-end (place_after start x.pieces)) (nothing-at-end (place_after start y.pieces)) in
-    ap Whole (x.are ∙ ap (tokens_from start) same.pieces ∙ sym y.are)
+    let same = one-cutting text_start text x.pieces y.pieces [] [] x.cut y.cut (nothing-at-end (place_after text_start x.pieces)) (nothing-at-end (place_after text_start y.pieces)) in
+    ap Whole (x.are ∙ ap (tokens_from text_start) same.pieces ∙ sym y.are)
 one-ending text (Whole xs) (Stopped line byte) x y =
-    let same = one-cutting start text x.pieces y.pieces [] (byte ∷ y.rest) x.cut y.cut (nothing-at-end (place_after start x.pieces)) y.stuck in
+    let same = one-cutting text_start text x.pieces y.pieces [] (byte ∷ y.rest) x.cut y.cut (nothing-at-end (place_after text_start x.pieces)) y.stuck in
     absurd (let e : [] ≡ byte ∷ y.rest = same.rest in cc)
 one-ending text (Stopped line byte) (Whole ys) x y =
-    let same = one-cutting start text x.pieces y.pieces (byte ∷ x.rest) [] x.cut y.cut x.stuck (nothing-at-end (place_after start y.pieces)) in
+    let same = one-cutting text_start text x.pieces y.pieces (byte ∷ x.rest) [] x.cut y.cut x.stuck (nothing-at-end (place_after text_start y.pieces)) in
     absurd (let e : byte ∷ x.rest ≡ [] = same.rest in cc)
 one-ending text (Stopped line byte) (Stopped line' byte') x y =
-    let same = one-cutting start text x.pieces y.pieces (byte ∷ x.rest) (byte' ∷ y.rest) x.cut y.cut x.stuck y.stuck in
+    let same = one-cutting text_start text x.pieces y.pieces (byte ∷ x.rest) (byte' ∷ y.rest) x.cut y.cut x.stuck y.stuck in
     let bytes : byte ∷ x.rest ≡ byte' ∷ y.rest = same.rest in
     let byte_is : byte ≡ byte' = cc in
-    let line_is : line ≡ line' = x.line_is ∙ ap (λ ts. line_of (place_after start ts)) same.pieces ∙ sym y.line_is in
+    let line_is : line ≡ line' = x.line_is ∙ ap (λ ts. line_of (place_after text_start ts)) same.pieces ∙ sym y.line_is in
     λ i. Stopped (line_is i) (byte_is i)
 
 -- What is said of a text, where it lexes.
-pub says-lexed : (text : List ℕ) (r : Result (List Token) LexError) (tokens : List Token) → Says text r → Lexes text tokens → (r ≡ lexed_answer tokens) ⊎ (r ≡ Err error.Memory)
+pub says-lexed : (text : List ℕ) (r : Result (List Token) LexError) (tokens : List Token) → LexAnswerHolds text r → Lexes text tokens → (r ≡ lexed_answer tokens) ⊎ (r ≡ Err error.Memory)
 says-lexed text (Ok ts) tokens says lexes =
     let e : Whole ts ≡ Whole tokens = one-ending text (Whole ts) (Whole tokens) says.0 lexes in
     let same : ts ≡ tokens = cc in
@@ -88,7 +88,7 @@ stopped-same : (text : List ℕ) (line byte line' byte' : ℕ) → CutStops text
 stopped-same text line byte line' byte' x y = one-ending text (Stopped line byte) (Stopped line' byte') x y
 
 -- What is said of a text, where its cutting stops.
-pub says-stopped : (text : List ℕ) (r : Result (List Token) LexError) (line byte : ℕ) → Says text r → CutStops text line byte → (r ≡ Err (refusal_for line byte)) ⊎ (r ≡ Err error.Memory)
+pub says-stopped : (text : List ℕ) (r : Result (List Token) LexError) (line byte : ℕ) → LexAnswerHolds text r → CutStops text line byte → (r ≡ Err (refusal_for line byte)) ⊎ (r ≡ Err error.Memory)
 says-stopped text (Ok ts) line byte says stops = absurd (let e = one-ending text (Whole ts) (Stopped line byte) says.0 stops in cc)
 says-stopped text (Err (error.BadByte l)) line byte says stops =
     let e = stopped-same text l says.byte line byte says.stops stops in

@@ -13,12 +13,12 @@ use Rattle.c_syntax.specs.declared.token.Word.{Word}
 use Rattle.c_syntax.specs.declared.parts.Constant.{Constant}
 use Rattle.c_syntax.specs.Words.{IsAtLeastChar, IsOfBytes, IsTokens, KindFits, NameFits, lines_of, text_len, greatest_line, most_bytes, most_tokens}
 use Rattle.c_lexer.specs.declared.lexer.Lexer.{Lexer}
-use Rattle.c_lexer_pieces.specs.Piece.{Piece, Nothing, Name, Constant', Text, Punctuator, Definition, Known}
+use Rattle.c_lexer_pieces.specs.Piece.{Piece, Name, Definition, Known}
 use Rattle.c_lexer_pieces.specs.Found.{known_by}
 use Rattle.c_lexer_pieces.specs.Spellings.{word_of}
 use Rattle.c_lexer.specs.Lexing.{kind_at, known_after, name_kind, word_kind, with_line}
 use Rattle.c_lexer_pieces.specs.Bytes.{newlines}
-use Rattle.c_lexer.specs.State.{Roomy, Advances, between, AllFit, TokenFits}
+use Rattle.c_lexer.specs.State.{Roomy, Advances, bytes_between, AllFit, TokenFits}
 use Rattle.c_lexer_pieces.specs.PieceFacts.{PieceFits, Fits}
 use Rattle.c_lexer_pieces.proofs.Fronts.{ReadsPiece, piece_len}
 
@@ -43,9 +43,9 @@ pub line-kept : (line : ℕ) (kind : Option TokenKind) → All (λ x. x ≤ line
 line-kept line None = All-nil (λ x. x ≤ line)
 line-kept line (Some k) = All-cons (λ x. x ≤ line) line [] (omega arith) (All-nil (λ x. x ≤ line))
 
-newlines-le : (left rest : List ℕ) → length rest ≤ length left → newlines (between left rest) + length rest ≤ length left
+newlines-le : (left rest : List ℕ) → length rest ≤ length left → newlines (bytes_between left rest) + length rest ≤ length left
 newlines-le left rest h =
-    omega (arith, count_by-le-length (λ b. eqb b 10) (between left rest), length-take (length left - length rest) left)
+    omega (arith, count_by-le-length (λ b. eqb b 10) (bytes_between left rest), length-take (length left - length rest) left)
 
 -- each of some, and one more
 all-push : {A B : Type 0} (P : B → Type 0) (f : A → B) (ts : List A) (t : A) → All P (map f ts) → P (f t) → All P (map f (ts ++ t ∷ []))

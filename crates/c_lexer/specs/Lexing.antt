@@ -73,14 +73,14 @@ tokens_from place [] = []
 tokens_from place (t ∷ ts) = with_line (line_of place) (kind_at place.known t.piece) ++ tokens_from (past_piece place t) ts
 
 -- the start of a text, where no name is defined
-abbrev pub start : Place
-start = record { before = []; known = λ name. None }
+abbrev pub text_start : Place
+text_start = record { before = []; known = λ name. None }
 
 -- The text is cut into the longest pieces to its end, and these are its tokens.
 pub record Lexes (text : List ℕ) (tokens : List Token) : Type 0 where
   pub pieces : List Taken
-  pub cut : Cuts start text pieces []
-  pub are : tokens ≡ tokens_from start pieces
+  pub cut : Cuts text_start text pieces []
+  pub are : tokens ≡ tokens_from text_start pieces
 
 -- Nothing stands here.
 abbrev pub NothingStands : Place → List ℕ → Type 0
@@ -90,6 +90,6 @@ NothingStands place left = (bytes after : List ℕ) (piece : Piece) → left ≡
 pub record CutStops (text : List ℕ) (line byte : ℕ) : Type 0 where
   pub pieces : List Taken
   pub rest : List ℕ
-  pub cut : Cuts start text pieces (byte ∷ rest)
-  pub stuck : NothingStands (place_after start pieces) (byte ∷ rest)
-  pub line_is : line ≡ line_of (place_after start pieces)
+  pub cut : Cuts text_start text pieces (byte ∷ rest)
+  pub stuck : NothingStands (place_after text_start pieces) (byte ∷ rest)
+  pub line_is : line ≡ line_of (place_after text_start pieces)

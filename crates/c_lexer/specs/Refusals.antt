@@ -44,6 +44,6 @@ ErrorSays text error.TooLarge = HasMany text
 ErrorSays text error.Memory = Unit {0}
 
 -- what an answer says of a text that isn't too long
-abbrev pub Says : List ℕ → Result (List Token) LexError → Type 0
-Says text (Ok tokens) = Lexes text tokens × (length tokens ≤ most_tokens)
-Says text (Err e) = ErrorSays text e
+abbrev pub LexAnswerHolds : List ℕ → Result (List Token) LexError → Type 0
+LexAnswerHolds text (Ok tokens) = Lexes text tokens × (length tokens ≤ most_tokens)
+LexAnswerHolds text (Err e) = ErrorSays text e

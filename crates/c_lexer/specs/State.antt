@@ -16,8 +16,8 @@ use Rattle.c_lexer.specs.Refusals.{refusal_for}
 use Rattle.c_lexer.specs.Lexing.{kind_at, known_after, with_line}
 
 -- the bytes between a place and one after it
-abbrev pub between : List ℕ → List ℕ → List ℕ
-between left rest = take (length left - length rest) left
+abbrev pub bytes_between : List ℕ → List ℕ → List ℕ
+bytes_between left rest = take (length left - length rest) left
 
 -- The constants that names stand for fit.
 abbrev pub AllFit : Known → Type 0
@@ -44,8 +44,8 @@ kept_with count tokens more = if nat_lt count most_tokens then tokens ++ more el
 pub record Advances (old new : Lexer) : Type 0 where
   pub piece : Piece
   pub found : piece_at old.fresh (known_by old.defined) old.left.now ≡ Some (piece, new.left.now)
-  pub fresh : new.fresh ≡ fresh_from old.fresh (between old.left.now new.left.now)
-  pub line : new.line ≡ old.line + newlines (between old.left.now new.left.now)
+  pub fresh : new.fresh ≡ fresh_from old.fresh (bytes_between old.left.now new.left.now)
+  pub line : new.line ≡ old.line + newlines (bytes_between old.left.now new.left.now)
   pub known : (name : List ℕ) → known_by new.defined name ≡ known_after (known_by old.defined) piece name
   pub count : new.count ≡ old.count + length (with_line old.line (kind_at (known_by old.defined) piece))
   pub tokens : new.tokens ≡ kept_with old.count old.tokens (with_line old.line (kind_at (known_by old.defined) piece))

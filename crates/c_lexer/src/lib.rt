@@ -5,7 +5,7 @@ ghost use Rattle.std.specs.Prelude.{◌≡◌, true, false, ◌≤◌, ◌<◌, 
 ghost use Rattle.c_syntax.specs.declared.token.Token.{Token};
 ghost use Rattle.c_syntax.specs.Limits.{most_bytes};
 ghost use Rattle.c_lexer.specs.Lexing.{CutStops, Lexes};
-ghost use Rattle.c_lexer.specs.Refusals.{Says, CuttingStops, IsTooLarge, lexed_answer, refusal_for};
+ghost use Rattle.c_lexer.specs.Refusals.{LexAnswerHolds, CuttingStops, IsTooLarge, lexed_answer, refusal_for};
 ghost use Rattle.c_lexer.specs.Endings.{CutEnds, Ending};
 
 mod error;
@@ -22,7 +22,7 @@ const LONGEST_TEXT: usize = 1_048_576;
 /// The tokens of a text of at most 1,048,576 bytes.
 fn lex_all(alloc: Global, text: &[u8]) -> Result<Tokens, LexError>
     requires { length text.now ≤ most_bytes }
-    ensures { Says text.now result }
+    ensures { LexAnswerHolds text.now result }
 {
     let mut lexer = Lexer::new(alloc, text);
     'pieces: while !lexer.left.is_empty() {

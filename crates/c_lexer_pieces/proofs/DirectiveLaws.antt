@@ -11,9 +11,9 @@ use Rattle.base_lists.proofs.Options.{not_some}
 use Rattle.cbi_base.specs.Name.{IsName}
 use Rattle.c_syntax.specs.declared.parts.Constant.{Constant}
 use Rattle.c_lexer_pieces.specs.declared.bytes.Class.TheVariants as class
-use Rattle.c_lexer_pieces.specs.Bytes.{has, run, past, begins, begins_with}
+use Rattle.c_lexer_pieces.specs.Bytes.{is_of_class, run_of_class, bytes_past_run, begins_with_byte, begins_with}
 use Rattle.c_lexer_pieces.specs.Spellings.{word_of}
-use Rattle.c_lexer_pieces.specs.Reading.{first_some, strip, strip_text, blanks_at, constant_at, number_at, character_at, name_at, comment_at, trailing_at, trails_within, trails, header_at, header_line, is_include, defined_name_at, define_in}
+use Rattle.c_lexer_pieces.specs.Reading.{first_some, strip_byte, strip_text, blanks_at, constant_at, number_at, character_at, name_at, comment_at, trailing_at, trails_within, is_directive_end, header_at, header_line, is_include, defined_name_at, define_in}
 use Rattle.c_lexer_pieces.specs.Pieces.{AllOf, IsConstant, IsTrailing, blank, return, comment, EndsLine, IsHeader, standard_io, standard_library, assert, IsInclude, IsDefine}
 use Rattle.c_lexer_pieces.proofs.RunLaws.{run-past, run-AllOf}
 use Rattle.c_lexer_pieces.proofs.CommentLaws.{comment-splits}
@@ -32,9 +32,9 @@ record TrailingFound (bytes rest : List ℕ) : Type 0 where
   is : bytes ≡ front ++ rest
   trailing : IsTrailing front rest
 
-blank-found : (b : ℕ) (bs rest : List ℕ) → (has class.Blank b || eqb b 13) ≡ true → bs ≡ rest → TrailingFound (b ∷ bs) rest
+blank-found : (b : ℕ) (bs rest : List ℕ) → (is_of_class class.Blank b || eqb b 13) ≡ true → bs ≡ rest → TrailingFound (b ∷ bs) rest
 blank-found b bs rest h e =
-    elim (has class.Blank b) as (λ v. has class.Blank b ≡ v → (v || eqb b 13) ≡ true → TrailingFound (b ∷ bs) rest) [
+    elim (is_of_class class.Blank b) as (λ v. is_of_class class.Blank b ≡ v → (v || eqb b 13) ≡ true → TrailingFound (b ∷ bs) rest) [
       | true ↦ λ f g. record { front = b ∷ []; is = ap (λ xs. b ∷ xs) e; trailing = blank b refl f }
       | false ↦ λ f g. record { front = b ∷ []; is = ap (λ xs. b ∷ xs) e; trailing = return (ap (λ x. x ∷ []) (eqb-true b 13 g)) }
     ] refl h
@@ -47,9 +47,9 @@ unfolding trailing_at
 trailing-found [] rest h = comment-trailing [] rest h
 trailing-found (b ∷ bs) rest h =
     ⊎_elim
-    (λ (w : ((has class.Blank b || eqb b 13) ≡ true) × (Some bs ≡ Some rest)). blank-found b bs rest w.0 (let e : Some bs ≡ Some rest = w.1 in cc))
-    (λ (w : ((has class.Blank b || eqb b 13) ≡ false) × (comment_at (b ∷ bs) ≡ Some rest)). comment-trailing (b ∷ bs) rest w.1)
-    (cond_cases_of (has class.Blank b || eqb b 13) (Some bs) (comment_at (b ∷ bs)) (Some rest) h)
+    (λ (w : ((is_of_class class.Blank b || eqb b 13) ≡ true) × (Some bs ≡ Some rest)). blank-found b bs rest w.0 (let e : Some bs ≡ Some rest = w.1 in cc))
+    (λ (w : ((is_of_class class.Blank b || eqb b 13) ≡ false) × (comment_at (b ∷ bs) ≡ Some rest)). comment-trailing (b ∷ bs) rest w.1)
+    (cond_cases_of (is_of_class class.Blank b || eqb b 13) (Some bs) (comment_at (b ∷ bs)) (Some rest) h)
 
 trails-more : (n : ℕ) (bytes : List ℕ) (o : Option (List ℕ)) → o ≡ trailing_at bytes → ((rest : List ℕ) → trails_within n rest ≡ true → EndsLine rest) → option_map_or (trails_within n) o false ≡ true → EndsLine bytes
 trails-more n bytes None e inner h = cc
@@ -63,8 +63,8 @@ trails_within-ends zero bytes h = cc
 trails_within-ends (suc n) [] h = (zero, refl)
 trails_within-ends (suc n) (b ∷ bs) h = trails-more n (b ∷ bs) (trailing_at (b ∷ bs)) refl (λ rest. trails_within-ends n rest) h
 
-pub trails-ends : (bytes : List ℕ) → trails bytes ≡ true → EndsLine bytes
-unfolding trails
+pub trails-ends : (bytes : List ℕ) → is_directive_end bytes ≡ true → EndsLine bytes
+unfolding is_directive_end
 trails-ends bytes h = trails_within-ends (length bytes + 1) bytes h
 
 record HeaderFound (bytes rest : List ℕ) : Type 0 where
@@ -88,19 +88,19 @@ map_or-true f None h = cc
 map_or-true f (Some rest) h = (rest, refl, h)
 
 -- A line that begins with `#` and blanks, and goes on as an `#include`, is one.
-pub include-found : (line rest : List ℕ) → strip 35 line ≡ Some rest → is_include (past class.Blank rest) ≡ true → IsInclude line
+pub include-found : (line rest : List ℕ) → strip_byte 35 line ≡ Some rest → is_include (bytes_past_run class.Blank rest) ≡ true → IsInclude line
 unfolding is_include
 include-found line rest opens h =
-    let text = past class.Blank rest in
-    let a = map_or-true trails (header_line text) h in
-    let b = bound (strip_text (codes "include") text) (λ r. header_at (past class.Blank r)) a.0 a.1 in
-    let header = header-found (past class.Blank b.value) a.0 b.then in
+    let text = bytes_past_run class.Blank rest in
+    let a = map_or-true is_directive_end (header_line text) h in
+    let b = bound (strip_text (codes "include") text) (λ r. header_at (bytes_past_run class.Blank r)) a.0 a.1 in
+    let header = header-found (bytes_past_run class.Blank b.value) a.0 b.then in
     record {
-      before_word = run class.Blank rest;
-      before_header = run class.Blank b.value;
+      before_word = run_of_class class.Blank rest;
+      before_header = run_of_class class.Blank b.value;
       header = header.header;
       end = a.0;
-      is = strip-some 35 line rest opens ∙ ap (λ xs. 35 ∷ xs) (sym (run-past class.Blank rest) ∙ ap (λ xs. run class.Blank rest ++ xs) (strip_text-some (codes "include") text b.value b.is ∙ ap (λ xs. codes "include" ++ xs) (sym (run-past class.Blank b.value) ∙ ap (λ xs. run class.Blank b.value ++ xs) header.is)));
+      is = strip-some 35 line rest opens ∙ ap (λ xs. 35 ∷ xs) (sym (run-past class.Blank rest) ∙ ap (λ xs. run_of_class class.Blank rest ++ xs) (strip_text-some (codes "include") text b.value b.is ∙ ap (λ xs. codes "include" ++ xs) (sym (run-past class.Blank b.value) ∙ ap (λ xs. run_of_class class.Blank b.value ++ xs) header.is)));
       blanks = run-AllOf class.Blank rest;
       more_blanks = run-AllOf class.Blank b.value;
       is_header = header.is_header;
@@ -113,16 +113,16 @@ record BlanksFound (bytes rest : List ℕ) : Type 0 where
   all : AllOf class.Blank blanks
   some : 0 < length blanks
 
-run-some : (bytes : List ℕ) → begins_with class.Blank bytes ≡ true → 0 < length (run class.Blank bytes)
+run-some : (bytes : List ℕ) → begins_with class.Blank bytes ≡ true → 0 < length (run_of_class class.Blank bytes)
 run-some [] h = cc
 run-some (b ∷ bs) h = rw h (omega arith)
 
 blanks-found : (bytes rest : List ℕ) → blanks_at bytes ≡ Some rest → BlanksFound bytes rest
 blanks-found bytes rest h =
-    let found = cond_some (begins_with class.Blank bytes) (past class.Blank bytes) rest h in
+    let found = cond_some (begins_with class.Blank bytes) (bytes_past_run class.Blank bytes) rest h in
     record {
-      blanks = run class.Blank bytes;
-      is = sym (run-past class.Blank bytes) ∙ ap (λ xs. run class.Blank bytes ++ xs) found.1;
+      blanks = run_of_class class.Blank bytes;
+      is = sym (run-past class.Blank bytes) ∙ ap (λ xs. run_of_class class.Blank bytes ++ xs) found.1;
       all = run-AllOf class.Blank bytes;
       some = run-some bytes found.0;
     }
@@ -135,9 +135,9 @@ record ConstantFound (bytes : List ℕ) (x : Constant × List ℕ) : Type 0 wher
 constant-found : (bytes : List ℕ) (x : Constant × List ℕ) → constant_at bytes ≡ Some x → ConstantFound bytes x
 constant-found bytes x h =
     ⊎_elim
-    (λ (w : (begins 39 bytes ≡ true) × (character_at bytes ≡ Some x)). let c = character-found bytes x w.1 in record { spelled = c.front; is = c.is; constant = inr c.character })
-    (λ (w : (begins 39 bytes ≡ false) × (number_at bytes ≡ Some x)). let n = number-found bytes x w.1 in record { spelled = n.front; is = n.is; constant = inl n.number })
-    (cond_cases_of (begins 39 bytes) (character_at bytes) (number_at bytes) (Some x) h)
+    (λ (w : (begins_with_byte 39 bytes ≡ true) × (character_at bytes ≡ Some x)). let c = character-found bytes x w.1 in record { spelled = c.front; is = c.is; constant = inr c.character })
+    (λ (w : (begins_with_byte 39 bytes ≡ false) × (number_at bytes ≡ Some x)). let n = number-found bytes x w.1 in record { spelled = n.front; is = n.is; constant = inl n.number })
+    (cond_cases_of (begins_with_byte 39 bytes) (character_at bytes) (number_at bytes) (Some x) h)
 
 record NameFound (bytes : List ℕ) (x : List ℕ × List ℕ) : Type 0 where
   spelled : List ℕ
@@ -171,23 +171,23 @@ defined-name-found bytes x h =
     }
 
 -- A line that begins with `#` and blanks, and goes on as a `#define`, is one.
-pub define-found : (line rest : List ℕ) (x : List ℕ × Constant) → strip 35 line ≡ Some rest → define_in (past class.Blank rest) ≡ Some x → IsDefine line x.0 x.1
+pub define-found : (line rest : List ℕ) (x : List ℕ × Constant) → strip_byte 35 line ≡ Some rest → define_in (bytes_past_run class.Blank rest) ≡ Some x → IsDefine line x.0 x.1
 unfolding define_in
 define-found line rest x opens h =
-    let text = past class.Blank rest in
-    let a = bound (defined_name_at text) (λ n. option_and_then (λ spelled. option_and_then (λ c. cond (trails c.1) (Some (n.0, c.0)) None) (constant_at spelled)) (blanks_at n.1)) x h in
+    let text = bytes_past_run class.Blank rest in
+    let a = bound (defined_name_at text) (λ n. option_and_then (λ spelled. option_and_then (λ c. cond (is_directive_end c.1) (Some (n.0, c.0)) None) (constant_at spelled)) (blanks_at n.1)) x h in
     let n = a.value in
-    let b = bound (blanks_at n.1) (λ spelled. option_and_then (λ c. cond (trails c.1) (Some (n.0, c.0)) None) (constant_at spelled)) x a.then in
-    let c = bound (constant_at b.value) (λ c. cond (trails c.1) (Some (n.0, c.0)) None) x b.then in
-    let d = cond_some (trails c.value.1) (n.0, c.value.0) x c.then in
+    let b = bound (blanks_at n.1) (λ spelled. option_and_then (λ c. cond (is_directive_end c.1) (Some (n.0, c.0)) None) (constant_at spelled)) x a.then in
+    let c = bound (constant_at b.value) (λ c. cond (is_directive_end c.1) (Some (n.0, c.0)) None) x b.then in
+    let d = cond_some (is_directive_end c.value.1) (n.0, c.value.0) x c.then in
     let name = defined-name-found text n a.is in
     let before_name = blanks-found name.spelled name.named name.blanks_is in
     let before_constant = blanks-found n.1 b.value b.is in
     let constant = constant-found b.value c.value c.is in
-    let whole : line ≡ 35 ∷ run class.Blank rest ++ (codes "define" ++ (before_name.blanks ++ (n.0 ++ (before_constant.blanks ++ (constant.spelled ++ c.value.1))))) =
-    strip-some 35 line rest opens ∙ ap (λ xs. 35 ∷ xs) (sym (run-past class.Blank rest) ∙ ap (λ xs. run class.Blank rest ++ xs) (strip_text-some (codes "define") text name.spelled name.word_is ∙ ap (λ xs. codes "define" ++ xs) (before_name.is ∙ ap (λ xs. before_name.blanks ++ xs) (name.is ∙ ap (λ xs. n.0 ++ xs) (before_constant.is ∙ ap (λ xs. before_constant.blanks ++ xs) constant.is))))) in
+    let whole : line ≡ 35 ∷ run_of_class class.Blank rest ++ (codes "define" ++ (before_name.blanks ++ (n.0 ++ (before_constant.blanks ++ (constant.spelled ++ c.value.1))))) =
+    strip-some 35 line rest opens ∙ ap (λ xs. 35 ∷ xs) (sym (run-past class.Blank rest) ∙ ap (λ xs. run_of_class class.Blank rest ++ xs) (strip_text-some (codes "define") text name.spelled name.word_is ∙ ap (λ xs. codes "define" ++ xs) (before_name.is ∙ ap (λ xs. before_name.blanks ++ xs) (name.is ∙ ap (λ xs. n.0 ++ xs) (before_constant.is ∙ ap (λ xs. before_constant.blanks ++ xs) constant.is))))) in
     let defines : IsDefine line n.0 c.value.0 = record {
-      before_word = run class.Blank rest;
+      before_word = run_of_class class.Blank rest;
       before_name = before_name.blanks;
       before_constant = before_constant.blanks;
       spelled = constant.spelled;

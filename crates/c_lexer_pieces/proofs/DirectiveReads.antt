@@ -13,9 +13,9 @@ use Rattle.c_lexer_pieces.specs.declared.constants.Radix.{Radix}
 use Rattle.c_lexer_pieces.specs.declared.constants.Radix.TheVariants as radix
 use Rattle.c_syntax.specs.declared.parts.Constant.{Constant}
 use Rattle.c_lexer_pieces.specs.declared.bytes.Class.TheVariants as class
-use Rattle.c_lexer_pieces.specs.Bytes.{has, run, past, begins, begins_with}
+use Rattle.c_lexer_pieces.specs.Bytes.{is_of_class, run_of_class, bytes_past_run, begins_with_byte, begins_with}
 use Rattle.c_lexer_pieces.specs.Spellings.{word_of}
-use Rattle.c_lexer_pieces.specs.Reading.{strip, strip_text, blanks_at, constant_at, number_at, character_at, name_at, trailing_at, trails_within, trails, header_at, header_line, is_include, defined_name_at, define_in}
+use Rattle.c_lexer_pieces.specs.Reading.{strip_byte, strip_text, blanks_at, constant_at, number_at, character_at, name_at, trailing_at, trails_within, is_directive_end, header_at, header_line, is_include, defined_name_at, define_in}
 use Rattle.c_lexer_pieces.specs.Values.{class_of}
 use Rattle.c_lexer_pieces.specs.Pieces.{AllOf, RunEnds, IsComment, line, block, Spells, IsNumber, IsCharacter, IsConstant, IsTrailing, blank, return, comment, Trails, EndsLine, IsHeader, standard_io, standard_library, assert, IsInclude, IsDefine}
 use Rattle.c_lexer_pieces.proofs.RunLaws.{run-append, past-append, all_of_first}
@@ -28,17 +28,17 @@ strip_text-read front rest =
     rw same (ap Some (drop-append_seam front rest))
 
 -- a comment is no blank
-comment-plain : (front more : List ℕ) → IsComment front more → (begins_with class.Blank (front ++ more) || begins 13 (front ++ more)) ≡ false
-unfolding has
+comment-plain : (front more : List ℕ) → IsComment front more → (begins_with class.Blank (front ++ more) || begins_with_byte 13 (front ++ more)) ≡ false
+unfolding is_of_class
 comment-plain front more (line body is all stops) = rw is refl
 comment-plain front more (block body is close) = rw is refl
 
-blank-read : (b : ℕ) (more : List ℕ) → has class.Blank b ≡ true → trailing_at (b ∷ more) ≡ Some more
+blank-read : (b : ℕ) (more : List ℕ) → is_of_class class.Blank b ≡ true → trailing_at (b ∷ more) ≡ Some more
 unfolding trailing_at
 blank-read b more h = rw h refl
 
 return-read : (more : List ℕ) → trailing_at (13 ∷ more) ≡ Some more
-unfolding trailing_at has
+unfolding trailing_at is_of_class
 return-read more = refl
 
 comment_part-read : (front more : List ℕ) → IsComment front more → trailing_at (front ++ more) ≡ Some more
@@ -74,8 +74,8 @@ trails_within-read (suc m) (suc n) bytes h less =
     let read : trailing_at bytes ≡ Some h.1 = ap trailing_at h.2 ∙ trailing-read h.0 h.1 h.3 in
     trails-step m bytes h.1 (omega (arith, ap length h.2, length-append h.0 h.1, trailing-some h.0 h.1 h.3)) read ∙ trails_within-read m n h.1 h.4 (omega arith)
 
-trails-read : (bytes : List ℕ) → EndsLine bytes → trails bytes ≡ true
-unfolding trails
+trails-read : (bytes : List ℕ) → EndsLine bytes → is_directive_end bytes ≡ true
+unfolding is_directive_end
 trails-read bytes h = trails_within-read (length bytes + 1) h.0 bytes h.1 (omega (arith, parts-count h.0 bytes h.1))
 
 header-read : (header rest : List ℕ) → IsHeader header → header_at (header ++ rest) ≡ Some rest
@@ -84,23 +84,23 @@ header-read header rest (standard_library is) = rw is refl
 header-read header rest (assert is) = rw is refl
 
 header-begins : (header rest : List ℕ) → IsHeader header → RunEnds class.Blank (header ++ rest)
-unfolding has
+unfolding is_of_class
 header-begins header rest (standard_io is) = rw is refl
 header-begins header rest (standard_library is) = rw is refl
 header-begins header rest (assert is) = rw is refl
 
 word-begins : (rest : List ℕ) → RunEnds class.Blank (codes "include" ++ rest) × RunEnds class.Blank (codes "define" ++ rest)
-unfolding has
+unfolding is_of_class
 word-begins rest = (refl, refl)
 
 -- what is behind the `#` and blanks
 pub record Opened (row text : List ℕ) : Type 0 where
   pub rest : List ℕ
-  pub opens : strip 35 row ≡ Some rest
-  pub is : past class.Blank rest ≡ text
+  pub opens : strip_byte 35 row ≡ Some rest
+  pub is : bytes_past_run class.Blank rest ≡ text
 
 opened : (row blanks text : List ℕ) → row ≡ 35 ∷ blanks ++ text → AllOf class.Blank blanks → RunEnds class.Blank text → Opened row text
-opened row blanks text is all stops = record { rest = blanks ++ text; opens = ap (strip 35) is; is = past-append class.Blank blanks text all stops }
+opened row blanks text is all stops = record { rest = blanks ++ text; opens = ap (strip_byte 35) is; is = past-append class.Blank blanks text all stops }
 
 pub record IncludeRead (row : List ℕ) : Type 0 where
   pub text : List ℕ
@@ -113,12 +113,12 @@ include-read row h =
     let tail = h.header ++ h.end in
     let spelled = h.before_header ++ tail in
     let text = codes "include" ++ spelled in
-    let blanks : past class.Blank spelled ≡ tail = past-append class.Blank h.before_header tail h.more_blanks (header-begins h.header h.end h.is_header) in
-    let header : header_line text ≡ Some h.end = ap (λ o. option_and_then (λ rest. header_at (past class.Blank rest)) o) (strip_text-read (codes "include") spelled) ∙ ap header_at blanks ∙ header-read h.header h.end h.is_header in
+    let blanks : bytes_past_run class.Blank spelled ≡ tail = past-append class.Blank h.before_header tail h.more_blanks (header-begins h.header h.end h.is_header) in
+    let header : header_line text ≡ Some h.end = ap (λ o. option_and_then (λ rest. header_at (bytes_past_run class.Blank rest)) o) (strip_text-read (codes "include") spelled) ∙ ap header_at blanks ∙ header-read h.header h.end h.is_header in
     record {
       text = text;
       begun = opened row h.before_word text h.is h.blanks (word-begins spelled).0;
-      include = ap (λ o. option_map_or trails o false) header ∙ trails-read h.end h.ends;
+      include = ap (λ o. option_map_or is_directive_end o false) header ∙ trails-read h.end h.ends;
     }
 
 -- A constant's first byte
@@ -130,8 +130,8 @@ pub record FirstDigit (bytes : List ℕ) : Type 0 where
   pub low : 48 ≤ digit
   pub high : digit ≤ 57
 
-digit_range : (d : ℕ) → has class.Decimal d ≡ true → (48 ≤ d) × (d ≤ 57)
-unfolding has
+digit_range : (d : ℕ) → is_of_class class.Decimal d ≡ true → (48 ≤ d) × (d ≤ 57)
+unfolding is_of_class
 digit_range d h = let tests = and_parts (leb 48 d) (leb d 57) h in (leb-true 48 d tests.0, leb-true d 57 tests.1)
 
 octal_first : (bytes digits suffix : List ℕ) → bytes ≡ digits ++ suffix → 0 < length digits → AllOf class.Octal digits → FirstDigit bytes
@@ -158,8 +158,8 @@ first_of_spelled radix.Hexadecimal bytes spelled digits suffix is spells some al
 pub number-first : (bytes after : List ℕ) (constant : Constant) → IsNumber bytes after constant → FirstDigit bytes
 number-first bytes after constant h = first_of_spelled h.radix bytes h.spelled h.digits h.suffix h.is h.spells h.has_digit h.all_digits
 
-no_blank : (b : ℕ) → 33 ≤ b → has class.Blank b ≡ false
-unfolding has
+no_blank : (b : ℕ) → 33 ≤ b → is_of_class class.Blank b ≡ false
+unfolding is_of_class
 no_blank b h = rw (ne_eqb b 32 (λ e. omega arith), ne_eqb b 9 (λ e. omega arith)) refl
 
 number_at-constant : (d : ℕ) (rest : List ℕ) → 48 ≤ d → constant_at (d ∷ rest) ≡ number_at (d ∷ rest)
@@ -205,7 +205,7 @@ name-begins : (name rest : List ℕ) → IsName name → RunEnds class.Blank (na
 name-begins name rest h = let f = name-first name h in rw f.is (no_blank f.letter (omega (arith, letter_high f.letter f.is_letter)))
 
 all_in_name : (bytes : List ℕ) → list_all is_name_byte bytes ≡ true → AllOf class.Name bytes
-unfolding has
+unfolding is_of_class
 all_in_name bytes h = h
 
 pub name-read : (name after : List ℕ) → IsName name → RunEnds class.Name after → name_at (name ++ after) ≡ Some (name, after)
@@ -214,12 +214,12 @@ name-read name after h stops =
     let all = all_in_name name h.runs in
     let begun : begins_name (name ++ after) ≡ true = let f = name-first name h in rw f.is f.is_letter in
     let short : leb (length name) 63 ≡ true = le-leb (length name) 63 h.short in
-    let name_is : run class.Name (name ++ after) ≡ name = run-append class.Name name after all stops in
-    let rest_is : past class.Name (name ++ after) ≡ after = past-append class.Name name after all stops in
+    let name_is : run_of_class class.Name (name ++ after) ≡ name = run-append class.Name name after all stops in
+    let rest_is : bytes_past_run class.Name (name ++ after) ≡ after = past-append class.Name name after all stops in
     rw (begun, name_is, rest_is, short) refl
 
-blank_no_name : (b : ℕ) → has class.Blank b ≡ true → has class.Name b ≡ false
-unfolding has
+blank_no_name : (b : ℕ) → is_of_class class.Blank b ≡ true → is_of_class class.Name b ≡ false
+unfolding is_of_class
 blank_no_name b h = grind (arith, nat_tests)
 
 -- at least one blank
@@ -227,7 +227,7 @@ blanks-read : (blanks rest : List ℕ) → 0 < length blanks → AllOf class.Bla
 blanks-read [] rest some all stops = absurd (omega arith)
 blanks-read (b ∷ bs) rest some all stops =
     let first = (all_of_first class.Blank b bs all).0 in
-    let rest_is : past class.Blank ((b ∷ bs) ++ rest) ≡ rest = past-append class.Blank (b ∷ bs) rest all stops in
+    let rest_is : bytes_past_run class.Blank ((b ∷ bs) ++ rest) ≡ rest = past-append class.Blank (b ∷ bs) rest all stops in
     rw first (ap Some (sym (rw first refl) ∙ rest_is))
 
 blanks-stop : (blanks rest : List ℕ) → 0 < length blanks → AllOf class.Blank blanks → RunEnds class.Name (blanks ++ rest)
@@ -249,10 +249,10 @@ unfolding defined_name_at
 defined_name-steps text a b n word blanks named no_word =
     ap (λ o. option_and_then (λ rest. option_and_then (λ spelled. option_and_then (λ n. cond (is_some (word_of n.0)) None (Some n)) (name_at spelled)) (blanks_at rest)) o) word ∙ rw (blanks, named, no_word) refl
 
-define-steps : (text a b c : List ℕ) (name : List ℕ) (constant : Constant) → defined_name_at text ≡ Some (name, a) → blanks_at a ≡ Some b → constant_at b ≡ Some (constant, c) → trails c ≡ true → define_in text ≡ Some (name, constant)
+define-steps : (text a b c : List ℕ) (name : List ℕ) (constant : Constant) → defined_name_at text ≡ Some (name, a) → blanks_at a ≡ Some b → constant_at b ≡ Some (constant, c) → is_directive_end c ≡ true → define_in text ≡ Some (name, constant)
 unfolding define_in
 define-steps text a b c name constant named blanks constant_is ends =
-    ap (λ o. option_and_then (λ n. option_and_then (λ spelled. option_and_then (λ c. cond (trails c.1) (Some (n.0, c.0)) None) (constant_at spelled)) (blanks_at n.1)) o) named ∙ rw (blanks, constant_is, ends) refl
+    ap (λ o. option_and_then (λ n. option_and_then (λ spelled. option_and_then (λ c. cond (is_directive_end c.1) (Some (n.0, c.0)) None) (constant_at spelled)) (blanks_at n.1)) o) named ∙ rw (blanks, constant_is, ends) refl
 
 pub define-read : (row name : List ℕ) (constant : Constant) → IsDefine row name constant → DefineRead row name constant
 define-read row name constant h =

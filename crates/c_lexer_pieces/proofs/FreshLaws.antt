@@ -3,7 +3,7 @@ use Rattle.std.proofs.Common.{◌≡◌, ℕ, Bool, true, false, ◌||◌, ◌&&
 use Rattle.std.specs.List.{list_all}
 use Rattle.std.proofs.lemmas.Bool.{and_parts}
 use Rattle.c_lexer_pieces.specs.declared.bytes.Class.TheVariants as class
-use Rattle.c_lexer_pieces.specs.Bytes.{has}
+use Rattle.c_lexer_pieces.specs.Bytes.{is_of_class}
 use Rattle.c_lexer_pieces.specs.Pieces.{AllOf, IsFresh}
 use Rattle.c_lexer_pieces.specs.Cutting.{fresh_from, is_fresh}
 
@@ -29,21 +29,21 @@ and_both true b c h all = (h, all)
 and_both false b c h all = cc
 
 -- a byte after which a place is fresh, with blanks alone behind it
-byte-fresh : (fresh : Bool) (b : ℕ) (bs : List ℕ) → (eqb b 10 || has class.Blank b && fresh) ≡ true → AllOf class.Blank bs →
+byte-fresh : (fresh : Bool) (b : ℕ) (bs : List ℕ) → (eqb b 10 || is_of_class class.Blank b && fresh) ≡ true → AllOf class.Blank bs →
     ((fresh ≡ true) × AllOf class.Blank (b ∷ bs)) ⊎ LastLine (b ∷ bs)
 byte-fresh fresh b bs h all =
-    elim (eqb b 10) as (λ v. eqb b 10 ≡ v → (v || has class.Blank b && fresh) ≡ true → ((fresh ≡ true) × AllOf class.Blank (b ∷ bs)) ⊎ LastLine (b ∷ bs)) [
+    elim (eqb b 10) as (λ v. eqb b 10 ≡ v → (v || is_of_class class.Blank b && fresh) ≡ true → ((fresh ≡ true) × AllOf class.Blank (b ∷ bs)) ⊎ LastLine (b ∷ bs)) [
       | true ↦ λ e f. inr (line-here b bs (eqb-true b 10 e) all)
-      | false ↦ λ e f. inl (and_both (has class.Blank b) fresh (list_all (has class.Blank) bs) f all)
+      | false ↦ λ e f. inl (and_both (is_of_class class.Blank b) fresh (list_all (is_of_class class.Blank) bs) f all)
     ] refl h
 
 last-line : (fresh : Bool) (bytes : List ℕ) → fresh_from fresh bytes ≡ true → ((fresh ≡ true) × AllOf class.Blank bytes) ⊎ LastLine bytes
 last-line fresh [] h = inl (h, refl)
 last-line fresh (b ∷ bs) h =
     ⊎_elim
-    (λ (w : ((eqb b 10 || has class.Blank b && fresh) ≡ true) × AllOf class.Blank bs). byte-fresh fresh b bs w.0 w.1)
+    (λ (w : ((eqb b 10 || is_of_class class.Blank b && fresh) ≡ true) × AllOf class.Blank bs). byte-fresh fresh b bs w.0 w.1)
     (λ (w : LastLine bs). inr (line-behind b bs w))
-    (last-line (eqb b 10 || has class.Blank b && fresh) bs h)
+    (last-line (eqb b 10 || is_of_class class.Blank b && fresh) bs h)
 
 pub fresh-is : (before : List ℕ) → is_fresh before ≡ true → IsFresh before
 fresh-is before h =
@@ -59,8 +59,8 @@ or_true false b h = rw h refl
 blanks-fresh : (bytes : List ℕ) → AllOf class.Blank bytes → fresh_from true bytes ≡ true
 blanks-fresh [] all = refl
 blanks-fresh (b ∷ bs) all =
-    let parts = and_parts (has class.Blank b) (list_all (has class.Blank) bs) all in
-    ap (λ v. fresh_from v bs) (or_true (eqb b 10) (has class.Blank b) parts.0) ∙ blanks-fresh bs parts.1
+    let parts = and_parts (is_of_class class.Blank b) (list_all (is_of_class class.Blank) bs) all in
+    ap (λ v. fresh_from v bs) (or_true (eqb b 10) (is_of_class class.Blank b) parts.0) ∙ blanks-fresh bs parts.1
 
 lines-fresh : (lines : List ℕ) → (lines ≡ []) ⊎ ((front : List ℕ) × (lines ≡ front ++ 10 ∷ [])) → is_fresh lines ≡ true
 lines-fresh lines whole =

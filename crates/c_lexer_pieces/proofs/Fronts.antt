@@ -8,9 +8,9 @@ use Rattle.c_syntax.specs.declared.token.Sign.{Sign}
 use Rattle.c_lexer_pieces.specs.declared.constants.Radix.{Radix}
 use Rattle.c_lexer_pieces.specs.declared.bytes.Class.{Class}
 use Rattle.c_lexer_pieces.specs.declared.bytes.Class.TheVariants as class
-use Rattle.c_lexer_pieces.specs.Bytes.{has, run, past, begins, begins_with, is_separator, is_digit}
+use Rattle.c_lexer_pieces.specs.Bytes.{is_of_class, run_of_class, bytes_past_run, begins_with_byte, begins_with, is_separator, is_digit}
 use Rattle.c_lexer_pieces.specs.Spellings.{sign_spelled}
-use Rattle.c_lexer_pieces.specs.Reading.{first_some, strip, with_rest, hexadecimal_at, radix_from, radix_at, suffix_at, small_value, constant_from, number_at, byte_of, octal_at, hexadecimal_escape_at, escape_at, element_at, character_at, text_within, text_at, name_at, comment_at, is_include, define_in}
+use Rattle.c_lexer_pieces.specs.Reading.{first_some, strip_byte, with_rest, hexadecimal_at, radix_from, radix_at, suffix_at, small_value, constant_from, number_at, byte_of, octal_at, hexadecimal_escape_at, escape_at, element_at, character_at, text_within, text_at, name_at, comment_at, is_include, define_in}
 use Rattle.c_lexer_pieces.specs.Values.{class_of, base_of, kind_of, simple_escape, signed_byte}
 use Rattle.c_lexer_pieces.specs.Cutting.{as_piece, sign_with, sign_at, comment_or_sign, plain_at, line_piece, directive_at, unless_known, new_directive_at, piece_at}
 use Rattle.c_lexer_pieces.specs.Piece.{Piece, Nothing, Name, Constant', Text, Punctuator, Definition, Known}
@@ -41,11 +41,11 @@ splits-to a b c x e = record { front = x.front; is = x.is ∙ ap (λ xs. x.front
 pub splits-le : (a b : List ℕ) → Splits a b → length b ≤ length a
 splits-le a b x = omega (arith, ap length x.is, length-append x.front b)
 
-pub strip-splits : (b : ℕ) (bytes rest : List ℕ) → strip b bytes ≡ Some rest → Splits bytes rest
+pub strip-splits : (b : ℕ) (bytes rest : List ℕ) → strip_byte b bytes ≡ Some rest → Splits bytes rest
 strip-splits b bytes rest h = record { front = b ∷ []; is = strip-some b bytes rest h }
 
-pub past-splits : (k : Class) (bytes : List ℕ) → Splits bytes (past k bytes)
-past-splits k bytes = record { front = run k bytes; is = sym (run-past k bytes) }
+pub past-splits : (k : Class) (bytes : List ℕ) → Splits bytes (bytes_past_run k bytes)
+past-splits k bytes = record { front = run_of_class k bytes; is = sym (run-past k bytes) }
 
 pub drop-splits : (n : ℕ) (bytes : List ℕ) → Splits bytes (drop n bytes)
 drop-splits n bytes = record { front = take n bytes; is = sym (take-append-drop n bytes) }
@@ -61,13 +61,13 @@ with_rest-is o rest x h =
 octal-splits : (bytes : List ℕ) (x : ℕ × List ℕ) → octal_at bytes ≡ Some x → Splits bytes x.1
 unfolding octal_at
 octal-splits bytes x h =
-    let digits = run class.Octal (take 3 bytes) in
+    let digits = run_of_class class.Octal (take 3 bytes) in
     splits-to bytes _ _ (drop-splits (length digits) bytes) (with_rest-is (byte_of 8 digits) (drop (length digits) bytes) x h)
 
 hexadecimal-splits : (bytes : List ℕ) (x : ℕ × List ℕ) → hexadecimal_escape_at bytes ≡ Some x → Splits bytes x.1
 unfolding hexadecimal_escape_at
 hexadecimal-splits bytes x h =
-    splits-to bytes _ _ (past-splits class.Hexadecimal bytes) (with_rest-is (byte_of 16 (run class.Hexadecimal bytes)) (past class.Hexadecimal bytes) x h)
+    splits-to bytes _ _ (past-splits class.Hexadecimal bytes) (with_rest-is (byte_of 16 (run_of_class class.Hexadecimal bytes)) (bytes_past_run class.Hexadecimal bytes) x h)
 
 escape-splits : (bytes : List ℕ) (x : ℕ × List ℕ) → escape_at bytes ≡ Some x → Splits bytes x.1
 unfolding escape_at
@@ -111,17 +111,17 @@ character_of e = record { kind = scalar.Int; value = signed_byte e.0 }
 pub record CharacterParts (bytes : List ℕ) (x : Constant × List ℕ) : Type 0 where
   pub inner : List ℕ
   pub element : ℕ × List ℕ
-  pub opens : strip 39 bytes ≡ Some inner
+  pub opens : strip_byte 39 bytes ≡ Some inner
   pub is : element_at 39 inner ≡ Some element
-  pub closes : strip 39 element.1 ≡ Some x.1
+  pub closes : strip_byte 39 element.1 ≡ Some x.1
   pub value : character_of element ≡ x.0
 
 pub character-parts : (bytes : List ℕ) (x : Constant × List ℕ) → character_at bytes ≡ Some x → CharacterParts bytes x
 unfolding character_at
 character-parts bytes x h =
-    let a = bound (strip 39 bytes) (λ inner. option_and_then (λ e. option_and_then (λ rest. Some (character_of e, rest)) (strip 39 e.1)) (element_at 39 inner)) x h in
-    let b = bound (element_at 39 a.value) (λ e. option_and_then (λ rest. Some (character_of e, rest)) (strip 39 e.1)) x a.then in
-    let c = bound (strip 39 b.value.1) (λ rest. Some (character_of b.value, rest)) x b.then in
+    let a = bound (strip_byte 39 bytes) (λ inner. option_and_then (λ e. option_and_then (λ rest. Some (character_of e, rest)) (strip_byte 39 e.1)) (element_at 39 inner)) x h in
+    let b = bound (element_at 39 a.value) (λ e. option_and_then (λ rest. Some (character_of e, rest)) (strip_byte 39 e.1)) x a.then in
+    let c = bound (strip_byte 39 b.value.1) (λ rest. Some (character_of b.value, rest)) x b.then in
     let same : (character_of b.value, c.value) ≡ x = let e : Some (character_of b.value, c.value) ≡ Some x = c.then in cc in
     record {
       inner = a.value;
@@ -148,11 +148,11 @@ pub record HasText (bytes : List ℕ) (x : List ℕ × List ℕ) : Type 0 where
   pub splits : Splits bytes x.1
   pub short : length x.0 + length x.1 < length bytes
 
-pub begins-some : (c : ℕ) (bytes : List ℕ) → begins c bytes ≡ true → 0 < length bytes
+pub begins-some : (c : ℕ) (bytes : List ℕ) → begins_with_byte c bytes ≡ true → 0 < length bytes
 begins-some c [] h = cc
 begins-some c (b ∷ bs) h = omega arith
 
-text-closed : (bytes : List ℕ) (x : List ℕ × List ℕ) → begins 34 bytes ≡ true → ([], drop 1 bytes) ≡ x → HasText bytes x
+text-closed : (bytes : List ℕ) (x : List ℕ × List ℕ) → begins_with_byte 34 bytes ≡ true → ([], drop 1 bytes) ≡ x → HasText bytes x
 text-closed bytes x h e =
     let some = begins-some 34 bytes h in
     record {
@@ -170,21 +170,21 @@ pub text_within-splits : (n : ℕ) (bytes : List ℕ) (x : List ℕ × List ℕ)
 text_within-splits zero bytes x h = cc
 text_within-splits (suc n) bytes x h =
     ⊎_elim
-    (λ (w : (begins 34 bytes ≡ true) × (Some ([], drop 1 bytes) ≡ Some x)). text-closed bytes x w.0 (let e : Some ([], drop 1 bytes) ≡ Some x = w.1 in cc))
-    (λ (w : (begins 34 bytes ≡ false) × (option_and_then (λ e. option_and_then (λ t. Some (e.0 ∷ t.0, t.1)) (text_within n e.1)) (element_at 34 bytes) ≡ Some x)).
+    (λ (w : (begins_with_byte 34 bytes ≡ true) × (Some ([], drop 1 bytes) ≡ Some x)). text-closed bytes x w.0 (let e : Some ([], drop 1 bytes) ≡ Some x = w.1 in cc))
+    (λ (w : (begins_with_byte 34 bytes ≡ false) × (option_and_then (λ e. option_and_then (λ t. Some (e.0 ∷ t.0, t.1)) (text_within n e.1)) (element_at 34 bytes) ≡ Some x)).
     let a = bound (element_at 34 bytes) (λ e. option_and_then (λ t. Some (e.0 ∷ t.0, t.1)) (text_within n e.1)) x w.1 in
     let b = bound (text_within n a.value.1) (λ t. Some (a.value.0 ∷ t.0, t.1)) x a.then in
     text-more bytes a.value b.value x (element-splits 34 bytes a.value a.is) (text_within-splits n a.value.1 b.value b.is) (let e : Some (a.value.0 ∷ b.value.0, b.value.1) ≡ Some x = b.then in cc))
-    (cond_cases_of (begins 34 bytes) (Some ([], drop 1 bytes)) (option_and_then (λ e. option_and_then (λ t. Some (e.0 ∷ t.0, t.1)) (text_within n e.1)) (element_at 34 bytes)) (Some x) h)
+    (cond_cases_of (begins_with_byte 34 bytes) (Some ([], drop 1 bytes)) (option_and_then (λ e. option_and_then (λ t. Some (e.0 ∷ t.0, t.1)) (text_within n e.1)) (element_at 34 bytes)) (Some x) h)
 
 hexadecimal_at-splits : (bytes digits : List ℕ) → hexadecimal_at bytes ≡ Some digits → Splits bytes digits
 hexadecimal_at-splits bytes digits h =
-    let a = bound (strip 48 bytes) (λ rest. cond (begins 120 rest) (Some (drop 1 rest)) (strip 88 rest)) digits h in
+    let a = bound (strip_byte 48 bytes) (λ rest. cond (begins_with_byte 120 rest) (Some (drop 1 rest)) (strip_byte 88 rest)) digits h in
     let front = strip-splits 48 bytes a.value a.is in
     ⊎_elim
-    (λ (w : (begins 120 a.value ≡ true) × (Some (drop 1 a.value) ≡ Some digits)). let e : drop 1 a.value ≡ digits = cc in splits-to _ _ _ (splits-trans _ _ _ front (drop-splits 1 a.value)) e)
-    (λ (w : (begins 120 a.value ≡ false) × (strip 88 a.value ≡ Some digits)). splits-trans _ _ _ front (strip-splits 88 a.value digits w.1))
-    (cond_cases_of (begins 120 a.value) (Some (drop 1 a.value)) (strip 88 a.value) (Some digits) a.then)
+    (λ (w : (begins_with_byte 120 a.value ≡ true) × (Some (drop 1 a.value) ≡ Some digits)). let e : drop 1 a.value ≡ digits = cc in splits-to _ _ _ (splits-trans _ _ _ front (drop-splits 1 a.value)) e)
+    (λ (w : (begins_with_byte 120 a.value ≡ false) × (strip_byte 88 a.value ≡ Some digits)). splits-trans _ _ _ front (strip-splits 88 a.value digits w.1))
+    (cond_cases_of (begins_with_byte 120 a.value) (Some (drop 1 a.value)) (strip_byte 88 a.value) (Some digits) a.then)
 
 radix-splits : (bytes : List ℕ) → Splits bytes (radix_at bytes).1
 unfolding radix_at
@@ -197,7 +197,7 @@ radix-splits bytes =
 suffix-splits : (bytes : List ℕ) → Splits bytes (suffix_at bytes).1
 unfolding suffix_at
 suffix-splits bytes =
-    elim (begins 117 bytes || begins 85 bytes) as (λ v. Splits bytes (cond {A = Bool × List ℕ} v (true, drop 1 bytes) (false, bytes)).1) [ true ↦ drop-splits 1 bytes | false ↦ splits-refl bytes ]
+    elim (begins_with_byte 117 bytes || begins_with_byte 85 bytes) as (λ v. Splits bytes (cond {A = Bool × List ℕ} v (true, drop 1 bytes) (false, bytes)).1) [ true ↦ drop-splits 1 bytes | false ↦ splits-refl bytes ]
 
 pub record ConstantParts (r : Radix) (digits : List ℕ) (end : Bool × List ℕ) (x : Constant × List ℕ) : Type 0 where
   pub value : ℕ
@@ -237,8 +237,8 @@ unfolding number_at
 number-element bytes x h =
     let r = (radix_at bytes).0 in
     let spelled = (radix_at bytes).1 in
-    let digits = run (class_of r) spelled in
-    let after = past (class_of r) spelled in
+    let digits = run_of_class (class_of r) spelled in
+    let after = bytes_past_run (class_of r) spelled in
     let p = constant-parts r digits (suffix_at after) x h in
     let front = radix-splits bytes in
     let suffix = splits-to _ _ _ (suffix-splits after) p.rest_is in
@@ -247,38 +247,38 @@ number-element bytes x h =
       less = omega (arith, p.has_digit, splits-le _ _ front, splits-le _ _ suffix, ap length (run-past (class_of r) spelled), length-append digits after);
     }
 
-letter_in_name : (b : ℕ) → is_letter b ≡ true → has class.Name b ≡ true
-unfolding has
+letter_in_name : (b : ℕ) → is_letter b ≡ true → is_of_class class.Name b ≡ true
+unfolding is_of_class
 letter_in_name b h = rw h refl
 
-pub name-parts : (bytes : List ℕ) (x : List ℕ × List ℕ) → name_at bytes ≡ Some x → ((begins_name bytes && nat_le (length (run class.Name bytes)) 63) ≡ true) × ((run class.Name bytes, past class.Name bytes) ≡ x)
+pub name-parts : (bytes : List ℕ) (x : List ℕ × List ℕ) → name_at bytes ≡ Some x → ((begins_name bytes && nat_le (length (run_of_class class.Name bytes)) 63) ≡ true) × ((run_of_class class.Name bytes, bytes_past_run class.Name bytes) ≡ x)
 unfolding name_at
-name-parts bytes x h = cond_some (begins_name bytes && nat_le (length (run class.Name bytes)) 63) (run class.Name bytes, past class.Name bytes) x h
+name-parts bytes x h = cond_some (begins_name bytes && nat_le (length (run_of_class class.Name bytes)) 63) (run_of_class class.Name bytes, bytes_past_run class.Name bytes) x h
 
-run-begins : (bytes : List ℕ) → begins_name bytes ≡ true → begins_name (run class.Name bytes) ≡ true
+run-begins : (bytes : List ℕ) → begins_name bytes ≡ true → begins_name (run_of_class class.Name bytes) ≡ true
 run-begins [] h = cc
 run-begins (b ∷ bs) h = rw (letter_in_name b h) h
 
 all_name_bytes : (bytes : List ℕ) → AllOf class.Name bytes → list_all is_name_byte bytes ≡ true
-unfolding has
+unfolding is_of_class
 all_name_bytes bytes h = h
 
 -- what is read as a name is one
 pub name-IsName : (bytes : List ℕ) (x : List ℕ × List ℕ) → name_at bytes ≡ Some x → IsName x.0
 name-IsName bytes x h =
     let parts = name-parts bytes x h in
-    let tests = and_parts (begins_name bytes) (nat_le (length (run class.Name bytes)) 63) parts.0 in
-    let named : IsName (run class.Name bytes) = record {
+    let tests = and_parts (begins_name bytes) (nat_le (length (run_of_class class.Name bytes)) 63) parts.0 in
+    let named : IsName (run_of_class class.Name bytes) = record {
       begins = run-begins bytes tests.0;
-      runs = all_name_bytes (run class.Name bytes) (run-AllOf class.Name bytes);
-      short = leb-true (length (run class.Name bytes)) 63 tests.1;
+      runs = all_name_bytes (run_of_class class.Name bytes) (run-AllOf class.Name bytes);
+      short = leb-true (length (run_of_class class.Name bytes)) 63 tests.1;
     } in
     subst (λ (z : List ℕ × List ℕ). IsName z.0) parts.1 named
 
 name-element : (b : ℕ) (bs : List ℕ) (x : List ℕ × List ℕ) → is_letter b ≡ true → name_at (b ∷ bs) ≡ Some x → Element (b ∷ bs) x.1
 name-element b bs x letter h =
-    let e : past class.Name (b ∷ bs) ≡ x.1 = ap (λ y. y.1) (name-parts (b ∷ bs) x h).1 in
-    let moves : past class.Name (b ∷ bs) ≡ past class.Name bs = rw (letter_in_name b letter) refl in
+    let e : bytes_past_run class.Name (b ∷ bs) ≡ x.1 = ap (λ y. y.1) (name-parts (b ∷ bs) x h).1 in
+    let moves : bytes_past_run class.Name (b ∷ bs) ≡ bytes_past_run class.Name bs = rw (letter_in_name b letter) refl in
     record {
       splits = splits-to _ _ _ (past-splits class.Name (b ∷ bs)) e;
       less = omega (arith, ap length e, ap length moves, past-le class.Name bs);
@@ -393,10 +393,10 @@ unless_known-is known y x h = cc
 directive-piece : (bytes : List ℕ) (x : Piece × List ℕ) → directive_at bytes ≡ Some x → ReadsPiece bytes x
 unfolding directive_at
 directive-piece bytes x h =
-    let line = run class.Line bytes in
-    let after = past class.Line bytes in
-    let a = bound (strip 35 line) (λ rest. line_piece (past class.Blank rest) after) x h in
-    let r = line-rest (past class.Blank a.value) after x a.then in
+    let line = run_of_class class.Line bytes in
+    let after = bytes_past_run class.Line bytes in
+    let a = bound (strip_byte 35 line) (λ rest. line_piece (bytes_past_run class.Blank rest) after) x h in
+    let r = line-rest (bytes_past_run class.Blank a.value) after x a.then in
     let splits = splits-to _ _ _ (past-splits class.Line bytes) r.1 in
     let line_is = strip-some 35 line a.value a.is in
     let less : length x.1 < length bytes = omega (arith, ap length line_is, ap length (run-past class.Line bytes), length-append line after, ap length r.1) in
@@ -420,7 +420,7 @@ new_directive-piece true known bytes x h =
     let a = bound (directive_at bytes) (unless_known known) x h in
     directive-piece bytes x (a.is ∙ ap Some (unless_known-is known a.value x a.then))
 
-text-piece : (bytes : List ℕ) (x : Piece × List ℕ) → begins 34 bytes ≡ true → as_piece Text (text_at (drop 1 bytes)) ≡ Some x → ReadsPiece bytes x
+text-piece : (bytes : List ℕ) (x : Piece × List ℕ) → begins_with_byte 34 bytes ≡ true → as_piece Text (text_at (drop 1 bytes)) ≡ Some x → ReadsPiece bytes x
 unfolding text_at
 text-piece bytes x begun h = text-read bytes (text_within (length (drop 1 bytes) + 1) (drop 1 bytes)) x (λ y e. text_within-splits (length (drop 1 bytes) + 1) (drop 1 bytes) y e) h
 
@@ -428,12 +428,12 @@ pub piece-read : (fresh : Bool) (known : Known) (bytes : List ℕ) (x : Piece ×
 unfolding piece_at
 piece-read fresh known bytes x h =
     let directive = cond fresh (new_directive_at known bytes) None in
-    let others = cond (begins 35 bytes) directive (plain_at bytes) in
+    let others = cond (begins_with_byte 35 bytes) directive (plain_at bytes) in
     ⊎_elim
-    (λ (w : (begins 34 bytes ≡ true) × (as_piece Text (text_at (drop 1 bytes)) ≡ Some x)). text-piece bytes x w.0 w.1)
-    (λ (w : (begins 34 bytes ≡ false) × (others ≡ Some x)).
+    (λ (w : (begins_with_byte 34 bytes ≡ true) × (as_piece Text (text_at (drop 1 bytes)) ≡ Some x)). text-piece bytes x w.0 w.1)
+    (λ (w : (begins_with_byte 34 bytes ≡ false) × (others ≡ Some x)).
     ⊎_elim
-    (λ (v : (begins 35 bytes ≡ true) × (directive ≡ Some x)). new_directive-piece fresh known bytes x v.1)
-    (λ (v : (begins 35 bytes ≡ false) × (plain_at bytes ≡ Some x)). plain_at-piece bytes x v.1)
-    (cond_cases_of (begins 35 bytes) directive (plain_at bytes) (Some x) w.1))
-    (cond_cases_of (begins 34 bytes) (as_piece Text (text_at (drop 1 bytes))) others (Some x) h)
+    (λ (v : (begins_with_byte 35 bytes ≡ true) × (directive ≡ Some x)). new_directive-piece fresh known bytes x v.1)
+    (λ (v : (begins_with_byte 35 bytes ≡ false) × (plain_at bytes ≡ Some x)). plain_at-piece bytes x v.1)
+    (cond_cases_of (begins_with_byte 35 bytes) directive (plain_at bytes) (Some x) w.1))
+    (cond_cases_of (begins_with_byte 34 bytes) (as_piece Text (text_at (drop 1 bytes))) others (Some x) h)

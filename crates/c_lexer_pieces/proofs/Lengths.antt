@@ -4,16 +4,15 @@ use Rattle.c_lexer_pieces.proofs.DirectiveReads.{comment-some}
 use Rattle.base_lists.proofs.Tests.{cond_cases_of}
 use Rattle.c_lexer_pieces.specs.declared.bytes.Class.{Class}
 use Rattle.c_lexer_pieces.specs.declared.bytes.Class.TheVariants as class
-use Rattle.c_lexer_pieces.specs.Bytes.{run, past, begins, begins_with}
+use Rattle.c_lexer_pieces.specs.Bytes.{run_of_class, bytes_past_run, begins_with_byte, begins_with}
 use Rattle.c_lexer_pieces.specs.Reading.{with_rest, byte_of, octal_at, hexadecimal_escape_at, escape_at, element_at, trailing_at, comment_at}
 use Rattle.c_lexer_pieces.specs.Values.{simple_escape}
-use Rattle.c_lexer_pieces.specs.Pieces.{IsComment, line, block}
 use Rattle.c_lexer_pieces.proofs.RunLaws.{run-past}
 use Rattle.c_lexer_pieces.proofs.CommentLaws.{comment-splits}
 use Rattle.c_lexer_pieces.proofs.Steps.{bound}
 
-pub past-le : (k : Class) (bytes : List ℕ) → length (past k bytes) ≤ length bytes
-past-le k bytes = omega (arith, ap length (run-past k bytes), length-append (run k bytes) (past k bytes))
+pub past-le : (k : Class) (bytes : List ℕ) → length (bytes_past_run k bytes) ≤ length bytes
+past-le k bytes = omega (arith, ap length (run-past k bytes), length-append (run_of_class k bytes) (bytes_past_run k bytes))
 
 with_rest-is : {A : Type 0} (o : Option A) (rest : List ℕ) (x : A × List ℕ) → with_rest o rest ≡ Some x → x.1 ≡ rest
 with_rest-is o rest x h =
@@ -25,13 +24,13 @@ with_rest-is o rest x h =
 octal-le : (bytes : List ℕ) (x : ℕ × List ℕ) → octal_at bytes ≡ Some x → length x.1 ≤ length bytes
 unfolding octal_at
 octal-le bytes x h =
-    let digits = run class.Octal (take 3 bytes) in
+    let digits = run_of_class class.Octal (take 3 bytes) in
     omega (arith, ap length (with_rest-is (byte_of 8 digits) (drop (length digits) bytes) x h), length-drop (length digits) bytes)
 
 hexadecimal-le : (bytes : List ℕ) (x : ℕ × List ℕ) → hexadecimal_escape_at bytes ≡ Some x → length x.1 ≤ length bytes
 unfolding hexadecimal_escape_at
 hexadecimal-le bytes x h =
-    omega (arith, ap length (with_rest-is (byte_of 16 (run class.Hexadecimal bytes)) (past class.Hexadecimal bytes) x h), past-le class.Hexadecimal bytes)
+    omega (arith, ap length (with_rest-is (byte_of 16 (run_of_class class.Hexadecimal bytes)) (bytes_past_run class.Hexadecimal bytes) x h), past-le class.Hexadecimal bytes)
 
 escape-le : (bytes : List ℕ) (x : ℕ × List ℕ) → escape_at bytes ≡ Some x → length x.1 ≤ length bytes
 unfolding escape_at
@@ -68,6 +67,6 @@ pub trailing-less : (bytes rest : List ℕ) → 0 < length bytes → trailing_at
 unfolding trailing_at
 trailing-less bytes rest nonempty h =
     ⊎_elim
-    (λ (w : ((begins_with class.Blank bytes || begins 13 bytes) ≡ true) × (Some (drop 1 bytes) ≡ Some rest)). let same : drop 1 bytes ≡ rest = cc in omega (arith, ap length same, length-drop 1 bytes))
-    (λ (w : ((begins_with class.Blank bytes || begins 13 bytes) ≡ false) × (comment_at bytes ≡ Some rest)). comment-less bytes rest w.1)
-    (cond_cases_of (begins_with class.Blank bytes || begins 13 bytes) (Some (drop 1 bytes)) (comment_at bytes) (Some rest) h)
+    (λ (w : ((begins_with class.Blank bytes || begins_with_byte 13 bytes) ≡ true) × (Some (drop 1 bytes) ≡ Some rest)). let same : drop 1 bytes ≡ rest = cc in omega (arith, ap length same, length-drop 1 bytes))
+    (λ (w : ((begins_with class.Blank bytes || begins_with_byte 13 bytes) ≡ false) × (comment_at bytes ≡ Some rest)). comment-less bytes rest w.1)
+    (cond_cases_of (begins_with class.Blank bytes || begins_with_byte 13 bytes) (Some (drop 1 bytes)) (comment_at bytes) (Some rest) h)

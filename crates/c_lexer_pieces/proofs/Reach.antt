@@ -9,9 +9,9 @@ use Rattle.cbi_base.specs.Name.{IsName, is_letter}
 use Rattle.c_syntax.specs.declared.parts.Constant.{Constant}
 use Rattle.c_syntax.specs.declared.token.Sign.{Sign}
 use Rattle.c_lexer_pieces.specs.declared.bytes.Class.TheVariants as class
-use Rattle.c_lexer_pieces.specs.Bytes.{run, past, begins, is_separator, is_digit}
-use Rattle.c_lexer_pieces.specs.Spellings.{value_in, signs, sign_spelled}
-use Rattle.c_lexer_pieces.specs.Reading.{first_some, strip, comment_at, number_at, character_at, name_at}
+use Rattle.c_lexer_pieces.specs.Bytes.{run_of_class, bytes_past_run, begins_with_byte, is_separator, is_digit}
+use Rattle.c_lexer_pieces.specs.Spellings.{value_in, sign_table, sign_spelled}
+use Rattle.c_lexer_pieces.specs.Reading.{first_some, strip_byte, comment_at, number_at, character_at, name_at}
 use Rattle.c_lexer_pieces.specs.Cutting.{as_piece, sign_with, sign_at, comment_or_sign, plain_at, line_piece, directive_at, unless_known, new_directive_at, piece_at, is_fresh}
 use Rattle.c_lexer_pieces.specs.Piece.{Piece, Nothing, Name, Constant', Text, Punctuator, Definition, Known}
 use Rattle.c_lexer_pieces.specs.Pieces.{Place, StandsAs, AllOf, RunEnds, IsComment, IsNumber, IsCharacter, IsText, IsInclude, IsDefine}
@@ -121,9 +121,9 @@ opened-hash row body o = (o.rest, strip-some 35 row o.rest o.opens)
 directive-read : (row body after : List ℕ) → Opened row body → AllOf class.Line row → RunEnds class.Line after → directive_at (row ++ after) ≡ line_piece body after
 unfolding directive_at
 directive-read row body after o all stops =
-    let row_is : run class.Line (row ++ after) ≡ row = run-append class.Line row after all stops in
-    let after_is : past class.Line (row ++ after) ≡ after = past-append class.Line row after all stops in
-    (λ i. option_and_then (λ rest. line_piece (past class.Blank rest) (after_is i)) (strip 35 (row_is i))) ∙ ap (λ z. option_and_then (λ rest. line_piece (past class.Blank rest) after) z) o.opens ∙ ap (λ t. line_piece t after) o.is
+    let row_is : run_of_class class.Line (row ++ after) ≡ row = run-append class.Line row after all stops in
+    let after_is : bytes_past_run class.Line (row ++ after) ≡ after = past-append class.Line row after all stops in
+    (λ i. option_and_then (λ rest. line_piece (bytes_past_run class.Blank rest) (after_is i)) (strip_byte 35 (row_is i))) ∙ ap (λ z. option_and_then (λ rest. line_piece (bytes_past_run class.Blank rest) after) z) o.opens ∙ ap (λ t. line_piece t after) o.is
 
 directive-reach : (place : Place) (row body after : List ℕ) → is_fresh place.before ≡ true → Opened row body → AllOf class.Line row → RunEnds class.Line after → piece_at (is_fresh place.before) place.known (row ++ after) ≡ option_and_then (unless_known place.known) (line_piece body after)
 directive-reach place row body after fresh o all stops =
@@ -146,10 +146,10 @@ define-reach place row after defined c fresh h new all stops =
 abbrev is_apart : List ℕ → Bool
 is_apart [] = false
 is_apart (b ∷ bs) =
-    leb (length bs) 2 && (not (is_separator b || is_letter b || is_digit b || eqb b 34 || eqb b 35 || eqb b 39) && (leb (length bs) 0 || not (eqb b 47 && (begins 47 bs || begins 42 bs))))
+    leb (length bs) 2 && (not (is_separator b || is_letter b || is_digit b || eqb b 34 || eqb b 35 || eqb b 39) && (leb (length bs) 0 || not (eqb b 47 && (begins_with_byte 47 bs || begins_with_byte 42 bs))))
 
-all_apart : list_all (λ (e : List ℕ × Sign). is_apart e.0) signs ≡ true
-unfolding signs
+all_apart : list_all (λ (e : List ℕ × Sign). is_apart e.0) sign_table ≡ true
+unfolding sign_table
 all_apart = refl
 
 value-apart : (table : List (List ℕ × Sign)) (bytes : List ℕ) (s : Sign) → list_all (λ (e : List ℕ × Sign). is_apart e.0) table ≡ true → value_in table bytes ≡ Some s → is_apart bytes ≡ true
@@ -167,17 +167,17 @@ pub record Apart (bytes : List ℕ) : Type 0 where
   pub is : bytes ≡ first ∷ others
   pub short : length others ≤ 2
   pub tests : (is_separator first || is_letter first || is_digit first || eqb first 34 || eqb first 35 || eqb first 39) ≡ false
-  pub no_comment : (leb (length others) 0 || not (eqb first 47 && (begins 47 others || begins 42 others))) ≡ true
+  pub no_comment : (leb (length others) 0 || not (eqb first 47 && (begins_with_byte 47 others || begins_with_byte 42 others))) ≡ true
 
 apart-parts : (bytes : List ℕ) → is_apart bytes ≡ true → Apart bytes
 apart-parts [] h = cc
 apart-parts (b ∷ bs) h =
-    let one = and_parts (leb (length bs) 2) (not (is_separator b || is_letter b || is_digit b || eqb b 34 || eqb b 35 || eqb b 39) && (leb (length bs) 0 || not (eqb b 47 && (begins 47 bs || begins 42 bs)))) h in
-    let two = and_parts (not (is_separator b || is_letter b || is_digit b || eqb b 34 || eqb b 35 || eqb b 39)) (leb (length bs) 0 || not (eqb b 47 && (begins 47 bs || begins 42 bs))) one.1 in
+    let one = and_parts (leb (length bs) 2) (not (is_separator b || is_letter b || is_digit b || eqb b 34 || eqb b 35 || eqb b 39) && (leb (length bs) 0 || not (eqb b 47 && (begins_with_byte 47 bs || begins_with_byte 42 bs)))) h in
+    let two = and_parts (not (is_separator b || is_letter b || is_digit b || eqb b 34 || eqb b 35 || eqb b 39)) (leb (length bs) 0 || not (eqb b 47 && (begins_with_byte 47 bs || begins_with_byte 42 bs))) one.1 in
     record { first = b; others = bs; is = refl; short = leb-true (length bs) 2 one.0; tests = not-true _ two.0; no_comment = two.1 }
 
 pub sign-apart : (bytes : List ℕ) (s : Sign) → sign_spelled bytes ≡ Some s → Apart bytes
-sign-apart bytes s h = apart-parts bytes (value-apart signs bytes s all_apart h)
+sign-apart bytes s h = apart-parts bytes (value-apart sign_table bytes s all_apart h)
 
 -- where such a byte begins, a comment or a punctuator is read
 apart-read : (b : ℕ) (rest : List ℕ) → (is_separator b || is_letter b || is_digit b || eqb b 34 || eqb b 35 || eqb b 39) ≡ false → (fresh : Bool) (known : Known) → piece_at fresh known (b ∷ rest) ≡ comment_or_sign (comment_at (b ∷ rest)) (b ∷ rest)
@@ -266,7 +266,7 @@ comment-start front rest (piece.line body is all stops) = record { second = 47; 
 comment-start front rest (piece.block body is close) = record { second = 42; more = body; is = is; one_of = refl }
 
 -- where a punctuator of two or more bytes stands, no comment does
-no-comment : (b : ℕ) (others after rest : List ℕ) (s : CommentStart rest) (tail : List ℕ) → (b ∷ others) ++ after ≡ rest ++ tail → 0 < length others → (leb (length others) 0 || not (eqb b 47 && (begins 47 others || begins 42 others))) ≡ true → ⊥
+no-comment : (b : ℕ) (others after rest : List ℕ) (s : CommentStart rest) (tail : List ℕ) → (b ∷ others) ++ after ≡ rest ++ tail → 0 < length others → (leb (length others) 0 || not (eqb b 47 && (begins_with_byte 47 others || begins_with_byte 42 others))) ≡ true → ⊥
 no-comment b [] after rest s tail e some h = omega arith
 no-comment b (o ∷ os) after rest s tail e some h =
     let whole : b ∷ o ∷ (os ++ after) ≡ 47 ∷ s.second ∷ (s.more ++ tail) = e ∙ ap (λ xs. xs ++ tail) s.is in

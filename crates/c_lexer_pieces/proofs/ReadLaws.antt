@@ -1,6 +1,6 @@
 -- What stands is read.
 use Rattle.std.proofs.Common.{◌≡◌, ◌+◌, ◌^◌, ◌≤◌, ◌<◌, ℕ, zero, suc, length, Bool, true, false, eqb, ltb, lt-ltb, leb, leb-true, List, [], ◌∷◌, ◌++◌, take, drop, Some, None, is_some, refl, ap, sym, ◌∙◌, ⊎_elim, arith, pos, append_assoc, length-append}
-use Rattle.std.proofs.lemmas.Bool.{eqb-true, and_parts, ne_eqb}
+use Rattle.std.proofs.lemmas.Bool.{and_parts, ne_eqb}
 use Rattle.std.proofs.lemmas.Bool.Decides.{nat_tests}
 use Rattle.std.proofs.Math.Seq.{drop-append_seam}
 use Rattle.c_syntax.specs.declared.parts.Constant.{Constant}
@@ -9,8 +9,8 @@ use Rattle.c_lexer_pieces.specs.declared.constants.Radix.{Radix}
 use Rattle.c_lexer_pieces.specs.declared.constants.Radix.TheVariants as radix
 use Rattle.c_lexer_pieces.specs.declared.bytes.Class.{Class}
 use Rattle.c_lexer_pieces.specs.declared.bytes.Class.TheVariants as class
-use Rattle.c_lexer_pieces.specs.Bytes.{has, run, past, begins}
-use Rattle.c_lexer_pieces.specs.Reading.{strip, with_rest, radix_at, suffix_at, small_value, constant_from, number_at, byte_of, octal_at, hexadecimal_escape_at, escape_at, element_at, character_at, text_within, text_at}
+use Rattle.c_lexer_pieces.specs.Bytes.{is_of_class, run_of_class, bytes_past_run, begins_with_byte}
+use Rattle.c_lexer_pieces.specs.Reading.{strip_byte, with_rest, radix_at, suffix_at, small_value, constant_from, number_at, byte_of, octal_at, hexadecimal_escape_at, escape_at, element_at, character_at, text_within, text_at}
 use Rattle.c_lexer_pieces.specs.Values.{class_of, base_of, value_of, kind_of, simple_escape}
 use Rattle.c_lexer_pieces.specs.Pieces.{AllOf, RunEnds, Spells, IsSuffix, IsNumber, IsElement, plain, letter, octal, hexadecimal, AreElements, IsCharacter}
 use Rattle.c_lexer_pieces.proofs.RunLaws.{run-append, past-append, all_of_first}
@@ -29,11 +29,11 @@ byte-read base value digits some is small =
     let below : ltb v 256 ≡ true = lt-ltb v 256 (omega arith) in
     rw (none, small-read base digits (omega (arith)), below, is) refl
 
-run-take : (k : Class) (n : ℕ) (digits after : List ℕ) → AllOf k digits → length digits ≤ n → (length digits < n → RunEnds k after) → run k (take n (digits ++ after)) ≡ digits
+run-take : (k : Class) (n : ℕ) (digits after : List ℕ) → AllOf k digits → length digits ≤ n → (length digits < n → RunEnds k after) → run_of_class k (take n (digits ++ after)) ≡ digits
 run-take k zero [] after all short stops = refl
 run-take k zero (d ∷ ds) after all short stops = absurd (omega arith)
 run-take k (suc n) [] [] all short stops = refl
-run-take k (suc n) [] (a ∷ rest) all short stops = let stop : has k a ≡ false = stops (omega arith) in rw stop refl
+run-take k (suc n) [] (a ∷ rest) all short stops = let stop : is_of_class k a ≡ false = stops (omega arith) in rw stop refl
 run-take k (suc n) (d ∷ ds) after all short stops =
     let first = all_of_first k d ds all in
     rw first.0 (ap (λ xs. d ∷ xs) (run-take k n ds after first.1 (omega arith) (λ h. stops (omega arith))))
@@ -41,7 +41,7 @@ run-take k (suc n) (d ∷ ds) after all short stops =
 octal-read : (value : ℕ) (digits after : List ℕ) → 0 < length digits → length digits ≤ 3 → AllOf class.Octal digits → (length digits < 3 → RunEnds class.Octal after) → value ≡ value_of 8 digits → value < 256 → octal_at (digits ++ after) ≡ Some (value, after)
 unfolding octal_at
 octal-read value digits after some short all stops is small =
-    let front : run class.Octal (take 3 (digits ++ after)) ≡ digits = run-take class.Octal 3 digits after all short stops in
+    let front : run_of_class class.Octal (take 3 (digits ++ after)) ≡ digits = run-take class.Octal 3 digits after all short stops in
     (λ i. with_rest (byte_of 8 (front i)) (drop (length (front i)) (digits ++ after))) ∙ (λ i. with_rest (byte-read 8 value digits some is small i) (drop-append_seam digits after i))
 
 hexadecimal-read : (value : ℕ) (digits after : List ℕ) → 0 < length digits → AllOf class.Hexadecimal digits → RunEnds class.Hexadecimal after → value ≡ value_of 16 digits → value < 256 → hexadecimal_escape_at (digits ++ after) ≡ Some (value, after)
@@ -49,8 +49,8 @@ unfolding hexadecimal_escape_at
 hexadecimal-read value digits after some all stops is small =
     (λ i. with_rest (byte_of 16 (run-append class.Hexadecimal digits after all stops i)) (past-append class.Hexadecimal digits after all stops i)) ∙ (λ i. with_rest (byte-read 16 value digits some is small i) after)
 
-pub octal_range : (d : ℕ) → has class.Octal d ≡ true → (48 ≤ d) × (d ≤ 55)
-unfolding has
+pub octal_range : (d : ℕ) → is_of_class class.Octal d ≡ true → (48 ≤ d) × (d ≤ 55)
+unfolding is_of_class
 octal_range d h = let tests = and_parts (leb 48 d) (leb d 55) h in (leb-true 48 d tests.0, leb-true d 55 tests.1)
 
 no_octal_escape : (d : ℕ) → 48 ≤ d → d ≤ 55 → is_some (simple_escape d) ≡ false
@@ -89,7 +89,7 @@ character-read bytes after constant h =
     rw (is, e, h.constant_is) refl
 
 -- an element has a first byte that isn't its quote
-element-begins : (quote value : ℕ) (bytes rest : List ℕ) (after : List ℕ) → eqb 92 quote ≡ false → IsElement quote bytes after value → begins quote (bytes ++ rest) ≡ false
+element-begins : (quote value : ℕ) (bytes rest : List ℕ) (after : List ℕ) → eqb 92 quote ≡ false → IsElement quote bytes after value → begins_with_byte quote (bytes ++ rest) ≡ false
 element-begins quote value bytes rest after q (plain is line other slash) = rw is (ne_eqb value quote other)
 element-begins quote value bytes rest after q (letter c is e) = rw is q
 element-begins quote value bytes rest after q (octal digits is some short all stops v small) = rw is q
@@ -112,7 +112,7 @@ text_within-read (suc n) inner [] after h less = rw h refl
 text_within-read (suc n) inner (v ∷ vs) after h less =
     let tail = 34 ∷ after in
     let is : inner ++ tail ≡ h.0 ++ (h.1 ++ tail) = ap (λ xs. xs ++ tail) h.2 ∙ append_assoc h.0 h.1 tail in
-    let begun : begins 34 (h.0 ++ (h.1 ++ tail)) ≡ false = element-begins 34 v h.0 (h.1 ++ tail) (h.1 ++ tail) refl h.3 in
+    let begun : begins_with_byte 34 (h.0 ++ (h.1 ++ tail)) ≡ false = element-begins 34 v h.0 (h.1 ++ tail) (h.1 ++ tail) refl h.3 in
     let read : element_at 34 (h.0 ++ (h.1 ++ tail)) ≡ Some (v, h.1 ++ tail) = element-read 34 v h.0 (h.1 ++ tail) refl h.3 in
     let rest : text_within n (h.1 ++ tail) ≡ Some (vs, after) = text_within-read n h.1 vs after h.4 (omega arith) in
     rw (is, begun, read, rest) refl
@@ -124,14 +124,14 @@ text-read inner values after h =
 
 -- Numbers
 
-strip-none : (b : ℕ) (bytes : List ℕ) → begins b bytes ≡ false → strip b bytes ≡ None
+strip-none : (b : ℕ) (bytes : List ℕ) → begins_with_byte b bytes ≡ false → strip_byte b bytes ≡ None
 strip-none b [] h = refl
 strip-none b (c ∷ cs) h = rw h refl
 
 -- what follows a constant's digits begins with no `x`
 record NoX (bytes : List ℕ) : Type 0 where
-  lower : begins 120 bytes ≡ false
-  upper : begins 88 bytes ≡ false
+  lower : begins_with_byte 120 bytes ≡ false
+  upper : begins_with_byte 88 bytes ≡ false
 
 octal-NoX : (digits rest : List ℕ) → AllOf class.Octal digits → NoX rest → NoX (digits ++ rest)
 octal-NoX [] rest all none = none
@@ -139,14 +139,14 @@ octal-NoX (d ∷ ds) rest all none =
     let range = octal_range d (all_of_first class.Octal d ds all).0 in
     record { lower = ne_eqb d 120 (λ e. omega (arith, range.1)); upper = ne_eqb d 88 (λ e. omega (arith, range.1)) }
 
-octal_radix-read : (digits rest : List ℕ) → begins 48 digits ≡ true → AllOf class.Octal digits → NoX rest → radix_at (digits ++ rest) ≡ (radix.Octal, digits ++ rest)
+octal_radix-read : (digits rest : List ℕ) → begins_with_byte 48 digits ≡ true → AllOf class.Octal digits → NoX rest → radix_at (digits ++ rest) ≡ (radix.Octal, digits ++ rest)
 unfolding radix_at
 octal_radix-read [] rest h all none = cc
 octal_radix-read (d ∷ ds) rest h all none =
     let inner = octal-NoX ds rest (all_of_first class.Octal d ds all).1 none in
     rw (h, inner.lower, strip-none 88 (ds ++ rest) inner.upper) (rw h refl)
 
-decimal_radix-read : (digits rest : List ℕ) → 0 < length digits → begins 48 digits ≡ false → radix_at (digits ++ rest) ≡ (radix.Decimal, digits ++ rest)
+decimal_radix-read : (digits rest : List ℕ) → 0 < length digits → begins_with_byte 48 digits ≡ false → radix_at (digits ++ rest) ≡ (radix.Decimal, digits ++ rest)
 unfolding radix_at
 decimal_radix-read [] rest some h = absurd (omega arith)
 decimal_radix-read (d ∷ ds) rest some h = rw h (rw h refl)
@@ -159,12 +159,12 @@ radix-read radix.Hexadecimal spelled digits rest h some all none =
     ⊎_elim (λ (w : spelled ≡ 48 ∷ 120 ∷ digits). rw w refl) (λ (w : spelled ≡ 48 ∷ 88 ∷ digits). rw w refl) h
 
 -- a byte that is in no number is none of these
-number_byte : (c : ℕ) (after : List ℕ) → has class.Number c ≡ true → RunEnds class.Number after → begins c after ≡ false
+number_byte : (c : ℕ) (after : List ℕ) → is_of_class class.Number c ≡ true → RunEnds class.Number after → begins_with_byte c after ≡ false
 number_byte c [] h stops = refl
-number_byte c (a ∷ rest) h stops = ne_eqb a c (λ e. let there : has class.Number a ≡ true = ap (has class.Number) e ∙ h in let not_there : has class.Number a ≡ false = stops in cc)
+number_byte c (a ∷ rest) h stops = ne_eqb a c (λ e. let there : is_of_class class.Number a ≡ true = ap (is_of_class class.Number) e ∙ h in let not_there : is_of_class class.Number a ≡ false = stops in cc)
 
-letters_in_number : (has class.Number 117 ≡ true) × (has class.Number 85 ≡ true) × (has class.Number 120 ≡ true) × (has class.Number 88 ≡ true)
-unfolding has
+letters_in_number : (is_of_class class.Number 117 ≡ true) × (is_of_class class.Number 85 ≡ true) × (is_of_class class.Number 120 ≡ true) × (is_of_class class.Number 88 ≡ true)
+unfolding is_of_class
 letters_in_number = (refl, refl, refl, refl)
 
 suffix-read : (suffixed : Bool) (suffix after : List ℕ) → IsSuffix suffixed suffix → RunEnds class.Number after → suffix_at (suffix ++ after) ≡ (suffixed, after)
@@ -177,14 +177,14 @@ suffix-NoX false suffix after h stops = rw h (record { lower = number_byte 120 a
 suffix-NoX true suffix after h stops = ⊎_elim (λ (w : suffix ≡ 117 ∷ []). rw w (record { lower = refl; upper = refl })) (λ (w : suffix ≡ 85 ∷ []). rw w (record { lower = refl; upper = refl })) h
 
 -- digits are in numbers
-digit_in_number : (r : Radix) (b : ℕ) → has (class_of r) b ≡ true → has class.Number b ≡ true
-unfolding has
+digit_in_number : (r : Radix) (b : ℕ) → is_of_class (class_of r) b ≡ true → is_of_class class.Number b ≡ true
+unfolding is_of_class
 digit_in_number radix.Octal b h = grind (arith, nat_tests)
 digit_in_number radix.Decimal b h = grind (arith, nat_tests)
 digit_in_number radix.Hexadecimal b h = grind (arith, nat_tests)
 
-no_suffix_digit : (r : Radix) → (has (class_of r) 117 ≡ false) × (has (class_of r) 85 ≡ false)
-unfolding has
+no_suffix_digit : (r : Radix) → (is_of_class (class_of r) 117 ≡ false) × (is_of_class (class_of r) 85 ≡ false)
+unfolding is_of_class
 no_suffix_digit radix.Octal = (refl, refl)
 no_suffix_digit radix.Decimal = (refl, refl)
 no_suffix_digit radix.Hexadecimal = (refl, refl)
@@ -192,8 +192,8 @@ no_suffix_digit radix.Hexadecimal = (refl, refl)
 digits-stop : (r : Radix) (after : List ℕ) → RunEnds class.Number after → RunEnds (class_of r) after
 digits-stop r [] stops = refl
 digits-stop r (a ∷ rest) stops =
-    elim (has (class_of r) a) as (λ v. has (class_of r) a ≡ v → has (class_of r) a ≡ false) [
-      | true ↦ λ e. let there = digit_in_number r a e in let not_there : has class.Number a ≡ false = stops in cc
+    elim (is_of_class (class_of r) a) as (λ v. is_of_class (class_of r) a ≡ v → is_of_class (class_of r) a ≡ false) [
+      | true ↦ λ e. let there = digit_in_number r a e in let not_there : is_of_class class.Number a ≡ false = stops in cc
       | false ↦ λ e. e
     ] refl
 
@@ -219,11 +219,11 @@ number-read bytes after constant h =
     let is : bytes ++ after ≡ h.spelled ++ rest = ap (λ xs. xs ++ after) h.is ∙ append_assoc h.spelled h.suffix after in
     let start = radix-read r h.spelled h.digits rest h.spells h.has_digit h.all_digits (suffix-NoX h.suffixed h.suffix after h.is_suffix h.whole) in
     let stops = suffix-stops r h.suffixed h.suffix after h.is_suffix h.whole in
-    let digits_read : run (class_of r) (h.digits ++ rest) ≡ h.digits = run-append (class_of r) h.digits rest h.all_digits stops in
-    let rest_read : past (class_of r) (h.digits ++ rest) ≡ rest = past-append (class_of r) h.digits rest h.all_digits stops in
+    let digits_read : run_of_class (class_of r) (h.digits ++ rest) ≡ h.digits = run-append (class_of r) h.digits rest h.all_digits stops in
+    let rest_read : bytes_past_run (class_of r) (h.digits ++ rest) ≡ rest = past-append (class_of r) h.digits rest h.all_digits stops in
     let end_read : suffix_at rest ≡ (h.suffixed, after) = suffix-read h.suffixed h.suffix after h.is_suffix h.whole in
     ap (λ xs. number_at xs) is ∙
-    ap (λ (z : Radix × List ℕ). constant_from z.0 (run (class_of z.0) z.1) (suffix_at (past (class_of z.0) z.1))) start ∙
+    ap (λ (z : Radix × List ℕ). constant_from z.0 (run_of_class (class_of z.0) z.1) (suffix_at (bytes_past_run (class_of z.0) z.1))) start ∙
     (λ i. constant_from r (digits_read i) (suffix_at (rest_read i))) ∙
     ap (constant_from r h.digits) end_read ∙
     constant-read r h.digits h.suffixed after constant h.has_digit h.whole h.kind h.value

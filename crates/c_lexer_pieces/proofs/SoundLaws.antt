@@ -9,15 +9,15 @@ use Rattle.c_lexer_pieces.specs.declared.constants.Radix.{Radix}
 use Rattle.c_lexer_pieces.specs.declared.constants.Radix.TheVariants as radix
 use Rattle.c_lexer_pieces.specs.declared.bytes.Class.{Class}
 use Rattle.c_lexer_pieces.specs.declared.bytes.Class.TheVariants as class
-use Rattle.c_lexer_pieces.specs.Bytes.{has, run, past, begins, begins_with}
-use Rattle.c_lexer_pieces.specs.Reading.{strip, with_rest, hexadecimal_at, radix_from, radix_at, suffix_at, small_value, number_at, byte_of, octal_at, hexadecimal_escape_at, escape_at, element_at, character_at, text_within}
+use Rattle.c_lexer_pieces.specs.Bytes.{is_of_class, run_of_class, bytes_past_run, begins_with_byte, begins_with}
+use Rattle.c_lexer_pieces.specs.Reading.{strip_byte, with_rest, hexadecimal_at, radix_from, radix_at, suffix_at, small_value, number_at, byte_of, octal_at, hexadecimal_escape_at, escape_at, element_at, character_at, text_within}
 use Rattle.c_lexer_pieces.specs.Values.{class_of, base_of, value_of, kind_of, simple_escape}
 use Rattle.c_lexer_pieces.specs.Pieces.{RunEnds, Spells, IsSuffix, IsNumber, IsElement, plain, letter, octal, hexadecimal, AreElements, IsCharacter}
 use Rattle.c_lexer_pieces.proofs.RunLaws.{run-past, run-AllOf, past-RunEnds}
 use Rattle.c_lexer_pieces.proofs.Fronts.{constant-parts, character-parts}
 use Rattle.c_lexer_pieces.proofs.Steps.{bound, some_unless, strip-some}
 
-begins-front : (c : ℕ) (front rest : List ℕ) → 0 < length front → begins c (front ++ rest) ≡ begins c front
+begins-front : (c : ℕ) (front rest : List ℕ) → 0 < length front → begins_with_byte c (front ++ rest) ≡ begins_with_byte c front
 begins-front c [] rest h = absurd (omega arith)
 begins-front c (b ∷ bs) rest h = refl
 
@@ -28,32 +28,32 @@ record Spelled (bytes digits after : List ℕ) (r : Radix) : Type 0 where
   is : bytes ≡ spelled ++ after
   spells : Spells r spelled digits
 
-plain-spelled : (bytes digits after : List ℕ) → bytes ≡ digits ++ after → 0 < length digits → Spelled bytes digits after (cond (begins 48 bytes) radix.Octal radix.Decimal)
+plain-spelled : (bytes digits after : List ℕ) → bytes ≡ digits ++ after → 0 < length digits → Spelled bytes digits after (cond (begins_with_byte 48 bytes) radix.Octal radix.Decimal)
 plain-spelled bytes digits after is some =
-    let first : begins 48 digits ≡ begins 48 bytes = sym (begins-front 48 digits after some) ∙ ap (begins 48) (sym is) in
-    elim (begins 48 bytes) as (λ v. begins 48 bytes ≡ v → Spelled bytes digits after (cond v radix.Octal radix.Decimal)) [
+    let first : begins_with_byte 48 digits ≡ begins_with_byte 48 bytes = sym (begins-front 48 digits after some) ∙ ap (begins_with_byte 48) (sym is) in
+    elim (begins_with_byte 48 bytes) as (λ v. begins_with_byte 48 bytes ≡ v → Spelled bytes digits after (cond v radix.Octal radix.Decimal)) [
       | true ↦ λ e. record { spelled = digits; is = is; spells = (refl, first ∙ e) }
       | false ↦ λ e. record { spelled = digits; is = is; spells = (refl, first ∙ e) }
     ] refl
 
 hexadecimal-spelled : (bytes start digits after : List ℕ) → hexadecimal_at bytes ≡ Some start → start ≡ digits ++ after → Spelled bytes digits after radix.Hexadecimal
 hexadecimal-spelled bytes start digits after h is =
-    let a = bound (strip 48 bytes) (λ rest. cond (begins 120 rest) (Some (drop 1 rest)) (strip 88 rest)) start h in
+    let a = bound (strip_byte 48 bytes) (λ rest. cond (begins_with_byte 120 rest) (Some (drop 1 rest)) (strip_byte 88 rest)) start h in
     let front = strip-some 48 bytes a.value a.is in
     ⊎_elim
-    (λ (w : (begins 120 a.value ≡ true) × (Some (drop 1 a.value) ≡ Some start)).
+    (λ (w : (begins_with_byte 120 a.value ≡ true) × (Some (drop 1 a.value) ≡ Some start)).
     let same : drop 1 a.value ≡ start = cc in
     record {
       spelled = 48 ∷ 120 ∷ digits;
       is = front ∙ ap (λ xs. 48 ∷ xs) (begins-is 120 a.value w.0 ∙ ap (λ xs. 120 ∷ xs) (same ∙ is));
       spells = inl refl;
     })
-    (λ (w : (begins 120 a.value ≡ false) × (strip 88 a.value ≡ Some start)). record {
+    (λ (w : (begins_with_byte 120 a.value ≡ false) × (strip_byte 88 a.value ≡ Some start)). record {
       spelled = 48 ∷ 88 ∷ digits;
       is = front ∙ ap (λ xs. 48 ∷ xs) (strip-some 88 a.value start w.1 ∙ ap (λ xs. 88 ∷ xs) is);
       spells = inr refl;
     })
-    (cond_cases_of (begins 120 a.value) (Some (drop 1 a.value)) (strip 88 a.value) (Some start) a.then)
+    (cond_cases_of (begins_with_byte 120 a.value) (Some (drop 1 a.value)) (strip_byte 88 a.value) (Some start) a.then)
 
 radix-spelled : (bytes digits after : List ℕ) → (radix_at bytes).1 ≡ digits ++ after → 0 < length digits → Spelled bytes digits after (radix_at bytes).0
 unfolding radix_at
@@ -94,8 +94,8 @@ unfolding number_at
 number-found bytes x h =
     let r = (radix_at bytes).0 in
     let start = (radix_at bytes).1 in
-    let digits = run (class_of r) start in
-    let after = past (class_of r) start in
+    let digits = run_of_class (class_of r) start in
+    let after = bytes_past_run (class_of r) start in
     let p = constant-parts r digits (suffix_at after) x h in
     let s = radix-spelled bytes digits after (sym (run-past (class_of r) start)) p.has_digit in
     let f = suffix-found after in
@@ -131,12 +131,12 @@ record FrontRun (k : Class) (n : ℕ) (bytes digits : List ℕ) : Type 0 where
 run-longer : (k : Class) (n b : ℕ) (bs digits : List ℕ) → FrontRun k n bs digits → FrontRun k (suc n) (b ∷ bs) (b ∷ digits)
 run-longer k n b bs digits inner = record { is = ap (λ xs. b ∷ xs) inner.is; short = omega (arith, inner.short); stops = λ h. inner.stops (omega arith) }
 
-front-run : (k : Class) (n : ℕ) (bytes : List ℕ) → FrontRun k n bytes (run k (take n bytes))
+front-run : (k : Class) (n : ℕ) (bytes : List ℕ) → FrontRun k n bytes (run_of_class k (take n bytes))
 front-run k zero bytes = record { is = refl; short = omega arith; stops = λ h. absurd (omega arith) }
 front-run k (suc n) [] = record { is = refl; short = omega arith; stops = λ h. refl }
 front-run k (suc n) (b ∷ bs) =
-    elim (has k b) as (λ v. has k b ≡ v → FrontRun k (suc n) (b ∷ bs) (cond v (b ∷ run k (take n bs)) [])) [
-      | true ↦ λ e. run-longer k n b bs (run k (take n bs)) (front-run k n bs)
+    elim (is_of_class k b) as (λ v. is_of_class k b ≡ v → FrontRun k (suc n) (b ∷ bs) (cond v (b ∷ run_of_class k (take n bs)) [])) [
+      | true ↦ λ e. run-longer k n b bs (run_of_class k (take n bs)) (front-run k n bs)
       | false ↦ λ e. record { is = refl; short = omega arith; stops = λ h. e }
     ] refl
 
@@ -171,7 +171,7 @@ pub record ElementFound (quote : ℕ) (bytes : List ℕ) (x : ℕ × List ℕ) :
 octal-found : (quote : ℕ) (bytes : List ℕ) (x : ℕ × List ℕ) → octal_at bytes ≡ Some x → ElementFound quote (92 ∷ bytes) x
 unfolding octal_at
 octal-found quote bytes x h =
-    let digits = run class.Octal (take 3 bytes) in
+    let digits = run_of_class class.Octal (take 3 bytes) in
     let parts = with_rest-parts (byte_of 8 digits) (drop (length digits) bytes) x h in
     let byte = byte-parts 8 digits x.0 parts.0 in
     let front = front-run class.Octal 3 bytes in
@@ -184,8 +184,8 @@ octal-found quote bytes x h =
 hexadecimal-found : (quote : ℕ) (bytes : List ℕ) (x : ℕ × List ℕ) → hexadecimal_escape_at bytes ≡ Some x → ElementFound quote (92 ∷ 120 ∷ bytes) x
 unfolding hexadecimal_escape_at
 hexadecimal-found quote bytes x h =
-    let digits = run class.Hexadecimal bytes in
-    let parts = with_rest-parts (byte_of 16 digits) (past class.Hexadecimal bytes) x h in
+    let digits = run_of_class class.Hexadecimal bytes in
+    let parts = with_rest-parts (byte_of 16 digits) (bytes_past_run class.Hexadecimal bytes) x h in
     let byte = byte-parts 16 digits x.0 parts.0 in
     record {
       front = 92 ∷ 120 ∷ digits;
@@ -259,7 +259,7 @@ pub record TextFound (bytes : List ℕ) (x : List ℕ × List ℕ) : Type 0 wher
   pub is : bytes ≡ inner ++ 34 ∷ x.1
   pub elements : AreElements inner x.0 (34 ∷ x.1)
 
-text-closed : (bytes : List ℕ) (x : List ℕ × List ℕ) → begins 34 bytes ≡ true → ([], drop 1 bytes) ≡ x → TextFound bytes x
+text-closed : (bytes : List ℕ) (x : List ℕ × List ℕ) → begins_with_byte 34 bytes ≡ true → ([], drop 1 bytes) ≡ x → TextFound bytes x
 text-closed bytes x h e = subst (TextFound bytes) e (record { inner = []; is = begins-is 34 bytes h; elements = refl })
 
 text-more : (bytes : List ℕ) (e : ℕ × List ℕ) (t x : List ℕ × List ℕ) → ElementFound 34 bytes e → TextFound e.1 t → (e.0 ∷ t.0, t.1) ≡ x → TextFound bytes x
@@ -274,9 +274,9 @@ pub text-found : (n : ℕ) (bytes : List ℕ) (x : List ℕ × List ℕ) → tex
 text-found zero bytes x h = cc
 text-found (suc n) bytes x h =
     ⊎_elim
-    (λ (w : (begins 34 bytes ≡ true) × (Some ([], drop 1 bytes) ≡ Some x)). text-closed bytes x w.0 (let e : Some ([], drop 1 bytes) ≡ Some x = w.1 in cc))
-    (λ (w : (begins 34 bytes ≡ false) × (option_and_then (λ e. option_and_then (λ t. Some (e.0 ∷ t.0, t.1)) (text_within n e.1)) (element_at 34 bytes) ≡ Some x)).
+    (λ (w : (begins_with_byte 34 bytes ≡ true) × (Some ([], drop 1 bytes) ≡ Some x)). text-closed bytes x w.0 (let e : Some ([], drop 1 bytes) ≡ Some x = w.1 in cc))
+    (λ (w : (begins_with_byte 34 bytes ≡ false) × (option_and_then (λ e. option_and_then (λ t. Some (e.0 ∷ t.0, t.1)) (text_within n e.1)) (element_at 34 bytes) ≡ Some x)).
     let a = bound (element_at 34 bytes) (λ e. option_and_then (λ t. Some (e.0 ∷ t.0, t.1)) (text_within n e.1)) x w.1 in
     let b = bound (text_within n a.value.1) (λ t. Some (a.value.0 ∷ t.0, t.1)) x a.then in
     text-more bytes a.value b.value x (element-found 34 bytes a.value a.is) (text-found n a.value.1 b.value b.is) (let e : Some (a.value.0 ∷ b.value.0, b.value.1) ≡ Some x = b.then in cc))
-    (cond_cases_of (begins 34 bytes) (Some ([], drop 1 bytes)) (option_and_then (λ e. option_and_then (λ t. Some (e.0 ∷ t.0, t.1)) (text_within n e.1)) (element_at 34 bytes)) (Some x) h)
+    (cond_cases_of (begins_with_byte 34 bytes) (Some ([], drop 1 bytes)) (option_and_then (λ e. option_and_then (λ t. Some (e.0 ∷ t.0, t.1)) (text_within n e.1)) (element_at 34 bytes)) (Some x) h)

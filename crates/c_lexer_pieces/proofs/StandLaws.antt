@@ -6,9 +6,9 @@ use Rattle.base_lists.proofs.Options.{not_some}
 use Rattle.cbi_base.specs.Name.{is_letter}
 use Rattle.c_syntax.specs.declared.token.Sign.{Sign}
 use Rattle.c_lexer_pieces.specs.declared.bytes.Class.TheVariants as class
-use Rattle.c_lexer_pieces.specs.Bytes.{run, past, begins, is_separator, is_digit}
+use Rattle.c_lexer_pieces.specs.Bytes.{run_of_class, bytes_past_run, begins_with_byte, is_separator, is_digit}
 use Rattle.c_lexer_pieces.specs.Spellings.{sign_spelled}
-use Rattle.c_lexer_pieces.specs.Reading.{first_some, strip, comment_at, number_at, character_at, text_at, name_at, is_include, define_in}
+use Rattle.c_lexer_pieces.specs.Reading.{first_some, strip_byte, comment_at, number_at, character_at, text_at, name_at, is_include, define_in}
 use Rattle.c_lexer_pieces.specs.Cutting.{as_piece, sign_with, sign_at, comment_or_sign, plain_at, line_piece, directive_at, unless_known, new_directive_at, piece_at, is_fresh}
 use Rattle.c_lexer_pieces.specs.Piece.{Piece, Nothing, Name, Constant', Text, Punctuator, Definition}
 use Rattle.c_lexer_pieces.specs.Pieces.{Place, StandsAs, separator, comment, name, number, character, text, punctuator, include, define, RunEnds}
@@ -104,7 +104,7 @@ plain-stands place (b ∷ bs) x h =
     (cond_cases_of (is_letter b) (as_piece Name (name_at (b ∷ bs))) two (Some x) w.1))
     (cond_cases_of (is_separator b) (Some (Nothing, bs)) one (Some x) h)
 
-text-stands : (place : Place) (left : List ℕ) (y : List ℕ × List ℕ) → begins 34 left ≡ true → text_at (drop 1 left) ≡ Some y → StandsFound place left (Text y.0, y.1)
+text-stands : (place : Place) (left : List ℕ) (y : List ℕ × List ℕ) → begins_with_byte 34 left ≡ true → text_at (drop 1 left) ≡ Some y → StandsFound place left (Text y.0, y.1)
 unfolding text_at
 text-stands place [] y h f = cc
 text-stands place (b ∷ bs) y h f =
@@ -120,12 +120,12 @@ text-stands place (b ∷ bs) y h f =
 directive-stands : (place : Place) (left : List ℕ) (x : Piece × List ℕ) → is_fresh place.before ≡ true → new_directive_at place.known left ≡ Some x → StandsFound place left x
 unfolding directive_at
 directive-stands place left x fresh h =
-    let line = run class.Line left in
-    let after = past class.Line left in
+    let line = run_of_class class.Line left in
+    let after = bytes_past_run class.Line left in
     let whole : left ≡ line ++ after = sym (run-past class.Line left) in
     let a = bound (directive_at left) (unless_known place.known) x h in
-    let b = bound (strip 35 line) (λ rest. line_piece (past class.Blank rest) after) a.value a.is in
-    let text = past class.Blank b.value in
+    let b = bound (strip_byte 35 line) (λ rest. line_piece (bytes_past_run class.Blank rest) after) a.value a.is in
+    let text = bytes_past_run class.Blank b.value in
     ⊎_elim
     (λ (w : (is_include text ≡ true) × (Some (Nothing, after) ≡ Some a.value)).
     let same : (Nothing, after) ≡ a.value = let e : Some (Nothing, after) ≡ Some a.value = w.1 in cc in
@@ -150,16 +150,16 @@ unfolding piece_at
 piece-stands place left x h =
     let fresh = is_fresh place.before in
     let directive = cond fresh (new_directive_at place.known left) None in
-    let others = cond (begins 35 left) directive (plain_at left) in
+    let others = cond (begins_with_byte 35 left) directive (plain_at left) in
     ⊎_elim
-    (λ (w : (begins 34 left ≡ true) × (as_piece Text (text_at (drop 1 left)) ≡ Some x)). as-found Text place left (text_at (drop 1 left)) x (λ y g. text-stands place left y w.0 g) w.1)
-    (λ (w : (begins 34 left ≡ false) × (others ≡ Some x)).
+    (λ (w : (begins_with_byte 34 left ≡ true) × (as_piece Text (text_at (drop 1 left)) ≡ Some x)). as-found Text place left (text_at (drop 1 left)) x (λ y g. text-stands place left y w.0 g) w.1)
+    (λ (w : (begins_with_byte 34 left ≡ false) × (others ≡ Some x)).
     ⊎_elim
-    (λ (v : (begins 35 left ≡ true) × (directive ≡ Some x)).
+    (λ (v : (begins_with_byte 35 left ≡ true) × (directive ≡ Some x)).
     ⊎_elim
     (λ (u : (fresh ≡ true) × (new_directive_at place.known left ≡ Some x)). directive-stands place left x u.0 u.1)
     (λ (u : (fresh ≡ false) × (None ≡ Some x)). absurd cc)
     (cond_cases_of fresh (new_directive_at place.known left) None (Some x) v.1))
-    (λ (v : (begins 35 left ≡ false) × (plain_at left ≡ Some x)). plain-stands place left x v.1)
-    (cond_cases_of (begins 35 left) directive (plain_at left) (Some x) w.1))
-    (cond_cases_of (begins 34 left) (as_piece Text (text_at (drop 1 left))) others (Some x) h)
+    (λ (v : (begins_with_byte 35 left ≡ false) × (plain_at left ≡ Some x)). plain-stands place left x v.1)
+    (cond_cases_of (begins_with_byte 35 left) directive (plain_at left) (Some x) w.1))
+    (cond_cases_of (begins_with_byte 34 left) (as_piece Text (text_at (drop 1 left))) others (Some x) h)

@@ -17,14 +17,14 @@ is_digit b = is_within 48 57 b
 abbrev pub is_hexadecimal : ℕ → Bool
 is_hexadecimal b = is_digit b || (is_within 65 70 b || is_within 97 102 b)
 
-unfoldable pub has : Class → ℕ → Bool
-has class.Name b = is_name_byte b
-has class.Number b = is_name_byte b || (b == 46)
-has class.Octal b = is_within 48 55 b
-has class.Decimal b = is_digit b
-has class.Hexadecimal b = is_hexadecimal b
-has class.Blank b = (b == 32) || (b == 9)
-has class.Line b = not (b == 10)
+unfoldable pub is_of_class : Class → ℕ → Bool
+is_of_class class.Name b = is_name_byte b
+is_of_class class.Number b = is_name_byte b || (b == 46)
+is_of_class class.Octal b = is_within 48 55 b
+is_of_class class.Decimal b = is_digit b
+is_of_class class.Hexadecimal b = is_hexadecimal b
+is_of_class class.Blank b = (b == 32) || (b == 9)
+is_of_class class.Line b = not (b == 10)
 
 -- what a digit counts, up to hexadecimal
 abbrev pub digit_value : ℕ → ℕ
@@ -34,20 +34,20 @@ abbrev pub newlines : List ℕ → ℕ
 newlines bytes = count_by (λ b. b == 10) bytes
 
 -- Whether the byte comes next.
-abbrev pub begins : ℕ → List ℕ → Bool
-begins c [] = false
-begins c (b ∷ bs) = b == c
+abbrev pub begins_with_byte : ℕ → List ℕ → Bool
+begins_with_byte c [] = false
+begins_with_byte c (b ∷ bs) = b == c
 
 -- Whether a byte of the class comes next.
 abbrev pub begins_with : Class → List ℕ → Bool
 begins_with k [] = false
-begins_with k (b ∷ bs) = has k b
+begins_with k (b ∷ bs) = is_of_class k b
 
 -- the longest front of bytes of the class, and what follows it
-abbrev pub run : Class → List ℕ → List ℕ
-run k [] = []
-run k (b ∷ bs) = if has k b then b ∷ run k bs else []
+abbrev pub run_of_class : Class → List ℕ → List ℕ
+run_of_class k [] = []
+run_of_class k (b ∷ bs) = if is_of_class k b then b ∷ run_of_class k bs else []
 
-abbrev pub past : Class → List ℕ → List ℕ
-past k [] = []
-past k (b ∷ bs) = if has k b then past k bs else b ∷ bs
+abbrev pub bytes_past_run : Class → List ℕ → List ℕ
+bytes_past_run k [] = []
+bytes_past_run k (b ∷ bs) = if is_of_class k b then bytes_past_run k bs else b ∷ bs

@@ -4,9 +4,9 @@ use Rattle.c_syntax.specs.declared.token.Sign.{Sign}
 use Rattle.cbi_base.specs.Name.{is_letter}
 use Rattle.c_lexer_pieces.specs.declared.bytes.Class.TheVariants as class
 use Rattle.c_lexer_pieces.specs.Piece.{Piece, Nothing, Name, Constant', Text, Punctuator, Definition, Known}
-use Rattle.c_lexer_pieces.specs.Bytes.{has, is_separator, is_digit, begins, run, past}
+use Rattle.c_lexer_pieces.specs.Bytes.{is_of_class, is_separator, is_digit, begins_with_byte, run_of_class, bytes_past_run}
 use Rattle.c_lexer_pieces.specs.Spellings.{sign_spelled}
-use Rattle.c_lexer_pieces.specs.Reading.{◌>>=◌, first_some, strip, comment_at, number_at, character_at, text_at, name_at, is_include, define_in}
+use Rattle.c_lexer_pieces.specs.Reading.{◌>>=◌, first_some, strip_byte, comment_at, number_at, character_at, text_at, name_at, is_include, define_in}
 
 abbrev pub as_piece : {A : Type 0} → (A → Piece) → Option (A × List ℕ) → Option (Piece × List ℕ)
 as_piece f None = None
@@ -38,7 +38,7 @@ line_piece text after = if is_include text then Some (Nothing, after) else (defi
 
 -- a directive, which takes its whole line
 unfoldable pub directive_at : List ℕ → Option (Piece × List ℕ)
-directive_at bytes = strip 35 (run class.Line bytes) >>= λ rest. line_piece (past class.Blank rest) (past class.Line bytes)
+directive_at bytes = strip_byte 35 (run_of_class class.Line bytes) >>= λ rest. line_piece (bytes_past_run class.Blank rest) (bytes_past_run class.Line bytes)
 
 -- A name is defined once.
 abbrev pub unless_known : Known → Piece × List ℕ → Option (Piece × List ℕ)
@@ -52,7 +52,7 @@ new_directive_at known bytes = directive_at bytes >>= unless_known known
 -- whether only spaces and tabs stand before a place on its line, where it is known of a place before these bytes
 abbrev pub fresh_from : Bool → List ℕ → Bool
 fresh_from fresh [] = fresh
-fresh_from fresh (b ∷ bs) = fresh_from ((b == 10) || has class.Blank b && fresh) bs
+fresh_from fresh (b ∷ bs) = fresh_from ((b == 10) || is_of_class class.Blank b && fresh) bs
 
 abbrev pub is_fresh : List ℕ → Bool
 is_fresh before = fresh_from true before
@@ -60,6 +60,6 @@ is_fresh before = fresh_from true before
 -- The piece at the front: `fresh` says whether only spaces and tabs stand before it on its line.
 unfoldable pub piece_at : Bool → Known → List ℕ → Option (Piece × List ℕ)
 piece_at fresh known bytes =
-    if begins 34 bytes then as_piece Text (text_at (drop 1 bytes))
-    else (if begins 35 bytes then (if fresh then new_directive_at known bytes else None)
+    if begins_with_byte 34 bytes then as_piece Text (text_at (drop 1 bytes))
+    else (if begins_with_byte 35 bytes then (if fresh then new_directive_at known bytes else None)
     else plain_at bytes)

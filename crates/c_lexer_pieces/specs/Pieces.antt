@@ -9,14 +9,14 @@ use Rattle.c_lexer_pieces.specs.declared.bytes.Class.{Class}
 use Rattle.c_lexer_pieces.specs.declared.bytes.Class.TheVariants as class
 use Rattle.c_lexer_pieces.specs.declared.constants.Radix.{Radix}
 use Rattle.c_lexer_pieces.specs.declared.constants.Radix.TheVariants as radix
-use Rattle.c_lexer_pieces.specs.Bytes.{has, begins, begins_with, is_separator}
+use Rattle.c_lexer_pieces.specs.Bytes.{is_of_class, begins_with_byte, begins_with, is_separator}
 use Rattle.c_lexer_pieces.specs.Values.{after_close, class_of, base_of, value_of, kind_of, simple_escape, signed_byte}
 use Rattle.c_lexer_pieces.specs.Spellings.{word_of, sign_spelled}
 use Rattle.c_lexer_pieces.specs.Piece.{Piece, Nothing, Name, Constant', Text, Punctuator, Definition, Known}
 
 -- all these bytes are of the class
 abbrev pub AllOf : Class → List ℕ → Type 0
-AllOf k bytes = list_all (has k) bytes ≡ true
+AllOf k bytes = list_all (is_of_class k) bytes ≡ true
 
 -- no byte of the class comes next
 abbrev pub RunEnds : Class → List ℕ → Type 0
@@ -29,8 +29,8 @@ pub data IsComment (bytes after : List ℕ) : Type 0 where
 
 -- A decimal constant begins with no `0`, an octal one does, and a hexadecimal one begins with `0x` or `0X`.
 abbrev pub Spells : Radix → List ℕ → List ℕ → Type 0
-Spells radix.Decimal spelled digits = (spelled ≡ digits) × (begins 48 digits ≡ false)
-Spells radix.Octal spelled digits = (spelled ≡ digits) × (begins 48 digits ≡ true)
+Spells radix.Decimal spelled digits = (spelled ≡ digits) × (begins_with_byte 48 digits ≡ false)
+Spells radix.Octal spelled digits = (spelled ≡ digits) × (begins_with_byte 48 digits ≡ true)
 Spells radix.Hexadecimal spelled digits = (spelled ≡ 48 ∷ 120 ∷ digits) ⊎ (spelled ≡ 48 ∷ 88 ∷ digits)
 
 -- a `u` or `U` where the constant is suffixed, else nothing
@@ -87,7 +87,7 @@ IsConstant bytes after constant = IsNumber bytes after constant ⊎ IsCharacter 
 
 -- what may stand at the end of a directive's line: a space, a tab, a carriage return, or a comment
 pub data IsTrailing (bytes after : List ℕ) : Type 0 where
-  blank : (b : ℕ) → bytes ≡ b ∷ [] → has class.Blank b ≡ true → IsTrailing bytes after
+  blank : (b : ℕ) → bytes ≡ b ∷ [] → is_of_class class.Blank b ≡ true → IsTrailing bytes after
   return : bytes ≡ 13 ∷ [] → IsTrailing bytes after
   comment : IsComment bytes after → IsTrailing bytes after
 

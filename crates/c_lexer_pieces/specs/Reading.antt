@@ -10,7 +10,7 @@ use Rattle.c_syntax.specs.declared.parts.Constant.{Constant}
 use Rattle.c_lexer_pieces.specs.declared.bytes.Class.TheVariants as class
 use Rattle.c_lexer_pieces.specs.declared.constants.Radix.{Radix}
 use Rattle.c_lexer_pieces.specs.declared.constants.Radix.TheVariants as radix
-use Rattle.c_lexer_pieces.specs.Bytes.{begins, begins_with, run, past}
+use Rattle.c_lexer_pieces.specs.Bytes.{begins_with_byte, begins_with, run_of_class, bytes_past_run}
 use Rattle.c_lexer_pieces.specs.Values.{after_close, value_of, class_of, base_of, kind_of, simple_escape, signed_byte}
 
 infixl 10 ◌>>=◌
@@ -22,22 +22,23 @@ first_some None other = other
 first_some (Some x) other = Some x
 
 -- the bytes after this one
-abbrev pub strip : ℕ → List ℕ → Option (List ℕ)
-strip b [] = None
-strip b (c ∷ cs) = if c == b then Some cs else None
+abbrev pub strip_byte : ℕ → List ℕ → Option (List ℕ)
+strip_byte b [] = None
+strip_byte b (c ∷ cs) = if c == b then Some cs else None
 
 unfoldable pub comment_at : List ℕ → Option (List ℕ)
-comment_at bytes = strip 47 bytes >>= λ rest. if begins 47 rest then Some (past class.Line rest) else (strip 42 rest >>= after_close)
+comment_at bytes = strip_byte 47 bytes >>= λ rest. if begins_with_byte 47 rest then Some (bytes_past_run class.Line rest) else
+    (strip_byte 42 rest >>= after_close)
 
 abbrev pub small_value : ℕ → List ℕ → Option ℕ
 small_value base digits = if nat_lt (value_of base digits) (2 ^ 32) then Some (value_of base digits) else None
 
 abbrev pub hexadecimal_at : List ℕ → Option (List ℕ)
-hexadecimal_at bytes = strip 48 bytes >>= λ rest. if begins 120 rest then Some (drop 1 rest) else strip 88 rest
+hexadecimal_at bytes = strip_byte 48 bytes >>= λ rest. if begins_with_byte 120 rest then Some (drop 1 rest) else strip_byte 88 rest
 
 abbrev pub radix_from : Option (List ℕ) → List ℕ → Radix × List ℕ
 radix_from (Some digits) bytes = (radix.Hexadecimal, digits)
-radix_from None bytes = (if begins 48 bytes then radix.Octal else radix.Decimal, bytes)
+radix_from None bytes = (if begins_with_byte 48 bytes then radix.Octal else radix.Decimal, bytes)
 
 -- the base of a constant, and its digits and what follows
 unfoldable pub radix_at : List ℕ → Radix × List ℕ
@@ -45,7 +46,7 @@ radix_at bytes = radix_from (hexadecimal_at bytes) bytes
 
 -- whether a suffix stands here, and what follows
 unfoldable pub suffix_at : List ℕ → Bool × List ℕ
-suffix_at bytes = if begins 117 bytes || begins 85 bytes then (true, drop 1 bytes) else (false, bytes)
+suffix_at bytes = if begins_with_byte 117 bytes || begins_with_byte 85 bytes then (true, drop 1 bytes) else (false, bytes)
 
 abbrev pub constant_from : Radix → List ℕ → Bool × List ℕ → Option (Constant × List ℕ)
 constant_from r digits end =
@@ -55,7 +56,7 @@ constant_from r digits end =
 unfoldable pub number_at : List ℕ → Option (Constant × List ℕ)
 number_at bytes =
     let start = radix_at bytes in
-    constant_from start.0 (run (class_of start.0) start.1) (suffix_at (past (class_of start.0) start.1))
+    constant_from start.0 (run_of_class (class_of start.0) start.1) (suffix_at (bytes_past_run (class_of start.0) start.1))
 
 -- the byte that digits stand for: there is one, and they aren't above 255
 unfoldable pub byte_of : ℕ → List ℕ → Option ℕ
@@ -66,11 +67,11 @@ with_rest o rest = o >>= λ x. Some (x, rest)
 
 -- Up to three octal digits.
 unfoldable pub octal_at : List ℕ → Option (ℕ × List ℕ)
-octal_at bytes = let digits = run class.Octal (take 3 bytes) in with_rest (byte_of 8 digits) (drop (length digits) bytes)
+octal_at bytes = let digits = run_of_class class.Octal (take 3 bytes) in with_rest (byte_of 8 digits) (drop (length digits) bytes)
 
 -- Hexadecimal digits behind an `x`.
 unfoldable pub hexadecimal_escape_at : List ℕ → Option (ℕ × List ℕ)
-hexadecimal_escape_at bytes = with_rest (byte_of 16 (run class.Hexadecimal bytes)) (past class.Hexadecimal bytes)
+hexadecimal_escape_at bytes = with_rest (byte_of 16 (run_of_class class.Hexadecimal bytes)) (bytes_past_run class.Hexadecimal bytes)
 
 -- an escape, behind its backslash
 unfoldable pub escape_at : List ℕ → Option (ℕ × List ℕ)
@@ -88,16 +89,16 @@ element_at quote (c ∷ rest) =
 
 unfoldable pub character_at : List ℕ → Option (Constant × List ℕ)
 character_at bytes = do
-  inner ← strip 39 bytes
+  inner ← strip_byte 39 bytes
   e ← element_at 39 inner
-  rest ← strip 39 e.1
+  rest ← strip_byte 39 e.1
   Some (record { kind = kind.Int; value = signed_byte e.0 }, rest)
 
 -- The bytes of a string up to its closing quote. The number bounds how many there are.
 abbrev pub text_within : ℕ → List ℕ → Option (List ℕ × List ℕ)
 text_within zero bytes = None
 text_within (suc n) bytes =
-    if begins 34 bytes then Some ([], drop 1 bytes)
+    if begins_with_byte 34 bytes then Some ([], drop 1 bytes)
     else (element_at 34 bytes >>= λ e. text_within n e.1 >>= λ t. Some (e.0 ∷ t.0, t.1))
 
 -- a string, behind its opening quote
@@ -107,7 +108,7 @@ text_at bytes = text_within (length bytes + 1) bytes
 -- a whole run of letters, digits and `_` that is a name, and what follows
 unfoldable pub name_at : List ℕ → Option (List ℕ × List ℕ)
 name_at bytes =
-    if begins_name bytes && nat_le (length (run class.Name bytes)) 63 then Some (run class.Name bytes, past class.Name bytes)
+    if begins_name bytes && nat_le (length (run_of_class class.Name bytes)) 63 then Some (run_of_class class.Name bytes, bytes_past_run class.Name bytes)
     else None
 
 abbrev pub strip_text : List ℕ → List ℕ → Option (List ℕ)
@@ -115,14 +116,14 @@ strip_text front bytes = if starts_with nat_eq bytes front then Some (drop (leng
 
 -- at least one space or tab
 abbrev pub blanks_at : List ℕ → Option (List ℕ)
-blanks_at bytes = if begins_with class.Blank bytes then Some (past class.Blank bytes) else None
+blanks_at bytes = if begins_with class.Blank bytes then Some (bytes_past_run class.Blank bytes) else None
 
 abbrev pub constant_at : List ℕ → Option (Constant × List ℕ)
-constant_at bytes = if begins 39 bytes then character_at bytes else number_at bytes
+constant_at bytes = if begins_with_byte 39 bytes then character_at bytes else number_at bytes
 
 -- a space, a tab, a carriage return or a comment
 unfoldable pub trailing_at : List ℕ → Option (List ℕ)
-trailing_at bytes = if begins_with class.Blank bytes || begins 13 bytes then Some (drop 1 bytes) else comment_at bytes
+trailing_at bytes = if begins_with class.Blank bytes || begins_with_byte 13 bytes then Some (drop 1 bytes) else comment_at bytes
 
 -- Whether all these bytes may end a directive's line. The number bounds how many parts they have.
 abbrev pub trails_within : ℕ → List ℕ → Bool
@@ -130,18 +131,18 @@ trails_within zero bytes = false
 trails_within (suc n) [] = true
 trails_within (suc n) (b ∷ bs) = option_map_or (trails_within n) (trailing_at (b ∷ bs)) false
 
-unfoldable pub trails : List ℕ → Bool
-trails bytes = trails_within (length bytes + 1) bytes
+unfoldable pub is_directive_end : List ℕ → Bool
+is_directive_end bytes = trails_within (length bytes + 1) bytes
 
 abbrev pub header_at : List ℕ → Option (List ℕ)
 header_at bytes = first_some (strip_text (codes "<stdio.h>") bytes) (first_some (strip_text (codes "<stdlib.h>") bytes) (strip_text (codes "<assert.h>") bytes))
 
 abbrev pub header_line : List ℕ → Option (List ℕ)
-header_line bytes = strip_text (codes "include") bytes >>= λ rest. header_at (past class.Blank rest)
+header_line bytes = strip_text (codes "include") bytes >>= λ rest. header_at (bytes_past_run class.Blank rest)
 
 -- the rest of an `#include` line, behind the `#` and blanks
 unfoldable pub is_include : List ℕ → Bool
-is_include bytes = option_map_or trails (header_line bytes) false
+is_include bytes = option_map_or is_directive_end (header_line bytes) false
 
 -- the name in a `#define` line, behind the `#` and blanks
 unfoldable pub defined_name_at : List ℕ → Option (List ℕ × List ℕ)
@@ -157,4 +158,4 @@ define_in bytes = do
   name ← defined_name_at bytes
   spelled ← blanks_at name.1
   constant ← constant_at spelled
-  if trails constant.1 then Some (name.0, constant.0) else None
+  if is_directive_end constant.1 then Some (name.0, constant.0) else None

@@ -11,8 +11,8 @@ abbrev pub value_in : {A : Type 0} → List (List ℕ × A) → List ℕ → Opt
 value_in [] bytes = None
 value_in (entry ∷ entries) bytes = if bytes_eq entry.0 bytes then Some entry.1 else value_in entries bytes
 
-unfoldable pub words : List (List ℕ × Word)
-words =
+unfoldable pub word_table : List (List ℕ × Word)
+word_table =
     (codes "char", word.Char) ∷
     (codes "do", word.Do) ∷
     (codes "else", word.Else) ∷
@@ -54,8 +54,8 @@ words =
     (codes "_Imaginary", word.Unused) ∷
     []
 
-unfoldable pub signs : List (List ℕ × Sign)
-signs =
+unfoldable pub sign_table : List (List ℕ × Sign)
+sign_table =
     (codes "{", sign.LeftBrace) ∷
     (codes "}", sign.RightBrace) ∷
     (codes "(", sign.LeftParen) ∷
@@ -104,7 +104,7 @@ signs =
     []
 
 abbrev pub word_of : List ℕ → Option Word
-word_of bytes = value_in words bytes
+word_of bytes = value_in word_table bytes
 
 abbrev pub sign_spelled : List ℕ → Option Sign
-sign_spelled bytes = value_in signs bytes
+sign_spelled bytes = value_in sign_table bytes

@@ -7,7 +7,7 @@ use Rattle.c_lexer_pieces.specs.declared.bytes.Class.{Class}
 use Rattle.c_lexer_pieces.specs.declared.bytes.Class.TheVariants as class
 use Rattle.c_lexer_pieces.specs.declared.constants.Radix.{Radix}
 use Rattle.c_lexer_pieces.specs.declared.constants.Radix.TheVariants as radix
-use Rattle.c_lexer_pieces.specs.Bytes.{begins, digit_value}
+use Rattle.c_lexer_pieces.specs.Bytes.{begins_with_byte, digit_value}
 
 -- the number that digits behind others stand for
 abbrev pub value_from : ℕ → ℕ → List ℕ → ℕ
@@ -52,4 +52,4 @@ signed_byte b = if nat_lt b 128 then pos b else pos b -ℤ pos 256
 -- the bytes after the first `*/`
 abbrev pub after_close : List ℕ → Option (List ℕ)
 after_close [] = None
-after_close (b ∷ bs) = if (b == 42) && begins 47 bs then Some (drop 1 bs) else after_close bs
+after_close (b ∷ bs) = if (b == 42) && begins_with_byte 47 bs then Some (drop 1 bs) else after_close bs

@@ -1,6 +1,6 @@
 ghost use Rattle.std.specs.Prelude.{◌≡◌, ◌==◌, ◌≤◌, length};
 ghost use Rattle.std.specs.List.{prefix_len};
-ghost use Rattle.c_lexer_pieces.specs.Bytes.{is_separator, has, begins, begins_with, run, past};
+ghost use Rattle.c_lexer_pieces.specs.Bytes.{is_separator, is_of_class, begins_with_byte, begins_with, run_of_class, bytes_past_run};
 
 use cbi_base::is_name_byte;
 
@@ -21,9 +21,9 @@ pub enum Class {
 }
 
 impl Class {
-    #[tactic(auto, unfolding(crate::specs::Bytes::has))]
+    #[tactic(auto, unfolding(crate::specs::Bytes::is_of_class))]
     pub fn has(self, b: u8) -> bool
-        ensures { result ≡ has self b }
+        ensures { result ≡ is_of_class self b }
     {
         match self {
             Class::Name => is_name_byte(b),
@@ -45,7 +45,7 @@ pub fn is_separator(b: u8) -> bool
 
 /// Whether this byte comes next.
 pub(crate) fn begins(b: u8, bytes: &[u8]) -> bool
-    ensures { result ≡ begins b bytes.now }
+    ensures { result ≡ begins_with_byte b bytes.now }
 {
     match bytes {
         [] => false,
@@ -65,7 +65,7 @@ pub(crate) fn begins_with(class: Class, bytes: &[u8]) -> bool
 
 /// How many bytes of the class stand in front.
 fn run_len(class: Class, bytes: &[u8]) -> usize
-    ensures { result ≡ prefix_len (has class) bytes.now }
+    ensures { result ≡ prefix_len (is_of_class class) bytes.now }
 {
     for (i, b) in bytes.iter().enumerate() {
         if !class.has(*b) {
@@ -78,8 +78,8 @@ fn run_len(class: Class, bytes: &[u8]) -> usize
 /// The longest front of bytes of the class, and what follows it.
 #[tactic(auto, using(crate::proofs::RunLaws::run_is_front, crate::proofs::RunLaws::past_is_rest, crate::proofs::RunLaws::prefix_len_within))]
 pub(crate) fn split_run(class: Class, bytes: &[u8]) -> (&[u8], &[u8])
-    ensures run { result.0.now ≡ run class bytes.now }
-    ensures past { result.1.now ≡ past class bytes.now }
+    ensures run { result.0.now ≡ run_of_class class bytes.now }
+    ensures past { result.1.now ≡ bytes_past_run class bytes.now }
     ensures within { length result.0.now ≤ length bytes.now }
 {
     bytes.split_at(run_len(class, bytes))

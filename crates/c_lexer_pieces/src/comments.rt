@@ -1,5 +1,5 @@
 ghost use Rattle.std.specs.Prelude.{◌≡◌, option_copied};
-ghost use Rattle.c_lexer_pieces.specs.Reading.{strip, comment_at};
+ghost use Rattle.c_lexer_pieces.specs.Reading.{strip_byte, comment_at};
 ghost use Rattle.c_lexer_pieces.specs.PieceFacts.{KnowsClosing};
 ghost use Rattle.c_lexer_pieces.specs.Values.{after_close};
 
@@ -7,7 +7,7 @@ use crate::bytes::{Class, begins, split_run};
 
 /// The bytes after this one.
 pub(crate) fn strip(b: u8, bytes: &[u8]) -> Option<&[u8]>
-    ensures { option_copied result ≡ strip b bytes.now }
+    ensures { option_copied result ≡ strip_byte b bytes.now }
 {
     match bytes {
         [first, rest @ ..] if *first == b => Some(rest),

@@ -1,4 +1,4 @@
-ghost use Rattle.std.specs.Prelude.{◌≡◌, ◌≤◌, Option, ◌<◌, option_copied, option_map, IfSome, pos};
+ghost use Rattle.std.specs.Prelude.{◌≡◌, ◌≤◌, ◌<◌, option_copied, option_map, IfSome, pos};
 ghost use Rattle.c_lexer_pieces.specs.Reading.{small_value, hexadecimal_at, radix_at, suffix_at, number_at};
 ghost use Rattle.c_lexer_pieces.specs.Values.{class_of, base_of, kind_of};
 ghost use Rattle.c_lexer_pieces.specs.Bytes.{digit_value};

@@ -1,6 +1,7 @@
 ghost use Rattle.std.specs.Prelude.{◌≡◌, option_copied, option_map, IfSome};
 ghost use Rattle.c_lexer_pieces.specs.PieceFacts.{Fits};
-ghost use Rattle.c_lexer_pieces.specs.Reading.{name_at, strip_text, blanks_at, constant_at, trailing_at, trails, header_at, is_include, defined_name_at};
+ghost use Rattle.c_lexer_pieces.specs.Reading.{name_at, strip_text, blanks_at, constant_at, trailing_at, is_directive_end, header_at, is_include};
+ghost use Rattle.c_lexer_pieces.specs.Reading.{defined_name_at};
 ghost use Rattle.c_lexer_pieces.specs.Reading.{define_in, header_line};
 
 use crate::bytes::{Class, begins, begins_with, split_run};
@@ -74,7 +75,7 @@ fn trailing_at(bytes: &[u8]) -> Option<&[u8]>
 
 /// Whether all these bytes may end a directive's line.
 fn trails(bytes: &[u8]) -> bool
-    ensures { result ≡ trails bytes.now }
+    ensures { result ≡ is_directive_end bytes.now }
 {
     let mut rest = bytes;
     while !rest.is_empty() {

@@ -94,7 +94,7 @@ const SIGNS: [(&[u8], Sign); 45] = [
 ];
 
 /// The word that these bytes spell.
-#[tactic(auto, unfolding(crate::specs::Spellings::words))]
+#[tactic(auto, unfolding(crate::specs::Spellings::word_table))]
 pub fn word_of(bytes: &[u8]) -> Option<Word>
     ensures { result ≡ word_of bytes.now }
 {
@@ -102,7 +102,7 @@ pub fn word_of(bytes: &[u8]) -> Option<Word>
 }
 
 /// The punctuator that these bytes spell.
-#[tactic(auto, unfolding(crate::specs::Spellings::signs))]
+#[tactic(auto, unfolding(crate::specs::Spellings::sign_table))]
 pub fn sign_of(bytes: &[u8]) -> Option<Sign>
     ensures { result ≡ sign_spelled bytes.now }
 {

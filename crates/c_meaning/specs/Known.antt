@@ -1,5 +1,5 @@
 -- What is known of a tree whose types were checked, as its meaning uses it.
-use Rattle.std.specs.Prelude.{ℕ, zero, suc, ◌+◌, ◌==◌, nat_le, Bool, true, false, ◌&&◌, List, [], ◌∷◌, ◌++◌, length, map, take, drop, if◌then◌else◌}
+use Rattle.std.specs.Prelude.{ℕ, suc, ◌+◌, ◌==◌, ◌&&◌, List, [], ◌∷◌, ◌++◌, map, take, drop, if◌then◌else◌}
 use Rattle.std.specs.Prelude.{Option, Some, None, slice_get}
 use Rattle.std.specs.List.{flat_map}
 use Rattle.std.specs.Option.{option_map, option_and_then, unwrap_or}
@@ -24,7 +24,7 @@ use Rattle.flow.specs.declared.site.Slot.TheVariants as slot
 use Rattle.c_meaning.specs.declared.value_type.ValueType.{ValueType}
 use Rattle.c_meaning.specs.declared.value_type.ValueType.TheVariants as type
 use Rattle.c_meaning.specs.Facts.{Facts, Signature}
-use Rattle.c_meaning.specs.Literals.{literals, number_from, texts_of}
+use Rattle.c_meaning.specs.Literals.{string_literals, number_from, texts_of}
 
 -- how many cells an object of the type has, where it has any
 abbrev pub object_cells : List StructType → TypeTree → Option ℕ
@@ -90,8 +90,8 @@ abbrev pub body_of_item : ItemTree → List EntryList
 body_of_item (item.Function token base stars name params (Some body)) = body ∷ []
 body_of_item x = []
 
-abbrev pub bodies : SourceTree → List EntryList
-bodies tree = flat_map body_of_item tree.items
+abbrev pub function_bodies : SourceTree → List EntryList
+function_bodies tree = flat_map body_of_item tree.items
 
 -- what is known of the tokens of a tree, after the walk through its types
 abbrev pub facts_of : SourceTree → Walk → Facts
@@ -104,7 +104,7 @@ facts_of tree w = record {
   element_at = λ token. option_and_then (element_type w.structs) (declared_at w token);
   offset_at = offset_at w;
   function_at = function_at w;
-  text_at = λ token. number_from 0 token (literals tree);
-  statics = record { globals = w.globals; texts = texts_of (literals tree) };
+  text_at = λ token. number_from 0 token (string_literals tree);
+  statics = record { globals = w.globals; texts = texts_of (string_literals tree) };
   signature = λ number. signature_of w (slice_get w.definitions number);
 }

@@ -1,9 +1,8 @@
 -- The strings of a text, in the order of their tokens (C99 6.4.5): each is an object of its own, also where only its size is wanted.
 use Rattle.std.specs.Prelude.{ℕ, suc, ◌==◌, List, [], ◌∷◌, ◌++◌, map, if◌then◌else◌, Option, Some, None}
 use Rattle.std.specs.List.{flat_map}
-use Rattle.std.specs.Option.{option_map}
 use Rattle.c_syntax.specs.ExprTree as e
-use Rattle.c_syntax.specs.Words.{ExprTree, ExprList, LinkList, PostfixList, InitialTree, StartTree, DeclarationTree, ForStartTree, StatementTree, EntryList}
+use Rattle.c_syntax.specs.Words.{ExprTree, ExprList, LinkList, PostfixList, InitialTree, DeclarationTree, ForStartTree, StatementTree, EntryList}
 use Rattle.c_syntax.specs.Words.{ItemTree, SourceTree}
 use Rattle.c_syntax.specs.StatementTree as tree
 use Rattle.c_syntax.specs.ItemTree as item
@@ -93,8 +92,8 @@ strings_of_item (item.Function token base stars name params body) = strings_of_b
 strings_of_item (item.Declaration declaration) = strings_declared declaration
 
 -- all strings of a text
-abbrev pub literals : SourceTree → List Literal
-literals t = flat_map strings_of_item t.items
+abbrev pub string_literals : SourceTree → List Literal
+string_literals t = flat_map strings_of_item t.items
 
 abbrev pub texts_of : List Literal → List Text
 texts_of strings = map (λ s. record { bytes = s.bytes }) strings

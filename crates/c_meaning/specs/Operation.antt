@@ -10,14 +10,14 @@ use Rattle.cbi_base.specs.declared.operators.Order.{Order}
 use Rattle.cbi_base.specs.declared.operators.Order.TheVariants as order
 use Rattle.cbi_base.specs.declared.trap.Trap.{Trap}
 use Rattle.cbi_base.specs.declared.trap.Trap.TheVariants.{Internal}
-use Rattle.cbi_base.specs.Words.{flag, kind_given, Objects, compared, difference, moved_by, applied}
+use Rattle.cbi_base.specs.Words.{truth_number, kind_given, Objects, pointer_comparison, pointer_difference, moved_by, operator_applied}
 use Rattle.cbi_base.specs.Objects.{◌>>=◌}
 use Rattle.c_types_rules.specs.Laws.{common_kind, promoted_kind}
 use Rattle.c_meaning.specs.declared.operation.Operation.{Operation}
 use Rattle.c_meaning.specs.declared.operation.Operation.TheVariants.{Numbers, MoveLeft, MoveRight, Span, Ordered, Wrong}
 use Rattle.c_meaning.specs.declared.value_type.ValueType.{ValueType}
 use Rattle.c_meaning.specs.declared.value_type.ValueType.TheVariants as type
-use Rattle.c_meaning.specs.Conversions.{as_used, between, converts}
+use Rattle.c_meaning.specs.Conversions.{as_used, kind_conversion, conversion_result}
 
 abbrev pub is_shift : Binary → Bool
 is_shift op.Shl = true
@@ -75,25 +75,26 @@ abbrev pub operation : Binary → Option ValueType → Option ValueType → Oper
 operation o left right = on_values o (as_used left) (as_used right)
 
 abbrev pub flag_value : Bool → Scalar
-flag_value holds = Number Int (flag holds)
+flag_value holds = Number Int (truth_number holds)
 
-abbrev pub flagged : Result Bool Trap → Result Scalar Trap
-flagged (Ok holds) = Ok (flag_value holds)
-flagged (Err t) = Err t
+abbrev pub flagged_value : Result Bool Trap → Result Scalar Trap
+flagged_value (Ok holds) = Ok (flag_value holds)
+flagged_value (Err t) = Err t
 
 abbrev pub counted_value : Result ℤ Trap → Result Scalar Trap
 counted_value (Ok count) = Ok (Number Int count)
 counted_value (Err t) = Err t
 
 -- Both operands are there: they are converted, and then calculated with.
-unfoldable pub operate : Operation → Scalar → Scalar → Objects → Result Scalar Trap
-operate (Numbers o left right) x y objects =
-    converts (between left (left_kind o left right)) x >>= λ a. converts (between right (right_kind o left right)) y >>= λ b. applied o a b
-operate (MoveLeft size) x y objects = moved_by size x y objects
-operate (MoveRight size) x y objects = moved_by size y x objects
-operate (Span size) x y objects = counted_value (difference x y size objects)
-operate (Ordered o) x y objects = flagged (compared o x y objects)
-operate Wrong x y objects = Err Internal
+unfoldable pub operation_result : Operation → Scalar → Scalar → Objects → Result Scalar Trap
+operation_result (Numbers o left right) x y objects =
+    conversion_result (kind_conversion left (left_kind o left right)) x >>= λ a. conversion_result
+    (kind_conversion right (right_kind o left right)) y >>= λ b. operator_applied o a b
+operation_result (MoveLeft size) x y objects = moved_by size x y objects
+operation_result (MoveRight size) x y objects = moved_by size y x objects
+operation_result (Span size) x y objects = counted_value (pointer_difference x y size objects)
+operation_result (Ordered o) x y objects = flagged_value (pointer_comparison o x y objects)
+operation_result Wrong x y objects = Err Internal
 
 -- the type of what an operation gives, with that of the pointer that it moves
 abbrev pub type_given : Operation → Option ValueType → Option ValueType

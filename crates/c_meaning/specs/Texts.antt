@@ -1,18 +1,17 @@
 -- The meaning of a text whose types were checked, with a site table: the definition that compiled programs are held to.
 use Rattle.std.specs.Prelude.{ℕ, suc, ◌==◌, ◌&&◌, Bool, true, false, List, [], ◌∷◌, if◌then◌else◌, Option, Some, None, slice_get, codes}
 use Rattle.std.specs.Option.{unwrap_or}
-use Rattle.std.specs.Str.{bytes_eq}
 use Rattle.c_syntax.specs.ItemTree.{SourceTree}
 use Rattle.c_types_expressions.specs.declared.names.Meaning.{Meaning}
 use Rattle.c_types_expressions.specs.declared.names.Meaning.TheVariants as name
 use Rattle.c_types_expressions.specs.declared.walk.Walk.{Walk}
-use Rattle.c_types_expressions.specs.Names.{found}
+use Rattle.c_types_expressions.specs.Names.{declared_meaning}
 use Rattle.flow.specs.declared.site.Site.{Site}
 use Rattle.flow.specs.declared.site.SiteKind.{SiteKind}
 use Rattle.flow.specs.declared.site.SiteKind.TheVariants.{Branch, Return, Pair}
 use Rattle.c_meaning.specs.Facts.{Sites}
 use Rattle.c_meaning.specs.Globals.{first_objects}
-use Rattle.c_meaning.specs.Known.{bodies, facts_of}
+use Rattle.c_meaning.specs.Known.{function_bodies, facts_of}
 use Rattle.c_meaning.specs.Runs.{Behaviour, Source, meaning}
 
 abbrev pub is_branch : SiteKind → Bool
@@ -52,13 +51,13 @@ number_defined w m = None
 
 -- the number of the function `main`
 abbrev pub main_of : Walk → ℕ
-main_of w = unwrap_or (number_defined w (found (codes "main") w.names)) 0
+main_of w = unwrap_or (number_defined w (declared_meaning (codes "main") w.names)) 0
 
 abbrev pub source_of : SourceTree → Walk → List Site → Source
 source_of tree w table = record {
   facts = facts_of tree w;
   sites = sites_by_table table;
-  body = slice_get (bodies tree);
+  body = slice_get (function_bodies tree);
   main = main_of w;
   objects = first_objects tree w;
 }

@@ -1,6 +1,5 @@
 -- What can be read off a tree and its facts before it runs.
 use Rattle.std.specs.Prelude.{ℕ, zero, suc, Bool, true, false, List, [], ◌∷◌, Option, Some, None}
-use Rattle.std.specs.Option.{option_map}
 use Rattle.cbi_base.specs.declared.operators.Binary.{Binary}
 use Rattle.cbi_base.specs.declared.operators.Binary.TheVariants as op
 use Rattle.cbi_base.specs.declared.scalar.Kind.{Kind}
@@ -17,8 +16,8 @@ use Rattle.c_meaning.specs.declared.value_type.ValueType.{ValueType}
 use Rattle.c_meaning.specs.declared.value_type.ValueType.TheVariants as type
 use Rattle.c_meaning.specs.declared.value_type.Called.{Called}
 use Rattle.c_meaning.specs.declared.value_type.Called.TheVariants as called
-use Rattle.c_meaning.specs.Conversions.{is_null_as, is_pointer_value}
-use Rattle.c_meaning.specs.Facts.{Facts, Signature}
+use Rattle.c_meaning.specs.Conversions.{is_null_as}
+use Rattle.c_meaning.specs.Facts.{Facts}
 
 -- the token at which the type of the whole is known: that of its last operator
 abbrev pub link_token : ℕ → LinkList → ℕ
@@ -70,9 +69,9 @@ is_place (e.Postfix primary operators) = ends_as_place (is_place primary) operat
 is_place (e.Paren token inner) = is_place inner
 is_place x = false
 
-abbrev pub count : ExprList → ℕ
-count e.no_exprs = zero
-count (e.more_exprs x rest) = suc (count rest)
+abbrev pub expression_count : ExprList → ℕ
+expression_count e.no_exprs = zero
+expression_count (e.more_exprs x rest) = suc (expression_count rest)
 
 -- what an assignment operator does: it stores, or it calculates before (C99 6.5.16)
 pub data Assignment : Type 0 where
@@ -83,8 +82,8 @@ abbrev pub assigned_by : Option Binary → Assignment
 assigned_by None = Plain
 assigned_by (Some o) = By o
 
-abbrev pub assignment : Sign → Assignment
-assignment s = assigned_by (compound_of s)
+abbrev pub assignment_of_sign : Sign → Assignment
+assignment_of_sign s = assigned_by (compound_of s)
 
 -- An operator of a chain may leave its right side alone, or it calculates with both sides (C99 6.5.13, 6.5.14).
 pub data Joint : Type 0 where
@@ -93,14 +92,14 @@ pub data Joint : Type 0 where
   Computes : Binary → Joint
   Unjoined : Joint
 
-abbrev pub computes : Option Binary → Joint
-computes None = Unjoined
-computes (Some o) = Computes o
+abbrev pub computing_joint : Option Binary → Joint
+computing_joint None = Unjoined
+computing_joint (Some o) = Computes o
 
-abbrev pub joint : Sign → Joint
-joint sign.AndAnd = Both
-joint sign.OrOr = Either
-joint s = computes (binary_of s)
+abbrev pub joint_of_sign : Sign → Joint
+joint_of_sign sign.AndAnd = Both
+joint_of_sign sign.OrOr = Either
+joint_of_sign s = computing_joint (binary_of s)
 
 -- a null constant that is compared with a value of this type is a null pointer, where that is a pointer (C99 6.5.9p5)
 abbrev pub is_null_beside : Option Binary → Option ValueType → ExprTree → Bool

@@ -1,5 +1,5 @@
 -- What a run of a text has at a moment, and how a part of it goes.
-use Rattle.std.specs.Prelude.{ℕ, zero, suc, Bool, true, false, List, Option, Some, None, Result, Ok, Err}
+use Rattle.std.specs.Prelude.{ℕ, zero, suc, Bool, true, false, List, Option, Result, Ok, Err}
 use Rattle.cbi_base.specs.declared.observation.Observation.{Observation}
 use Rattle.cbi_base.specs.declared.outcome.Outcome.{Outcome}
 use Rattle.cbi_base.specs.declared.outcome.Outcome.TheVariants.{Trapped, CutTurns}
@@ -31,31 +31,31 @@ abbrev pub bind : {A B : Type 0} → Out A → (A → World → Out B) → Out B
 bind (Go x w) next = next x w
 bind (Stop outcome w) next = Stop outcome w
 
-abbrev pub nothing : World → OutDone
-nothing w = Go tt w
+abbrev pub no_effect : World → OutDone
+no_effect w = Go tt w
 
 -- what a part gives isn't taken
-abbrev pub done : {A : Type 0} → Out A → OutDone
-done part = bind part (λ _. nothing)
+abbrev pub value_discarded : {A : Type 0} → Out A → OutDone
+value_discarded part = bind part (λ _. no_effect)
 
 -- the answer of an operation, or its trap
-abbrev pub answered : {A : Type 0} → Result A Trap → World → Out A
-answered (Ok x) w = Go x w
-answered (Err t) w = Stop (Trapped t) w
+abbrev pub answer_or_trap : {A : Type 0} → Result A Trap → World → Out A
+answer_or_trap (Ok x) w = Go x w
+answer_or_trap (Err t) w = Stop (Trapped t) w
 
 -- What a text without a fault never comes to: something isn't known of it.
-abbrev pub stuck : {A : Type 0} → World → Out A
-stuck w = Stop (Trapped Internal) w
+abbrev pub stuck_run : {A : Type 0} → World → Out A
+stuck_run w = Stop (Trapped Internal) w
 
 -- one of two parts
-abbrev pub choose : {A : Type 0} → Bool → (World → Out A) → (World → Out A) → World → Out A
-choose true first second w = first w
-choose false first second w = second w
+abbrev pub chosen_part : {A : Type 0} → Bool → (World → Out A) → (World → Out A) → World → Out A
+chosen_part true first second w = first w
+chosen_part false first second w = second w
 
 -- a turn is spent, or the run is cut where none is left
-abbrev pub spend : {A : Type 0} → ℕ → World → (World → Out A) → Out A
-spend zero w go = Stop CutTurns w
-spend (suc turns) w go = go (record w { turns = turns })
+abbrev pub one_turn_spent : {A : Type 0} → ℕ → World → (World → Out A) → Out A
+one_turn_spent zero w go = Stop CutTurns w
+one_turn_spent (suc turns) w go = go (record w { turns = turns })
 
 -- how control leaves a statement
 pub data Flow : Type 0 where

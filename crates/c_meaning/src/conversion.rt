@@ -1,5 +1,5 @@
 ghost use Rattle.std.specs.Prelude.{◌≡◌};
-ghost use Rattle.c_meaning.specs.Conversions.{between, conversion};
+ghost use Rattle.c_meaning.specs.Conversions.{kind_conversion, conversion};
 
 use crate::value_type::{ValueType, as_used};
 use cbi_base::Kind;
@@ -14,7 +14,7 @@ pub enum Conversion {
 
 /// A number of one kind where one of another kind is wanted.
 pub fn between(have: Kind, want: Kind) -> Conversion
-    ensures { result ≡ between have want }
+    ensures { result ≡ kind_conversion have want }
 {
     match (have, want) {
         (Kind::Char, Kind::Char) | (Kind::Int, Kind::Int) | (Kind::Unsigned, Kind::Unsigned) => {

@@ -1,10 +1,9 @@
 -- Calls of functions and of the library, with arguments that are safe.
-use Rattle.std.proofs.Common.{◌≡◌, ℕ, refl, subst, sym, arith, List, [], ◌∷◌, Some, None, Bool, true, false, length}
+use Rattle.std.proofs.Common.{◌≡◌, ℕ, refl, subst, sym, List, [], ◌∷◌, Some, None, Bool, true, false, length}
 use Rattle.std.proofs.lemmas.Bool.{true≢false}
-use Rattle.std.proofs.lemmas.Bool.Decides.{nat_tests}
 use Rattle.std.specs.Prelude.{Option, ℤ, unsigned_abs, ◌==◌, reverse, if◌then◌else◌}
 use Rattle.std.specs.List.{list_all}
-use Rattle.cbi_base.specs.Words.{is_defined_value, pieces_of, released}
+use Rattle.cbi_base.specs.Words.{is_defined_value, pieces_of, object_released}
 use Rattle.base_lists.proofs.Numbers.{number_is}
 use Rattle.cbi_base.specs.declared.outcome.Outcome.TheVariants.{Trapped}
 use Rattle.cbi_base.specs.declared.scalar.Kind.{Kind}
@@ -19,9 +18,9 @@ use Rattle.c_meaning.specs.declared.value_type.Called.{Called}
 use Rattle.c_meaning.specs.declared.value_type.Called.TheVariants as called
 use Rattle.c_meaning.specs.declared.value_type.ValueType.{ValueType}
 use Rattle.c_meaning.specs.declared.value_type.ValueType.TheVariants as type
-use Rattle.c_meaning.specs.Words.{Argument, Arguments, abort, all_defined, allocate, as_type, assert, call_function, call_library, call_sense, exit, print_by}
-use Rattle.c_meaning.specs.Words.{release, types_taken, with_result, as_used, Sense, Setting, Signature, next_byte, has_value, World, Out, Go, Stop, OutDone}
-use Rattle.c_meaning.specs.Words.{Caller, stuck}
+use Rattle.c_meaning.specs.Words.{Argument, Arguments, abort, all_defined, space_allocated, as_type, assert, call_function, call_library, call_sense, exit, print_by}
+use Rattle.c_meaning.specs.Words.{space_released, types_taken, with_result, as_used, Sense, Setting, Signature, next_byte, has_value, World, Out, Go, Stop, OutDone}
+use Rattle.c_meaning.specs.Words.{Caller, stuck_run}
 use Rattle.c_meaning_laws.specs.Rules.{IsPointer, IsValue}
 use Rattle.c_meaning_laws.specs.Typed.{CallsFunction, CallsLibrary, TypedCall}
 use Rattle.c_meaning_laws.specs.TypedSource.{SitesFit}
@@ -34,18 +33,18 @@ use Rattle.c_meaning_laws.proofs.Visits.{CallsSafe, bare, returned_safe}
 use Rattle.c_meaning_laws.proofs.Senses.{SenseSafe, effected_safe, valued_safe}
 
 -- functions of the library
-allocate_number : (t : Option ValueType) (k : Kind) (n : ℤ) → IsPointer t → k ≡ Unsigned → Safe (Fits t) (allocate (Number k n)) (allocate (Number k n))
+allocate_number : (t : Option ValueType) (k : Kind) (n : ℤ) → IsPointer t → k ≡ Unsigned → Safe (Fits t) (space_allocated (Number k n)) (space_allocated (Number k n))
 allocate_number t k n h e = rw e record { at = λ w. allocated_fits t (unsigned_abs n) w.objects h; same = λ w. refl }
 
-allocate_safe : (t : Option ValueType) (v : Scalar) → IsPointer t → Fits (Some (type.Number Unsigned)) v → Safe (Fits t) (allocate v) (allocate v)
+allocate_safe : (t : Option ValueType) (v : Scalar) → IsPointer t → Fits (Some (type.Number Unsigned)) v → Safe (Fits t) (space_allocated v) (space_allocated v)
 allocate_safe t Undefined h f = record { at = λ w. tt; same = λ w. refl }
 allocate_safe t (Number k n) h f = allocate_number t k n h (sym f)
 allocate_safe t Null h f = absurd f
 allocate_safe t (Place a i) h f = absurd f
 
-release_safe : (size : ℕ) (p : Scalar) → Fits (Some (type.Pointer size)) p → Safe Any (release p) (release p)
+release_safe : (size : ℕ) (p : Scalar) → Fits (Some (type.Pointer size)) p → Safe Any (space_released p) (space_released p)
 release_safe size p f =
-    seq (answers (λ w. released p w.objects) (λ w. refl) (λ w. released_calm (Some (type.Pointer size)) p w.objects tt f))
+    seq (answers (λ w. object_released p w.objects) (λ w. refl) (λ w. released_calm (Some (type.Pointer size)) p w.objects tt f))
     (λ o _. record { at = λ w. tt; same = λ w. refl })
 
 exit_number : (k : Kind) (n : ℤ) → k ≡ Int → Safe Any (exit (Number k n)) (exit (Number k n))
@@ -95,7 +94,7 @@ pub print_by_safe : (format : Option Text) (n : ℕ) (arguments arguments0 : Arg
     (print_by format n arguments0)
 print_by_safe None n arguments arguments0 Fit a c h = absurd h
 print_by_safe (Some format) n arguments arguments0 Fit a c h =
-    chosen_true stuck stuck (n == length (types_taken (pieces_of format.bytes))) (number_is n (length (types_taken (pieces_of format.bytes))) (c
+    chosen_true stuck_run stuck_run (n == length (types_taken (pieces_of format.bytes))) (number_is n (length (types_taken (pieces_of format.bytes))) (c
     (types_taken (pieces_of format.bytes)) h))
     (seq (a (types_taken (pieces_of format.bytes)) h) (λ vs g.
     seq (all_defined_safe (AllGiven (types_taken (pieces_of format.bytes))) vs g) (λ values k. put_format_safe format.bytes values k)))
@@ -131,7 +130,7 @@ module _ (s : Setting) (call0 : Caller) (fit : SitesFit s.sites) (calls : CallsS
   function_safe token number None e Fit One n arguments arguments0 lone lone0 t a h = absurd h
   function_safe token number (Some f) e Fit One n arguments arguments0 lone lone0 t a h = rw h.1
       (with_result_safe token (Some f.result) (has_value f.result) _ _
-      (chosen_true stuck stuck (n == length f.params) (number_is n (length f.params) (a.count f.params h.0))
+      (chosen_true stuck_run stuck_run (n == length f.params) (number_is n (length f.params) (a.count f.params h.0))
       (seq (a.all f.params h.0) (λ vs _. calls.by number f e vs)))
       (void_value f.result))
 
@@ -140,7 +139,7 @@ module _ (s : Setting) (call0 : Caller) (fit : SitesFit s.sites) (calls : CallsS
       (t : Option ValueType) (print print0 : World → OutDone) → ArgumentsSafe Fit One n arguments arguments0 lone lone0 → CallsLibrary function Fit One t
       → SafeCall t (call_library s token function n lone print) (call_library (bare s call0) token function n lone0 print0)
   library_safe token library.Getchar Fit One n arguments arguments0 lone lone0 t print print0 a h =
-      rw h.1 (valued_safe (returned_safe s call0 fit token (chosen_true stuck stuck (n == 0) (number_is n 0 (a.count [] h.0)) next_byte_safe)))
+      rw h.1 (valued_safe (returned_safe s call0 fit token (chosen_true stuck_run stuck_run (n == 0) (number_is n 0 (a.count [] h.0)) next_byte_safe)))
   library_safe token library.Putchar Fit One n arguments arguments0 lone lone0 t print print0 a h =
       rw h.1 (valued_safe (seq (a.typed (type.Number Int) h.0) (λ v g. put_value_safe v g.0)))
   library_safe token library.Puts Fit One n arguments arguments0 lone lone0 t print print0 a h =
@@ -152,7 +151,7 @@ module _ (s : Setting) (call0 : Caller) (fit : SitesFit s.sites) (calls : CallsS
   library_safe token library.Exit Fit One n arguments arguments0 lone lone0 t print print0 a h =
       effected_safe t (not_void t h.1) (seq (a.typed (type.Number Int) h.0) (λ v g. exit_safe v g.0))
   library_safe token library.Abort Fit One n arguments arguments0 lone lone0 t print print0 a h =
-      effected_safe t (not_void t h.1) (chosen_true stuck stuck (n == 0) (number_is n 0 (a.count [] h.0)) abort_safe)
+      effected_safe t (not_void t h.1) (chosen_true stuck_run stuck_run (n == 0) (number_is n 0 (a.count [] h.0)) abort_safe)
   library_safe token library.Assert Fit One n arguments arguments0 lone lone0 t print print0 a h =
       effected_safe t (not_void t h.1) (seq (a.used h.0) (λ v _. seq (truth_safe v) (λ b _. assert_safe b)))
   library_safe token library.Printf Fit One n arguments arguments0 lone lone0 t print print0 a h = absurd h

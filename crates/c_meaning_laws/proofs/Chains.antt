@@ -10,7 +10,7 @@ use Rattle.c_syntax.specs.ExprTree as e
 use Rattle.c_syntax.specs.ExprTree.{ExprTree, LinkList}
 use Rattle.c_types_expressions.specs.ExprWalk.{binary_of}
 use Rattle.c_meaning.specs.declared.value_type.ValueType.{ValueType}
-use Rattle.c_meaning.specs.Words.{is_pointer_value, linked, null_or, valued, Facts, Setting, expr, links_value, begins_null, is_null_beside, joint}
+use Rattle.c_meaning.specs.Words.{is_pointer_value, value_after_link, null_or, sense_of_value, Facts, Setting, expr, links_value, begins_null, is_null_beside, joint_of_sign}
 use Rattle.c_meaning.specs.Words.{operand_type, type_of, World, Out, bind}
 use Rattle.c_meaning_laws.specs.Chains.{ChainGroupsLeft}
 use Rattle.c_meaning_laws.proofs.Parts.{bind_behind, bind_go}
@@ -46,7 +46,7 @@ module _ (s : Setting) (inner paren token : ℕ) (operator : Sign) (a b : ExprTr
   first_value w =
       bind_behind (null_or is_null (expr s a) w) first_link _ (links_value s (s.facts.type_at token) rest) (λ v u.
       ap (λ out. bind out (links_value s (s.facts.type_at token) rest))
-      (sym (bind_go (linked s (joint operator) token (operand_type is_null (type_of s.facts a))
+      (sym (bind_go (value_after_link s (joint_of_sign operator) token (operand_type is_null (type_of s.facts a))
       (operand_type (is_null_beside (binary_of operator) (operand_type is_null (type_of s.facts a)) b) (type_of s.facts b))
       (null_or (is_null_beside (binary_of operator) (operand_type is_null (type_of s.facts a)) b) (expr s b)) v u))))
 
@@ -61,5 +61,5 @@ module _ (s : Setting) (inner paren token : ℕ) (operator : Sign) (a b : ExprTr
 
 pub chain_groups_left : ChainGroupsLeft
 chain_groups_left s level inner paren token operator a b rest same =
-    ap valued (fun_ext (λ w.
+    ap sense_of_value (fun_ext (λ w.
     first_value s inner paren token operator a b rest w ∙ rest_value s inner paren token operator a b rest w same))

@@ -9,7 +9,7 @@ use Rattle.cbi_base.specs.declared.scalar.Kind.{Kind}
 use Rattle.cbi_base.specs.declared.scalar.Kind.TheVariants.{Char, Int, Unsigned}
 use Rattle.cbi_base.specs.declared.scalar.Scalar.{Scalar}
 use Rattle.cbi_base.specs.declared.scalar.Scalar.TheVariants.{Number, Place, Null, Undefined}
-use Rattle.cbi_base.specs.Words.{wrapped, Object, applied_to_one, converted}
+use Rattle.cbi_base.specs.Words.{wrapped_value, Object, applied_to_one, converted_number}
 use Rattle.c_syntax.specs.declared.expr.PrefixOperator.TheVariants as prefix
 use Rattle.c_syntax.specs.ExprTree as e
 use Rattle.c_syntax.specs.Words.{ExprTree, ExprList, SourceTree, InitialTree, StartTree}
@@ -21,10 +21,10 @@ use Rattle.flow.specs.declared.program.Text.{Text}
 use Rattle.flow.specs.declared.site.Site.{Site}
 use Rattle.c_meaning.specs.declared.value_type.ValueType.{ValueType}
 use Rattle.c_meaning.specs.declared.value_type.ValueType.TheVariants as type
-use Rattle.c_meaning.specs.Words.{as_wanted, between, conversion, converts, is_null_as, Sense, one_operand, wanted_value, Facts, before_all, before_cells}
-use Rattle.c_meaning.specs.Words.{constant, constants, given_by, given_to, global_object, global_objects, nowhere, object_with, one_more, spelled_cells}
+use Rattle.c_meaning.specs.Words.{as_wanted, kind_conversion, conversion, conversion_result, is_null_as, Sense, one_operand, wanted_value, Facts, before_all, before_cells}
+use Rattle.c_meaning.specs.Words.{constant_value, constant_values, given_by, given_to, global_object, global_objects, empty_world, object_with, one_more, spelled_cells}
 use Rattle.c_meaning.specs.Words.{starts_of, computed_type, element_type, facts_of, expr, text_of_string, text_place, source_of, type_of, Out, Go, World}
-use Rattle.c_meaning.specs.Words.{answered}
+use Rattle.c_meaning.specs.Words.{answer_or_trap}
 use Rattle.c_meaning_laws.specs.Rules.{Accepts, TakesOrNull, TakesType}
 use Rattle.c_meaning_laws.specs.TypedSource.{SourceFits}
 use Rattle.c_meaning_laws.specs.TypedText.{GlobalInitial, GlobalItems, IsConstant, Negates, TypedText, TypedGlobal, TypedGlobals}
@@ -35,21 +35,21 @@ use Rattle.c_meaning_laws.proofs.Tables.{every_table_fits}
 abbrev Gives : Option ValueType → World → Out Scalar → Type 0
 Gives t w m = (v : Scalar) × Given t v × (m ≡ Go v w)
 
-number_converts : (have wanted : Kind) (n : ℤ) (w : World) → Gives (Some (type.Number wanted)) w (answered (converts (between have wanted) (Number have n)) w)
-unfolding converted
+number_converts : (have wanted : Kind) (n : ℤ) (w : World) → Gives (Some (type.Number wanted)) w (answer_or_trap (conversion_result (kind_conversion have wanted) (Number have n)) w)
+unfolding converted_number
 number_converts Char Char n w = (Number Char n, (refl, refl), refl)
 number_converts Int Int n w = (Number Int n, (refl, refl), refl)
 number_converts Unsigned Unsigned n w = (Number Unsigned n, (refl, refl), refl)
-number_converts Char Int n w = (Number Int (wrapped Int n), (refl, refl), refl)
-number_converts Char Unsigned n w = (Number Unsigned (wrapped Unsigned n), (refl, refl), refl)
-number_converts Int Char n w = (Number Char (wrapped Char n), (refl, refl), refl)
-number_converts Int Unsigned n w = (Number Unsigned (wrapped Unsigned n), (refl, refl), refl)
-number_converts Unsigned Char n w = (Number Char (wrapped Char n), (refl, refl), refl)
-number_converts Unsigned Int n w = (Number Int (wrapped Int n), (refl, refl), refl)
+number_converts Char Int n w = (Number Int (wrapped_value Int n), (refl, refl), refl)
+number_converts Char Unsigned n w = (Number Unsigned (wrapped_value Unsigned n), (refl, refl), refl)
+number_converts Int Char n w = (Number Char (wrapped_value Char n), (refl, refl), refl)
+number_converts Int Unsigned n w = (Number Unsigned (wrapped_value Unsigned n), (refl, refl), refl)
+number_converts Unsigned Char n w = (Number Char (wrapped_value Char n), (refl, refl), refl)
+number_converts Unsigned Int n w = (Number Int (wrapped_value Int n), (refl, refl), refl)
 
 takes_given : (t u : Option ValueType) (v : Scalar) (w : World) → TakesType t u → Given u v → Gives t w (as_wanted (conversion u t) v w)
 takes_given (Some (type.Number wanted)) (Some (type.Number have)) (Number k n) w h g =
-    subst (λ a. Gives (Some (type.Number wanted)) w (answered (converts (between have wanted) (Number a n)) w)) g.0 (number_converts have wanted n w)
+    subst (λ a. Gives (Some (type.Number wanted)) w (answer_or_trap (conversion_result (kind_conversion have wanted) (Number a n)) w)) g.0 (number_converts have wanted n w)
 takes_given (Some (type.Number wanted)) (Some (type.Number have)) Undefined w h g = absurd (false≢true g.1)
 takes_given (Some (type.Number wanted)) (Some (type.Number have)) Null w h g = absurd g.0
 takes_given (Some (type.Number wanted)) (Some (type.Number have)) (Place a i) w h g = absurd g.0
@@ -69,14 +69,14 @@ negated : (k : Kind) (n : ℤ) (w : World) → Negates k n → Gives (Some (type
 unfolding applied_to_one
 negated Char n w h = absurd h
 negated Int n w h = rw h (Number Int (neg_ℤ n), (refl, refl), refl)
-negated Unsigned n w h = (Number Unsigned (wrapped Unsigned (neg_ℤ n)), (refl, refl), refl)
+negated Unsigned n w h = (Number Unsigned (wrapped_value Unsigned (neg_ℤ n)), (refl, refl), refl)
 
-constant_given : (facts : Facts) (x : ExprTree) → IsConstant facts x → Gives (type_of facts x) nowhere ((expr (before_all facts) x).value nowhere)
+constant_given : (facts : Facts) (x : ExprTree) → IsConstant facts x → Gives (type_of facts x) empty_world ((expr (before_all facts) x).value empty_world)
 constant_given facts (e.Constant token kind value) h = rw h (Number kind value, (refl, refl), refl)
-constant_given facts (e.Prefix token prefix.Minus (e.Constant at kind value)) h = rw h.1 (rw h.2 (negated kind value nowhere h.0))
+constant_given facts (e.Prefix token prefix.Minus (e.Constant at kind value)) h = rw h.1 (rw h.2 (negated kind value empty_world h.0))
 constant_given facts (e.Strings token parts) h = placed (facts.text_at token) h.0
   where
-    placed : (o : Option ℕ) → IsSome o → Gives (facts.type_at token) nowhere (text_place facts o nowhere)
+    placed : (o : Option ℕ) → IsSome o → Gives (facts.type_at token) empty_world (text_place facts o empty_world)
     placed None k = absurd (false≢true k)
     placed (Some number) k = (
       Place (facts.statics.globals + number) 0,
@@ -93,12 +93,12 @@ constant_given facts x h = absurd h
 some_given : (t : Option ValueType) (w : World) (m : Out Scalar) → Gives t w m → IsSome (given_by m)
 some_given t w m h = rw h.2 refl
 
-wanted_given : (t u : Option ValueType) (is_null : Bool) (m : Sense) → TakesOrNull is_null t u → Gives u nowhere (m.value nowhere)
-    → IsSome (given_by (wanted_value is_null u t m nowhere))
+wanted_given : (t u : Option ValueType) (is_null : Bool) (m : Sense) → TakesOrNull is_null t u → Gives u empty_world (m.value empty_world)
+    → IsSome (given_by (wanted_value is_null u t m empty_world))
 wanted_given t u true m h g = refl
-wanted_given t u false m h g = rw g.2 (some_given t nowhere (as_wanted (conversion u t) g.0 nowhere) (takes_given t u g.0 nowhere h g.1))
+wanted_given t u false m h g = rw g.2 (some_given t empty_world (as_wanted (conversion u t) g.0 empty_world) (takes_given t u g.0 empty_world h g.1))
 
-constant_some : (facts : Facts) (t : Option ValueType) (x : ExprTree) → IsConstant facts x → Accepts facts t x → IsSome (constant facts t x)
+constant_some : (facts : Facts) (t : Option ValueType) (x : ExprTree) → IsConstant facts x → Accepts facts t x → IsSome (constant_value facts t x)
 constant_some facts t x h k = wanted_given t (type_of facts x) (is_null_as t x) (expr (before_all facts) x) k (constant_given facts x h)
 
 -- cells
@@ -107,9 +107,9 @@ before_some (Some v) (Some cells) h k = refl
 before_some None cells h k = absurd (false≢true h)
 before_some (Some v) None h k = absurd (false≢true k)
 
-constants_some : (facts : Facts) (t : Option ValueType) (xs : ExprList) → GlobalItems facts t xs → IsSome (constants facts t xs)
+constants_some : (facts : Facts) (t : Option ValueType) (xs : ExprList) → GlobalItems facts t xs → IsSome (constant_values facts t xs)
 constants_some facts t e.no_exprs h = refl
-constants_some facts t (e.more_exprs x rest) h = before_some (constant facts t x) (constants facts t rest) (constant_some facts t x h.0 h.1)
+constants_some facts t (e.more_exprs x rest) h = before_some (constant_value facts t x) (constant_values facts t rest) (constant_some facts t x h.0 h.1)
     (constants_some facts t rest h.2)
 
 spelled_some : (o : Option Text) → IsSome o → IsSome (spelled_cells o)
@@ -125,7 +125,7 @@ given_some : (facts : Facts) (of : ValueType) (element : Option ValueType) (x : 
 given_some facts of element None h = refl
 given_some facts (type.Array size) element (Some (tree.Value x)) h = spelled_some (text_of_string facts x) h
 given_some facts of element (Some (tree.Braced token items comma)) h = constants_some facts element items h
-given_some facts of element (Some (tree.Value x)) h = mapped_some (λ v. v ∷ []) (constant facts (Some of) x) (constant_some facts (Some of) x h.0 h.1)
+given_some facts of element (Some (tree.Value x)) h = mapped_some (λ v. v ∷ []) (constant_value facts (Some of) x) (constant_some facts (Some of) x h.0 h.1)
 
 -- objects
 object_some : (facts : Facts) (w : Walk) (x : StartTree) (o : Option TypeTree) → TypedGlobal facts w x o → IsSome (option_and_then (object_with facts w x) o)

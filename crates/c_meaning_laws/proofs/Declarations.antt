@@ -2,7 +2,7 @@
 use Rattle.std.proofs.Common.{◌≡◌, ℕ, suc, ◌+◌, refl, List, [], ◌∷◌, Some, None}
 use Rattle.std.proofs.lemmas.Bool.{false≢true}
 use Rattle.std.specs.Prelude.{Option, pos, IsSome}
-use Rattle.cbi_base.specs.Words.{local_at, moved, stored, stored_bytes}
+use Rattle.cbi_base.specs.Words.{local_at, moved_pointer, value_stored, stored_bytes}
 use Rattle.cbi_base.specs.declared.scalar.Scalar.{Scalar}
 use Rattle.c_syntax.specs.ExprTree as e
 use Rattle.c_syntax.specs.Words.{ExprTree, ExprList, InitialTree, StartTree}
@@ -12,8 +12,8 @@ use Rattle.flow.specs.declared.site.Slot.{Slot}
 use Rattle.flow.specs.declared.site.Slot.TheVariants as slot
 use Rattle.c_meaning.specs.declared.value_type.ValueType.{ValueType}
 use Rattle.c_meaning.specs.declared.value_type.ValueType.TheVariants as type
-use Rattle.c_meaning.specs.Words.{is_null_as, Setting, all_started, clear, element_set, elements_set, equals_token, initialised, object_of, on_object}
-use Rattle.c_meaning.specs.Words.{scalar_set, spell, value_set, want_of, zeroed, text_of_string, member_place, store_at, type_of, World, OutDone, Caller}
+use Rattle.c_meaning.specs.Words.{is_null_as, Setting, all_started, variable_cleared, element_set, elements_set, equals_token, variable_initialised, object_of, on_object}
+use Rattle.c_meaning.specs.Words.{scalar_set, string_stored, value_set, want_of, array_zeroed, text_of_string, member_place, store_at, type_of, World, OutDone, Caller}
 use Rattle.c_meaning_laws.specs.Rules.{Accepts, IsScalar}
 use Rattle.c_meaning_laws.specs.Typed.{HasSlot, PairsFit, Typed}
 use Rattle.c_meaning_laws.specs.TypedSource.{SitesFit}
@@ -24,25 +24,25 @@ use Rattle.c_meaning_laws.proofs.Memory.{moved_at, spelled_calm, stored_calm}
 use Rattle.c_meaning_laws.proofs.Visits.{CallsSafe, assigned_safe, bare, spot_at}
 use Rattle.c_meaning_laws.proofs.Expressions.{expr_safe, local_known, variable_safe}
 
-clear_safe : (number : ℕ) → Safe Any (clear number) (clear number)
+clear_safe : (number : ℕ) → Safe Any (variable_cleared number) (variable_cleared number)
 clear_safe number = record { at = λ w. tt; same = λ w. refl }
 
-zeroed_safe : (t : Option ValueType) (number : ℕ) → IsScalar t → Safe Any (zeroed (want_of t) number) (zeroed (want_of t) number)
+zeroed_safe : (t : Option ValueType) (number : ℕ) → IsScalar t → Safe Any (array_zeroed (want_of t) number) (array_zeroed (want_of t) number)
 zeroed_safe (Some (type.Number kind)) number h = record { at = λ w. tt; same = λ w. refl }
 zeroed_safe (Some (type.Pointer size)) number h = record { at = λ w. tt; same = λ w. refl }
 zeroed_safe t number h = absurd h
 
-spell_safe : (o : Option Text) (number : ℕ) → IsSome o → Safe Any (spell o number) (spell o number)
+spell_safe : (o : Option Text) (number : ℕ) → IsSome o → Safe Any (string_stored o number) (string_stored o number)
 spell_safe None number h = absurd (false≢true h)
 spell_safe (Some text) number h =
     seq (answers (λ w. stored_bytes number 0 text.bytes w.objects) (λ w. refl) (λ w. spelled_calm number 0 text.bytes w.objects))
     (λ o _. record { at = λ w. tt; same = λ w. refl })
 
 store_safe : (p v : Scalar) → IsAt p → Safe Any (store_at p v) (store_at p v)
-store_safe p v h = seq (answers (λ w. stored p v w.objects) (λ w. refl) (λ w. stored_calm p v w.objects h)) (λ o _. record { at = λ w. tt; same = λ w. refl })
+store_safe p v h = seq (answers (λ w. value_stored p v w.objects) (λ w. refl) (λ w. stored_calm p v w.objects h)) (λ o _. record { at = λ w. tt; same = λ w. refl })
 
 element_safe : (index : ℕ) (p : Scalar) → IsAt p → Safe IsAt (member_place (Some index) p) (member_place (Some index) p)
-element_safe index p h = answers (λ w. moved p (pos index) w.objects) (λ w. refl) (λ w. moved_at p (pos index) w.objects h)
+element_safe index p h = answers (λ w. moved_pointer p (pos index) w.objects) (λ w. refl) (λ w. moved_at p (pos index) w.objects h)
 
 module _ (s : Setting) (call0 : Caller) (fit : SitesFit s.sites) (calls : CallsSafe s.facts s.call call0) where
   on_local_safe : (o : Option Slot) (act act0 : ℕ → World → OutDone) → IsLocal s.facts s.sites s.locals.count o
@@ -87,9 +87,9 @@ module _ (s : Setting) (call0 : Caller) (fit : SitesFit s.sites) (calls : CallsS
       → IsSome (text_of_string s.facts x)
       → Safe Any (value_set s token (Some (type.Array 0)) x) (value_set (bare s call0) token (Some (type.Array 0)) x)
   text_set_safe token x l h k =
-      seq (on_local_safe (s.facts.slot_at token) (zeroed (want_of (s.facts.element_at token))) (zeroed (want_of (s.facts.element_at token))) l
+      seq (on_local_safe (s.facts.slot_at token) (array_zeroed (want_of (s.facts.element_at token))) (array_zeroed (want_of (s.facts.element_at token))) l
       (λ n. zeroed_safe (s.facts.element_at token) n h))
-      (λ _ _. on_local_safe (s.facts.slot_at token) (spell (text_of_string s.facts x)) (spell (text_of_string s.facts x)) l (λ n. spell_safe (text_of_string s.facts x) n k))
+      (λ _ _. on_local_safe (s.facts.slot_at token) (string_stored (text_of_string s.facts x)) (string_stored (text_of_string s.facts x)) l (λ n. spell_safe (text_of_string s.facts x) n k))
 
   value_set_safe : (token : ℕ) (t : Option ValueType) (x : ExprTree) → IsLocal s.facts s.sites s.locals.count (s.facts.slot_at token)
       → TypedValue s.facts s.sites s.locals.count token t x
@@ -99,17 +99,17 @@ module _ (s : Setting) (call0 : Caller) (fit : SitesFit s.sites) (calls : CallsS
 
   initialised_safe : (token : ℕ) (x : Option InitialTree) → IsLocal s.facts s.sites s.locals.count (s.facts.slot_at token)
       → TypedInitial s.facts s.sites s.locals.count token x
-      → Safe Any (initialised s token x) (initialised (bare s call0) token x)
+      → Safe Any (variable_initialised s token x) (variable_initialised (bare s call0) token x)
   initialised_safe token None l h = gives tt tt
   initialised_safe token (Some (tree.Value x)) l h = value_set_safe token (s.facts.declared_at token) x l h
   initialised_safe token (Some (tree.Braced at items comma)) l h =
-      seq (on_local_safe (s.facts.slot_at token) (zeroed (want_of (s.facts.element_at token))) (zeroed (want_of (s.facts.element_at token))) l
+      seq (on_local_safe (s.facts.slot_at token) (array_zeroed (want_of (s.facts.element_at token))) (array_zeroed (want_of (s.facts.element_at token))) l
       (λ n. zeroed_safe (s.facts.element_at token) n h.0))
       (λ _ _. elements_safe token 0 items (local_slot (s.facts.slot_at token) l) h.1)
 
   pub starts_safe : (xs : List StartTree) → TypedStarts s.facts s.sites s.locals.count xs → Safe Any (all_started s xs) (all_started (bare s call0) xs)
   starts_safe [] h = gives tt tt
   starts_safe (x ∷ xs) h =
-      seq (seq (on_local_safe (s.facts.slot_at x.declarator.name_token) clear clear h.0 clear_safe)
+      seq (seq (on_local_safe (s.facts.slot_at x.declarator.name_token) variable_cleared variable_cleared h.0 clear_safe)
       (λ _ _. initialised_safe x.declarator.name_token x.initial h.0 h.1))
       (λ _ _. starts_safe xs h.2)

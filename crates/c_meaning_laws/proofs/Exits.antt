@@ -5,7 +5,7 @@ use Rattle.cbi_base.specs.declared.scalar.Kind.{Kind}
 use Rattle.cbi_base.specs.declared.scalar.Kind.TheVariants.{Char, Int, Unsigned}
 use Rattle.cbi_base.specs.declared.scalar.Scalar.{Scalar}
 use Rattle.cbi_base.specs.declared.scalar.Scalar.TheVariants.{Number, Place, Null, Undefined}
-use Rattle.cbi_base.specs.Words.{wrapped, converted, Locals, Object, Objects}
+use Rattle.cbi_base.specs.Words.{wrapped_value, converted_number, Locals, Object, Objects}
 use Rattle.c_values.proofs.Modulo.{wrapped-inside}
 use Rattle.std.specs.Prelude.{codes}
 use Rattle.c_syntax.specs.ExprTree as e
@@ -13,14 +13,14 @@ use Rattle.c_syntax.specs.Words.{ExprTree, StatementTree, EntryList}
 use Rattle.c_syntax.specs.StatementTree as tree
 use Rattle.c_meaning.specs.declared.value_type.ValueType.{ValueType}
 use Rattle.c_meaning.specs.declared.value_type.ValueType.TheVariants as type
-use Rattle.c_meaning.specs.Words.{call_sense, exit, as_wanted, conversion, handed, Setting, declares, arguments_value, condition, expr, formatted, lone_value}
-use Rattle.c_meaning.specs.Words.{behaves, call_at, enter_function, enter_with, first_world, gives_value, inside, locals_at, meaning, run_body, run_from}
+use Rattle.c_meaning.specs.Words.{call_sense, exit, as_wanted, conversion, handed_scalar, Setting, declaration_done, arguments_value, condition, expr, arguments_printed, lone_value}
+use Rattle.c_meaning.specs.Words.{run_behaviour, call_at, enter_function, enter_with, first_world, gives_value, body_world, locals_at, meaning, run_body, run_from}
 use Rattle.c_meaning.specs.Words.{run_main, setting_of, value_left, Signature, after_body, after_entry, do_round, exec, exec_all, for_round, for_started}
-use Rattle.c_meaning.specs.Words.{optional_condition, optional_effect, rounds, while_round, called_as, count, has_value, type_of, World, Out, Go, Stop, OutDone}
-use Rattle.c_meaning.specs.Words.{Flow, Next, Broken, Continued, Returned, answered, bind, choose, spend}
+use Rattle.c_meaning.specs.Words.{optional_condition, optional_effect, loop_rounds, while_round, called_as, expression_count, has_value, type_of, World, Out, Go, Stop, OutDone}
+use Rattle.c_meaning.specs.Words.{Flow, Next, Broken, Continued, Returned, answer_or_trap, bind, chosen_part, one_turn_spent}
 use Rattle.c_meaning_laws.specs.Rules.{IsNumberType}
 use Rattle.c_meaning_laws.specs.Exits.{AreExited, IsExited, ReturnOfMainExits, RunIsOfMain, exit_with, main_body}
-use Rattle.c_meaning_laws.specs.Negation.{IsOf}
+use Rattle.c_meaning_laws.specs.Negation.{IsValueOfType}
 
 -- the end of a run by `exit`, as what comes of a statement
 abbrev exited : Scalar → World → Out Flow
@@ -29,7 +29,7 @@ exited v w = bind (exit v w) (λ _. Go Next)
 -- The second does what the first does, or the first returned a value that the second exits with.
 abbrev EndsAs : Out Flow → Out Flow → Type 0
 EndsAs out other =
-    (other ≡ out) ⊎ ((v : Scalar) × (u : World) × (out ≡ Go (Returned (Some v)) u) × (IsOf (Some (type.Number Int)) v → other ≡ exited v u))
+    (other ≡ out) ⊎ ((v : Scalar) × (u : World) × (out ≡ Go (Returned (Some v)) u) × (IsValueOfType (Some (type.Number Int)) v → other ≡ exited v u))
 
 abbrev Ends : (World → Out Flow) → (World → Out Flow) → Type 0
 Ends m other = (w : World) → EndsAs (m w) (other w)
@@ -64,7 +64,7 @@ same_ends : {A : Type 0} (out : Out A) (f g : A → World → Out Flow) → ((x 
 same_ends (Go x w) f g next = next x w
 same_ends (Stop outcome w) f g next = inl refl
 
-chosen_ends : (b : Bool) (m other n another : World → Out Flow) → Ends m other → Ends n another → Ends (choose b m n) (choose b other another)
+chosen_ends : (b : Bool) (m other n another : World → Out Flow) → Ends m other → Ends n another → Ends (chosen_part b m n) (chosen_part b other another)
 chosen_ends true m other n another h k = h
 chosen_ends false m other n another h k = k
 
@@ -81,7 +81,7 @@ entry_ends : (rest other : World → Out Flow) → Ends rest other → (flow : F
 entry_ends rest other h Next w = h w
 entry_ends rest other h flow w = inl refl
 
-spend_ends : (turns : ℕ) (w : World) (m other : World → Out Flow) → Ends m other → EndsAs (spend turns w m) (spend turns w other)
+spend_ends : (turns : ℕ) (w : World) (m other : World → Out Flow) → Ends m other → EndsAs (one_turn_spent turns w m) (one_turn_spent turns w other)
 spend_ends zero w m other h = inl refl
 spend_ends (suc turns) w m other h = h (record w { turns = turns })
 
@@ -89,11 +89,11 @@ spend_ends (suc turns) w m other h = h (record w { turns = turns })
 abbrev RoundEnds : ((World → Out Flow) → World → Out Flow) → ((World → Out Flow) → World → Out Flow) → Type 0
 RoundEnds round other = (again more : World → Out Flow) → Ends again more → Ends (round again) (other more)
 
-rounds_end : (round other : (World → Out Flow) → World → Out Flow) → RoundEnds round other → (n : ℕ) → Ends (rounds n round) (rounds n other)
+rounds_end : (round other : (World → Out Flow) → World → Out Flow) → RoundEnds round other → (n : ℕ) → Ends (loop_rounds n round) (loop_rounds n other)
 rounds_end round other h zero w = h (Stop CutTurns) (Stop CutTurns) (itself (Stop CutTurns)) w
 rounds_end round other h (suc n) w =
-    h (λ u. spend u.turns u (rounds n round)) (λ u. spend u.turns u (rounds n other))
-    (λ u. spend_ends u.turns u (rounds n round) (rounds n other) (rounds_end round other h n)) w
+    h (λ u. one_turn_spent u.turns u (loop_rounds n round)) (λ u. one_turn_spent u.turns u (loop_rounds n other))
+    (λ u. spend_ends u.turns u (loop_rounds n round) (loop_rounds n other) (rounds_end round other h n)) w
 
 while_ends : (test : World → Out Bool) (body other : World → Out Flow) → Ends body other → RoundEnds (while_round test body) (while_round test other)
 while_ends test body other h again more k w =
@@ -102,7 +102,7 @@ while_ends test body other h again more k w =
 
 do_ends : (test : World → Out Bool) (body other : World → Out Flow) → Ends body other → RoundEnds (do_round test body) (do_round test other)
 do_ends test body other h again more k w =
-    let next : (World → Out Flow) → World → Out Flow = λ m u. bind (test u) (λ holds. choose holds m (Go Next)) in
+    let next : (World → Out Flow) → World → Out Flow = λ m u. bind (test u) (λ holds. chosen_part holds m (Go Next)) in
     bind_ends (body w) (other w) (after_body (next again)) (after_body (next more)) (h w) (λ v y. refl) (body_ends (next again) (next more) (λ u.
     same_ends (test u) _ _ (λ holds. chosen_ends holds again more (Go Next) (Go Next) k (itself (Go Next)))))
 
@@ -112,8 +112,8 @@ for_ends test body other step h again more k =
     while_ends test body other h (λ u. bind (step u) (λ _. again)) (λ u. bind (step u) (λ _. more)) (λ u. same_ends (step u) _ _ (λ _. k))
 
 -- an `int` that is returned, and one that is exited with
-kept_int : (v : Scalar) (w : World) → IsOf (Some (type.Number Int)) v → bind (bind (answered (converted Int v) w) exit) (λ _. Go Next) ≡ exited v w
-unfolding converted
+kept_int : (v : Scalar) (w : World) → IsValueOfType (Some (type.Number Int)) v → bind (bind (answer_or_trap (converted_number Int v) w) exit) (λ _. Go Next) ≡ exited v w
+unfolding converted_number
 kept_int (Number k n) w h =
     ap (λ (m : ℤ). exited (Number Int m) w) (wrapped-inside Int n h.1) ∙ ap (λ (j : Kind). exited (Number j n) w) (sym h.0)
 kept_int Undefined w h = refl
@@ -121,14 +121,14 @@ kept_int Null w h = absurd h
 kept_int (Place number offset) w h = absurd h
 
 turned_int : (k : Kind) (v : Scalar) (w : World)
-    → EndsAs (bind (answered (converted Int v) w) (λ x. Go (Returned (Some x)))) (bind (bind (answered (converted Int v) w) exit) (λ _. Go Next))
-unfolding converted
-turned_int k (Number j n) w = inr (Number Int (wrapped Int n), w, refl, λ _. refl)
+    → EndsAs (bind (answer_or_trap (converted_number Int v) w) (λ x. Go (Returned (Some x)))) (bind (bind (answer_or_trap (converted_number Int v) w) exit) (λ _. Go Next))
+unfolding converted_number
+turned_int k (Number j n) w = inr (Number Int (wrapped_value Int n), w, refl, λ _. refl)
 turned_int k v w = inl refl
 
 value_ends : (of : Option ValueType) (v : Scalar) (w : World) → IsNumberType of
     → EndsAs (bind (as_wanted (conversion of (Some (type.Number Int))) v w) (λ x. Go (Returned (Some x))))
-    (bind (bind (handed (Some (type.Number Int)) v w) exit) (λ _. Go Next))
+    (bind (bind (handed_scalar (Some (type.Number Int)) v w) exit) (λ _. Go Next))
 value_ends (Some (type.Number Int)) v w h = inr (v, w, refl, kept_int v w)
 value_ends (Some (type.Number Char)) v w h = turned_int Char v w
 value_ends (Some (type.Number Unsigned)) v w h = turned_int Unsigned v w
@@ -136,7 +136,7 @@ value_ends of v w h = absurd h
 
 out_ends : (of : Option ValueType) (out : Out Scalar) → IsNumberType of
     → EndsAs (bind (bind out (as_wanted (conversion of (Some (type.Number Int))))) (λ x. Go (Returned (Some x))))
-    (bind (bind (bind out (handed (Some (type.Number Int)))) exit) (λ _. Go Next))
+    (bind (bind (bind out (handed_scalar (Some (type.Number Int)))) exit) (λ _. Go Next))
 out_ends of (Go v w) h = value_ends of v w h
 out_ends of (Stop outcome w) h = inl refl
 
@@ -147,11 +147,11 @@ module _ (s : Setting) (n : ℕ) where
   -- `exit` is the library's
   exit_called : (other name : ℕ) (v : ExprTree) (w : World) → s.facts.function_at name ≡ None
       → exec s n result (tree.Expr other (exit_with name v)) w
-      ≡ bind (bind (bind ((expr s v).value w) (handed (Some result))) exit) (λ _. Go Next)
+      ≡ bind (bind (bind ((expr s v).value w) (handed_scalar (Some result))) exit) (λ _. Go Next)
   exit_called other name v w library =
-      ap (λ (number : Option ℕ). bind ((call_sense s name (called_as number (codes "exit")) (count (e.more_exprs v e.no_exprs))
+      ap (λ (number : Option ℕ). bind ((call_sense s name (called_as number (codes "exit")) (expression_count (e.more_exprs v e.no_exprs))
       (λ types. arguments_value s types (e.more_exprs v e.no_exprs) []) (λ want. lone_value s want (e.more_exprs v e.no_exprs))
-      (formatted s (e.more_exprs v e.no_exprs))).effect w) (λ _. Go Next)) library
+      (arguments_printed s (e.more_exprs v e.no_exprs))).effect w) (λ _. Go Next)) library
 
   return_ends : (token : ℕ) (v : ExprTree) (y : StatementTree) → IsExited s.facts (tree.Return token (Some v)) y
       → Ends (exec s n result (tree.Return token (Some v))) (exec s n result y)
@@ -203,31 +203,31 @@ module _ (s : Setting) (n : ℕ) where
     entries_end tree.no_entries ys h w = inl (ap (λ zs. exec_all s n result zs w) h)
     entries_end (tree.declared d rest) ys h w =
         subst (λ zs. EndsAs (exec_all s n result (tree.declared d rest) w) (exec_all s n result zs w)) (sym h.1)
-        (same_ends (declares s d w) _ _ (λ _. entries_end rest h.0 h.2))
+        (same_ends (declaration_done s d w) _ _ (λ _. entries_end rest h.0 h.2))
     entries_end (tree.stated x rest) ys h w =
         subst (λ zs. EndsAs (exec_all s n result (tree.stated x rest) w) (exec_all s n result zs w)) (sym h.2)
         (bind_ends (exec s n result x w) (exec s n result h.0 w) (after_entry (exec_all s n result rest)) (after_entry (exec_all s n result h.1))
         (statement_ends x h.0 h.3 w) (λ v u. refl) (entry_ends (exec_all s n result rest) (exec_all s n result h.1) (entries_end rest h.1 h.4)))
 
 -- the end of a run that returned, and of one that was exited
-exit_behaves : (v : Scalar) (w : World) → IsOf (Some (type.Number Int)) v
-    → behaves (bind (exited v w) (value_left true true)) ≡ behaves (value_left true true (Returned (Some v)) w)
+exit_behaves : (v : Scalar) (w : World) → IsValueOfType (Some (type.Number Int)) v
+    → run_behaviour (bind (exited v w) (value_left true true)) ≡ run_behaviour (value_left true true (Returned (Some v)) w)
 exit_behaves Undefined w h = refl
 exit_behaves (Number k n) w h =
-    subst (λ j. behaves (bind (exited (Number j n) w) (value_left true true)) ≡ behaves (value_left true true (Returned (Some (Number j n))) w)) (sym h.0)
+    subst (λ j. run_behaviour (bind (exited (Number j n) w) (value_left true true)) ≡ run_behaviour (value_left true true (Returned (Some (Number j n))) w)) (sym h.0)
     refl
 exit_behaves Null w h = absurd h
 exit_behaves (Place number offset) w h = absurd h
 
-behaves_alike : (out other : Out Flow) → EndsAs out other → ((v : Scalar) (u : World) → out ≡ Go (Returned (Some v)) u → IsOf (Some (type.Number Int)) v)
-    → behaves (bind other (value_left true true)) ≡ behaves (bind out (value_left true true))
-behaves_alike out other (inl same) ints = ap (λ o. behaves (bind o (value_left true true))) same
+behaves_alike : (out other : Out Flow) → EndsAs out other → ((v : Scalar) (u : World) → out ≡ Go (Returned (Some v)) u → IsValueOfType (Some (type.Number Int)) v)
+    → run_behaviour (bind other (value_left true true)) ≡ run_behaviour (bind out (value_left true true))
+behaves_alike out other (inl same) ints = ap (λ o. run_behaviour (bind o (value_left true true))) same
 behaves_alike out other (inr returned) ints =
     let v : Scalar = returned.0 in
     let u : World = returned.1 in
-    let is : IsOf (Some (type.Number Int)) v = ints v u returned.2 in
-    ap (λ o. behaves (bind o (value_left true true))) (returned.3 is) ∙ exit_behaves v u is
-    ∙ ap (λ o. behaves (bind o (value_left true true))) (sym returned.2)
+    let is : IsValueOfType (Some (type.Number Int)) v = ints v u returned.2 in
+    ap (λ o. run_behaviour (bind o (value_left true true))) (returned.3 is) ∙ exit_behaves v u is
+    ∙ ap (λ o. run_behaviour (bind o (value_left true true))) (sym returned.2)
 
 pub return_of_main_exits : ReturnOfMainExits
 return_of_main_exits src turns locals body other w exits ints =
@@ -239,11 +239,11 @@ unfolding meaning
 run_is_of_main src input turns f body made objects entered known int has start room enters =
     let w : World = first_world objects input turns in
     let locals : Locals = locals_at f w in
-    ap (λ (o : Option (List Object)). behaves (run_main src input turns o)) start
-    ∙ ap (λ (o : Option Objects). behaves (run_from src input turns o)) room
-    ∙ ap (λ (g : Option Signature). behaves (bind (enter_function src (call_at src turns) turns src.main g [] w) (value_left true (gives_value g)))) known
-    ∙ ap (λ (o : Option Objects). behaves (bind (enter_with src (call_at src turns) turns src.main f w o) (value_left true (has_value f.result)))) enters
+    ap (λ (o : Option (List Object)). run_behaviour (run_main src input turns o)) start
+    ∙ ap (λ (o : Option Objects). run_behaviour (run_from src input turns o)) room
+    ∙ ap (λ (g : Option Signature). run_behaviour (bind (enter_function src (call_at src turns) turns src.main g [] w) (value_left true (gives_value g)))) known
+    ∙ ap (λ (o : Option Objects). run_behaviour (bind (enter_with src (call_at src turns) turns src.main f w o) (value_left true (has_value f.result)))) enters
     ∙ ap (λ (b : Option EntryList).
-    behaves (bind (run_body src (call_at src turns) turns f locals b (inside entered w)) (value_left true (has_value f.result)))) has
+    run_behaviour (bind (run_body src (call_at src turns) turns f locals b (body_world entered w)) (value_left true (has_value f.result)))) has
     ∙ ap (λ (t : ValueType).
-    behaves (bind (exec_all (setting_of src (call_at src turns) locals) turns t body (inside entered w)) (value_left true (has_value t)))) int
+    run_behaviour (bind (exec_all (setting_of src (call_at src turns) locals) turns t body (body_world entered w)) (value_left true (has_value t)))) int

@@ -5,7 +5,7 @@ use Rattle.std.proofs.lemmas.Bool.{false≢true, true≢false}
 use Rattle.std.proofs.lemmas.Bool.Decides.{nat_tests}
 use Rattle.std.proofs.lemmas.List.{reverse-append, reverse-reverse}
 use Rattle.std.specs.Prelude.{Option, pos, negsuc, IsSome, ◌&&◌, reverse}
-use Rattle.cbi_base.specs.Words.{Locals, local_at, moved}
+use Rattle.cbi_base.specs.Words.{Locals, local_at, moved_pointer}
 use Rattle.base_lists.proofs.Tests.{and_first}
 use Rattle.cbi_base.specs.declared.operators.Binary.TheVariants as op
 use Rattle.cbi_base.specs.declared.scalar.Kind.TheVariants.{Int}
@@ -18,9 +18,9 @@ use Rattle.flow.specs.declared.site.Slot.{Slot}
 use Rattle.flow.specs.declared.site.Slot.TheVariants as slot
 use Rattle.c_meaning.specs.declared.value_type.ValueType.{ValueType}
 use Rattle.c_meaning.specs.declared.value_type.ValueType.TheVariants as type
-use Rattle.c_meaning.specs.Words.{as_type, as_used, is_null_as, is_null_constant, is_pointer_value, Sense, postfixed, settled, spot, Facts, Setting}
-use Rattle.c_meaning.specs.Words.{arguments_value, condition, expr, last_sense, links_value, lone_value, onward, text_place, operation, member_place, variable}
-use Rattle.c_meaning.specs.Words.{assignment, begins_null, called_as, count, ends_as_place, is_null_beside, is_place, joint, link_token, operand_type}
+use Rattle.c_meaning.specs.Words.{as_type, as_used, is_null_as, is_null_constant, is_pointer_value, Sense, postfixed_sense, loaded_operand, place_or_value, Facts, Setting}
+use Rattle.c_meaning.specs.Words.{arguments_value, condition, expr, last_sense, links_value, lone_value, value_after_postfix, text_place, operation, member_place, variable}
+use Rattle.c_meaning.specs.Words.{assignment_of_sign, begins_null, called_as, expression_count, ends_as_place, is_null_beside, is_place, joint_of_sign, link_token, operand_type}
 use Rattle.c_meaning.specs.Words.{postfix_token, token_of, type_of, World, Out, Caller}
 use Rattle.c_meaning_laws.specs.Rules.{IsPointing, IsValue, OperatorsEnd, TakesOrNull, type_beside}
 use Rattle.c_meaning_laws.specs.Typed.{HasSlot, Typed, TypedArguments, TypedLast, TypedLinks, TypedLone, TypedPostfix, variable_named}
@@ -92,11 +92,11 @@ backwards types vs h = subst (AllGiven types) (sym (ap reverse (h.2 ∙ append-n
 
 member_safe : (o : Option ℕ) (p : Scalar) → IsSome o → IsAt p → Safe IsAt (member_place o p) (member_place o p)
 member_safe None p h a = absurd (false≢true h)
-member_safe (Some offset) p h a = answers (λ w. moved p (pos offset) w.objects) (λ w. refl) (λ w. moved_at p (pos offset) w.objects a)
+member_safe (Some offset) p h a = answers (λ w. moved_pointer p (pos offset) w.objects) (λ w. refl) (λ w. moved_at p (pos offset) w.objects a)
 
 member_behind_safe : (t : Option ValueType) (o : Option ℕ) (p : Scalar) → IsPointing t → IsSome o → Fits t p → Safe IsAt (member_place o p) (member_place o p)
 member_behind_safe t None p k h f = absurd (false≢true h)
-member_behind_safe t (Some offset) p k h f = answers (λ w. moved p (pos offset) w.objects) (λ w. refl) (λ w. moved_calm t p (pos offset) w.objects k f)
+member_behind_safe t (Some offset) p k h f = answers (λ w. moved_pointer p (pos offset) w.objects) (λ w. refl) (λ w. moved_calm t p (pos offset) w.objects k f)
 
 text_safe : (facts : Facts) (t : Option ValueType) (o : Option ℕ) → IsSome o → IsPointing t → Safe (Fits t) (text_place facts o) (text_place facts o)
 text_safe facts t None h k = absurd (false≢true h)
@@ -123,17 +123,17 @@ module _ (s : Setting) (call0 : Caller) (fit : SitesFit s.sites) (calls : CallsS
   held_alone false slot t v h = h
 
   settled_safe : (known : Bool) (slot : Option Slot) (t : Option ValueType) (v : Scalar) → IsValue t → Held known slot t v
-      → Safe (Fits t) (settled known t v) (settled known t v)
+      → Safe (Fits t) (loaded_operand known t v) (loaded_operand known t v)
   settled_safe true slot t v l h = load_safe t v l (spot_at s.locals slot v h)
   settled_safe false slot t v l h = gives v h
 
   spot_safe : (known : Bool) (slot : Option Slot) (t : Option ValueType) (m m0 : Sense) → (known ≡ false → IsValue t) → SenseSafe s.locals t known slot m m0
-      → Safe (Held known slot t) (spot known m) (spot known m0)
+      → Safe (Held known slot t) (place_or_value known m) (place_or_value known m0)
   spot_safe true slot t m m0 l a = a.place refl
   spot_safe false slot t m m0 l a = a.value (l refl)
 
   postfixed_safe : (known : Bool) (t : Option ValueType) (m m0 : World → Out Scalar) → OperatorsEnd known t → Safe (Held known None t) m m0
-      → SenseSafe s.locals t known None (postfixed known t m) (postfixed known t m0)
+      → SenseSafe s.locals t known None (postfixed_sense known t m) (postfixed_sense known t m0)
   postfixed_safe true t m m0 h a = placed_safe t h a
   postfixed_safe false t m m0 h a = valued_safe a
 
@@ -159,7 +159,7 @@ module _ (s : Setting) (call0 : Caller) (fit : SitesFit s.sites) (calls : CallsS
   value_of_false true operators slot t h n = absurd (true≢false n)
   value_of_false false operators slot t h n = postfix_value operators slot t h
 
-  pub count_is : (types : List ValueType) (xs : ExprList) → TypedArguments s.facts s.sites s.locals.count types xs → count xs ≡ length types
+  pub count_is : (types : List ValueType) (xs : ExprList) → TypedArguments s.facts s.sites s.locals.count types xs → expression_count xs ≡ length types
   count_is [] e.no_exprs h = refl
   count_is (t ∷ types) (e.more_exprs x rest) h = ap suc (count_is types rest h.2)
   count_is [] (e.more_exprs x rest) h = absurd h
@@ -169,7 +169,7 @@ module _ (s : Setting) (call0 : Caller) (fit : SitesFit s.sites) (calls : CallsS
     pub expr_safe : (x : ExprTree) → Typed s.facts s.sites s.locals.count x → ExprSafe x
     expr_safe (e.Comma token operands) h = last_safe (s.facts.type_at token) operands h
     expr_safe (e.Assign token sign target value) h =
-        valued_safe (rw h.4 (assign_safe s call0 fit token (assignment sign) (variable_named s.facts target) (type_of s.facts target) value _ _ _ _
+        valued_safe (rw h.4 (assign_safe s call0 fit token (assignment_of_sign sign) (variable_named s.facts target) (type_of s.facts target) value _ _ _ _
         ((expr_safe target h.0).place h.2) (expr_safe value h.1).value h.3 h.5))
     expr_safe (e.Conditional token c first second) h =
         conditional_safe s call0 fit token (s.facts.type_at token) None (expr s c) (expr (bare s call0) c) (type_of s.facts c) _ _ _ _ _ _ _ _
@@ -198,7 +198,7 @@ module _ (s : Setting) (call0 : Caller) (fit : SitesFit s.sites) (calls : CallsS
     expr_safe (e.Call token name arguments) h =
         call_safe s call0 fit calls token (called_as (s.facts.function_at token) name)
         (λ types. TypedArguments s.facts s.sites s.locals.count types arguments)
-        (TypedLone s.facts s.sites s.locals.count arguments) (count arguments) _ _ _ _ (s.facts.type_at token) _ _
+        (TypedLone s.facts s.sites s.locals.count arguments) (expression_count arguments) _ _ _ _ (s.facts.type_at token) _ _
         (record {
           all = λ types a. weaker (λ vs o. backwards types vs o) (arguments_safe arguments types [] a);
           count = λ types a. count_is types arguments a;
@@ -230,14 +230,14 @@ module _ (s : Setting) (call0 : Caller) (fit : SitesFit s.sites) (calls : CallsS
         → Safe (Fits (links_type s.facts left links)) (links_value s left links v) (links_value (bare s call0) left links v)
     links_safe e.no_links left h v f = gives v f
     links_safe (e.more_links token sign operand rest) left h v f =
-        seq (linked_safe s call0 fit (joint sign) token left (type_beside s.facts (binary_of sign) left operand) (s.facts.type_at token) _ _ v h.2
+        seq (linked_safe s call0 fit (joint_of_sign sign) token left (type_beside s.facts (binary_of sign) left operand) (s.facts.type_at token) _ _ v h.2
         (null_or_safe (is_null_beside (binary_of sign) left operand) (type_of s.facts operand) _ _ ((expr_safe operand h.0).value h.1)) f)
         (λ x g. links_safe rest (s.facts.type_at token) h.3 x g)
 
     behind_safe : (operators : PostfixList) (known : Bool) (slot : Option Slot) (t : Option ValueType) (v : Scalar)
         → TypedPostfix s.facts s.sites s.locals.count known slot t operators
-        → Held known slot t v → Safe (Held (ends_as_place known operators) None (postfix_type s.facts t operators)) (onward s known t operators v)
-        (onward (bare s call0) known t operators v)
+        → Held known slot t v → Safe (Held (ends_as_place known operators) None (postfix_type s.facts t operators)) (value_after_postfix s known t operators v)
+        (value_after_postfix (bare s call0) known t operators v)
     behind_safe e.no_postfix known slot t v h held = gives v (held_alone known slot t v held)
     behind_safe (e.index token i rest) known slot t v h held =
         seq (settled_safe known slot t v (moves_values (operation op.Add t (type_of s.facts i)) t (type_of s.facts i) h.1).0 held) (λ p f.

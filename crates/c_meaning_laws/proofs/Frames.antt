@@ -1,5 +1,5 @@
 -- What is made as a function is entered, and what is left of it.
-use Rattle.std.proofs.Common.{◌≡◌, ℕ, zero, suc, ◌+◌, ◌-◌, ◌<◌, ◌≤◌, ◌==◌, Bool, true, false, nat_lt, length, replicate, List, [], ◌∷◌, Option}
+use Rattle.std.proofs.Common.{◌≡◌, ℕ, zero, suc, ◌+◌, ◌-◌, ◌<◌, ◌≤◌, ◌==◌, Bool, true, false, length, replicate, List, [], ◌∷◌, Option}
 use Rattle.std.proofs.Common.{Some, None, slice_get, refl, ap, ◌∙◌, subst, arith}
 use Rattle.std.proofs.lemmas.Bool.Decides.{nat_tests}
 use Rattle.std.specs.Prelude.{if◌then◌else◌, reverse}
@@ -14,7 +14,7 @@ use Rattle.cbi_base.specs.declared.scalar.Scalar.{Scalar}
 use Rattle.cbi_base.specs.declared.scalar.Scalar.TheVariants.{Undefined}
 use Rattle.cbi_base.specs.declared.trap.Trap.TheVariants as trap
 use Rattle.c_meaning.specs.Words.{all_defined, Signature, Source, call_at, enter_function, enter_with, gives_value, left_function, locals_of, value_left, World}
-use Rattle.c_meaning.specs.Words.{Out, Go, Stop, bind, spend}
+use Rattle.c_meaning.specs.Words.{Out, Go, Stop, bind, one_turn_spent}
 use Rattle.c_meaning_laws.specs.Frames.{BodyBeginsAfresh, HasOwnVariables, VariablesDie}
 use Rattle.c_meaning_laws.proofs.Objects.{put_found, put_other, removed_here, removed_other}
 use Rattle.c_meaning_laws.proofs.Parts.{Ends, anything, ends_bind, ends_go}
@@ -157,7 +157,7 @@ spent_dead : (src : Source) (turns number : ℕ) (f : Signature) (vs : List Scal
 spent_dead src zero number f vs w known = tt
 spent_dead src (suc n) number f vs w known = by_turns w.turns
   where
-    by_turns : (turns : ℕ) → Ends (DeadIn w.objects.made (length f.locals)) (spend turns w (λ u.
+    by_turns : (turns : ℕ) → Ends (DeadIn w.objects.made (length f.locals)) (one_turn_spent turns w (λ u.
         bind (all_defined vs u) (λ xs _. bind (enter_function src (call_at src n) n number (src.facts.signature number) xs u) (λ flow y.
         bind (value_left (number == src.main) (gives_value (src.facts.signature number)) flow y) (left_function (locals_of (src.facts.signature number) u))))))
     by_turns zero = tt

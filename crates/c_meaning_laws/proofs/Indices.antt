@@ -7,15 +7,15 @@ use Rattle.c_syntax.specs.ExprTree as e
 use Rattle.c_syntax.specs.ExprTree.{ExprTree, PostfixList}
 use Rattle.flow.specs.declared.site.Slot.{Slot}
 use Rattle.c_meaning.specs.declared.operation.Operation.{Operation}
-use Rattle.c_meaning.specs.declared.operation.Operation.TheVariants.{Numbers, MoveLeft, MoveRight, Span, Ordered, Wrong}
+use Rattle.c_meaning.specs.declared.operation.Operation.TheVariants.{MoveLeft, MoveRight}
 use Rattle.c_meaning.specs.declared.value_type.ValueType.{ValueType}
 use Rattle.c_meaning.specs.declared.value_type.ValueType.TheVariants as type
-use Rattle.c_meaning.specs.Words.{is_pointer_value, Sense, placed, postfixed, settled, spot, Setting, expr, onward, operation, operate, member_place}
-use Rattle.c_meaning.specs.Words.{pointed_place, stepped_behind, ends_as_place, is_place, postfix_token, token_of, type_of, World, Out, Go, answered, bind}
-use Rattle.c_meaning.specs.Words.{choose, stuck}
+use Rattle.c_meaning.specs.Words.{is_pointer_value, Sense, sense_of_place, postfixed_sense, loaded_operand, place_or_value, Setting, expr, value_after_postfix, operation, operation_result, member_place}
+use Rattle.c_meaning.specs.Words.{pointed_place, stepped_behind, ends_as_place, is_place, postfix_token, token_of, type_of, World, Out, Go, answer_or_trap, bind}
+use Rattle.c_meaning.specs.Words.{chosen_part, stuck_run}
 use Rattle.c_meaning_laws.specs.Rules.{IsPointing, Moves}
 use Rattle.c_meaning_laws.specs.Typed.{Typed, TypedPostfix, variable_named}
-use Rattle.c_meaning_laws.specs.Indexing.{FollowedIndexMeansSum, HasPointer, IndexIsPlaceOfSum, IndexMeansSum, TypedIndexMeets, at_sum, followed, then_more}
+use Rattle.c_meaning_laws.specs.Indexing.{FollowedIndexMeansSum, HasPointer, IndexIsPlaceOfSum, IndexMeansSum, TypedIndexMeets, at_sum, with_postfix_operators, then_more}
 use Rattle.c_meaning_laws.specs.Parentheses.{IsWritten, KeepsType}
 use Rattle.c_meaning_laws.proofs.Parts.{bind_behind}
 use Rattle.c_meaning_laws.proofs.Places.{typed_keeps, value_settled, written}
@@ -45,45 +45,45 @@ type_more s token other e.no_postfix same = same
 type_more s token other more same = refl
 
 behind_more : (s : Setting) (operators more : PostfixList) (known : Bool) (token : ℕ) (v : Scalar) (w : World)
-    → onward s known (s.facts.type_at token) (then_more operators more) v w
-    ≡ bind (onward s known (s.facts.type_at token) operators v w)
-    (onward s (ends_as_place known operators) (s.facts.type_at (postfix_token token operators)) more)
+    → value_after_postfix s known (s.facts.type_at token) (then_more operators more) v w
+    ≡ bind (value_after_postfix s known (s.facts.type_at token) operators v w)
+    (value_after_postfix s (ends_as_place known operators) (s.facts.type_at (postfix_token token operators)) more)
 behind_more s e.no_postfix more known token v w = refl
 behind_more s (e.index next i rest) more known token v w =
-    bind_behind (settled known (s.facts.type_at token) v w) _ _ _ (λ p u. bind_behind ((expr s i).value u) _ _ _ (λ x y.
-    bind_behind (answered (operate (operation op.Add (s.facts.type_at token) (type_of s.facts i)) p x y.objects) y) _ _ _
+    bind_behind (loaded_operand known (s.facts.type_at token) v w) _ _ _ (λ p u. bind_behind ((expr s i).value u) _ _ _ (λ x y.
+    bind_behind (answer_or_trap (operation_result (operation op.Add (s.facts.type_at token) (type_of s.facts i)) p x y.objects) y) _ _ _
     (behind_more s rest more true next)))
 behind_more s (e.member next name rest) more known token v w =
     bind_behind (member_place (s.facts.offset_at next) v w) _ _ _ (behind_more s rest more true next)
 behind_more s (e.arrow next name rest) more known token v w =
-    bind_behind (settled known (s.facts.type_at token) v w) _ _ _ (λ p u.
+    bind_behind (loaded_operand known (s.facts.type_at token) v w) _ _ _ (λ p u.
     bind_behind (member_place (s.facts.offset_at next) p u) _ _ _ (behind_more s rest more true next))
 behind_more s (e.increment next rest) more known token v w =
-    bind_behind (choose known (stepped_behind s true next (s.facts.type_at token) v) stuck w) _ _ _ (behind_more s rest more false next)
+    bind_behind (chosen_part known (stepped_behind s true next (s.facts.type_at token) v) stuck_run w) _ _ _ (behind_more s rest more false next)
 behind_more s (e.decrement next rest) more known token v w =
-    bind_behind (choose known (stepped_behind s false next (s.facts.type_at token) v) stuck w) _ _ _ (behind_more s rest more false next)
+    bind_behind (chosen_part known (stepped_behind s false next (s.facts.type_at token) v) stuck_run w) _ _ _ (behind_more s rest more false next)
 
-spot_postfixed : (b : Bool) (of : Option ValueType) (m : World → Out Scalar) (w : World) → m w ≡ spot b (postfixed b of m) w
+spot_postfixed : (b : Bool) (of : Option ValueType) (m : World → Out Scalar) (w : World) → m w ≡ place_or_value b (postfixed_sense b of m) w
 spot_postfixed true of m w = refl
 spot_postfixed false of m w = refl
 
 -- what an expression finds or gives, and then the operators behind it
 abbrev pub reached : Setting → ExprTree → PostfixList → World → Out Scalar
-reached s x more w = bind (spot (is_place x) (expr s x) w) (onward s (is_place x) (type_of s.facts x) more)
+reached s x more w = bind (place_or_value (is_place x) (expr s x) w) (value_after_postfix s (is_place x) (type_of s.facts x) more)
 
 pub followed_sense : (s : Setting) (x : ExprTree) (more : PostfixList)
-    → expr s (followed x more) ≡ postfixed (ends_as_place (is_place x) more) (s.facts.type_at (postfix_token (token_of x) more)) (reached s x more)
+    → expr s (with_postfix_operators x more) ≡ postfixed_sense (ends_as_place (is_place x) more) (s.facts.type_at (postfix_token (token_of x) more)) (reached s x more)
 followed_sense s (e.Postfix primary operators) more =
     let x : ExprTree = e.Postfix primary operators in
     let m : World → Out Scalar = reached s primary operators in
     let n : World → Out Scalar = reached s primary (then_more operators more) in
     let whole : ℕ = postfix_token (token_of primary) (then_more operators more) in
-    ap (λ b. postfixed b (s.facts.type_at whole) n) (ends_more (is_place primary) operators more)
-    ∙ ap (λ token. postfixed (ends_as_place (is_place x) more) (s.facts.type_at token) n) (token_more (token_of primary) operators more)
-    ∙ ap (λ r. postfixed (ends_as_place (is_place x) more) (s.facts.type_at (postfix_token (token_of x) more)) r) (fun_ext (λ w.
-    bind_behind (spot (is_place primary) (expr s primary) w) _ _ (onward s (is_place x) (type_of s.facts x) more)
+    ap (λ b. postfixed_sense b (s.facts.type_at whole) n) (ends_more (is_place primary) operators more)
+    ∙ ap (λ token. postfixed_sense (ends_as_place (is_place x) more) (s.facts.type_at token) n) (token_more (token_of primary) operators more)
+    ∙ ap (λ r. postfixed_sense (ends_as_place (is_place x) more) (s.facts.type_at (postfix_token (token_of x) more)) r) (fun_ext (λ w.
+    bind_behind (place_or_value (is_place primary) (expr s primary) w) _ _ (value_after_postfix s (is_place x) (type_of s.facts x) more)
     (behind_more s operators more (is_place primary) (token_of primary))
-    ∙ ap (λ o. bind o (onward s (is_place x) (type_of s.facts x) more)) (spot_postfixed (is_place x) (type_of s.facts x) m w)))
+    ∙ ap (λ o. bind o (value_after_postfix s (is_place x) (type_of s.facts x) more)) (spot_postfixed (is_place x) (type_of s.facts x) m w)))
 followed_sense s x more = refl
 
 module _ (s : Setting) (bracket : ℕ) (i : ExprTree) where
@@ -93,23 +93,23 @@ module _ (s : Setting) (bracket : ℕ) (i : ExprTree) where
   -- the sum of two expressions as a place
   abbrev summed : Sense → Sense → Option ValueType → Option ValueType → World → Out Scalar
   summed m n left right w =
-      bind (bind (m.value w) (λ p u. bind (bind (n.value u) (λ x y. answered (operate (operation op.Add left right) p x y.objects) y)) (λ v. Go v)))
-      (λ v u. answered (pointed_place v) u)
+      bind (bind (m.value w) (λ p u. bind (bind (n.value u) (λ x y. answer_or_trap (operation_result (operation op.Add left right) p x y.objects) y)) (λ v. Go v)))
+      (λ v u. answer_or_trap (pointed_place v) u)
 
   -- what is added to what, and then found
   pub index_value : (a : ExprTree) (w : World) → KeepsType s.facts a
       → reached s a alone w ≡ bind ((expr s a).value w) (λ p u. bind ((expr s i).value u) (λ x y.
-      bind (answered (operate (operation op.Add (type_of s.facts a) (type_of s.facts i)) p x y.objects) y) (λ v. Go v)))
+      bind (answer_or_trap (operation_result (operation op.Add (type_of s.facts a) (type_of s.facts i)) p x y.objects) y) (λ v. Go v)))
   index_value a w h =
-      bind_behind (spot (is_place a) (expr s a) w) (settled (is_place a) (type_of s.facts a)) _ _ (λ v u. refl)
+      bind_behind (place_or_value (is_place a) (expr s a) w) (loaded_operand (is_place a) (type_of s.facts a)) _ _ (λ v u. refl)
       ∙ ap (λ o. bind o (λ p u. bind ((expr s i).value u) (λ x y.
-      bind (answered (operate (operation op.Add (type_of s.facts a) (type_of s.facts i)) p x y.objects) y) (λ v. Go v)))) (sym (value_settled s a w h))
+      bind (answer_or_trap (operation_result (operation op.Add (type_of s.facts a) (type_of s.facts i)) p x y.objects) y) (λ v. Go v)))) (sym (value_settled s a w h))
 
   index_found : (a : ExprTree) (w : World) → KeepsType s.facts a → HasPointer s.facts a i
       → reached s a alone w ≡ summed (expr s a) (expr s i) (type_of s.facts a) (type_of s.facts i) w
   index_found a w h k =
       index_value a w h
-      ∙ points (expr s i).value (operate (operation op.Add (type_of s.facts a) (type_of s.facts i))) (sum_place (type_of s.facts a) (type_of s.facts i) k)
+      ∙ points (expr s i).value (operation_result (operation op.Add (type_of s.facts a) (type_of s.facts i))) (sum_place (type_of s.facts a) (type_of s.facts i) k)
       ((expr s a).value w)
 
   -- the same where each may stand within parentheses
@@ -141,7 +141,7 @@ module _ (s : Setting) (bracket : ℕ) (i : ExprTree) where
   typed_behind count (e.increment next rest) more known named token h = typed_behind count rest more false None next h.2
   typed_behind count (e.decrement next rest) more known named token h = typed_behind count rest more false None next h.2
 
-  typed_index : (count : ℕ) (a : ExprTree) (more : PostfixList) → Typed s.facts s.sites count (followed a (e.index bracket i more))
+  typed_index : (count : ℕ) (a : ExprTree) (more : PostfixList) → Typed s.facts s.sites count (with_postfix_operators a (e.index bracket i more))
       → (KeepsType s.facts a) × (HasPointer s.facts a i)
   typed_index count (e.Postfix primary operators) more h =
       let a : ExprTree = e.Postfix primary operators in (
@@ -160,9 +160,9 @@ module _ (s : Setting) (bracket star paren plus : ℕ) (a i left right : ExprTre
   reached_more : (outer : ℕ) (more : PostfixList) (w : World) → s.facts.type_at bracket ≡ s.facts.type_at outer
       → reached s a (e.index bracket i more) w ≡ reached s (e.Paren outer (at_sum star paren plus left right)) more w
   reached_more outer more w same =
-      bind_behind (spot (is_place a) (expr s a) w) (onward s (is_place a) (type_of s.facts a) (e.index bracket i e.no_postfix)) _
-      (onward s true (s.facts.type_at bracket) more) (behind_more s (e.index bracket i e.no_postfix) more (is_place a) (token_of a))
-      ∙ ap₂ (λ o of. bind o (onward s true of more)) (reached_place w) same
+      bind_behind (place_or_value (is_place a) (expr s a) w) (value_after_postfix s (is_place a) (type_of s.facts a) (e.index bracket i e.no_postfix)) _
+      (value_after_postfix s true (s.facts.type_at bracket) more) (behind_more s (e.index bracket i e.no_postfix) more (is_place a) (token_of a))
+      ∙ ap₂ (λ o of. bind o (value_after_postfix s true of more)) (reached_place w) same
 
 pub index_is_place_of_sum : IndexIsPlaceOfSum
 index_is_place_of_sum s bracket star paren plus a i left right w keeps has l r =
@@ -171,12 +171,12 @@ index_is_place_of_sum s bracket star paren plus a i left right w keeps has l r =
 pub index_means_sum : IndexMeansSum
 index_means_sum s bracket star paren plus a i left right keeps has l r same =
     followed_sense s a (e.index bracket i e.no_postfix)
-    ∙ ap₂ placed same (fun_ext (λ w. reached_place s bracket star paren plus a i left right keeps has l r w))
+    ∙ ap₂ sense_of_place same (fun_ext (λ w. reached_place s bracket star paren plus a i left right keeps has l r w))
 
 pub followed_index_means_sum : FollowedIndexMeansSum
 followed_index_means_sum s bracket outer star paren plus a i left right more keeps has l r same =
     followed_sense s a (e.index bracket i more)
-    ∙ ap₂ (λ of m. postfixed (ends_as_place true more) of m) (type_more s bracket outer more same)
+    ∙ ap₂ (λ of m. postfixed_sense (ends_as_place true more) of m) (type_more s bracket outer more same)
     (fun_ext (λ w. reached_more s bracket star paren plus a i left right keeps has l r outer more w same))
 
 pub typed_index_meets : TypedIndexMeets

@@ -8,19 +8,19 @@ use Rattle.c_syntax.specs.ExprTree as e
 use Rattle.c_syntax.specs.ExprTree.{ExprTree}
 use Rattle.c_meaning.specs.declared.value_type.ValueType.{ValueType}
 use Rattle.c_meaning.specs.declared.value_type.ValueType.TheVariants as type
-use Rattle.c_meaning.specs.Words.{is_null_as, Sense, arm_effect, arm_value, as_flag, conditional, valued, Setting, expr, flag_value, type_of, decided, listed}
-use Rattle.c_meaning.specs.Words.{truth, visited, World, Out, Go, OutDone, bind, choose, done, stuck}
+use Rattle.c_meaning.specs.Words.{is_null_as, Sense, arm_effect, arm_value, as_flag, conditional, sense_of_value, Setting, expr, flag_value, type_of, visited_truth, site_list}
+use Rattle.c_meaning.specs.Words.{truth_value, sites_visited, World, Out, Go, OutDone, bind, chosen_part, value_discarded, stuck_run}
 use Rattle.c_meaning_laws.specs.Constants.{one_at, zero_at}
 use Rattle.c_meaning_laws.specs.Joints.{AndIsConditional, AreInts, OrIsConditional, flag_of, joined_by}
 use Rattle.c_meaning_laws.proofs.Effects.{arm_goes, conditional_goes}
 use Rattle.c_meaning_laws.proofs.Parts.{bind_alike, bind_behind, bind_go}
 
 -- two senses that are no places, of which the second lets its value go
-same_sense : (first second : World → Out Scalar) (act : World → OutDone) → ((w : World) → first w ≡ second w) → ((w : World) → act w ≡ done (second w))
-    → valued first ≡ record { value = second; place = stuck; effect = act }
+same_sense : (first second : World → Out Scalar) (act : World → OutDone) → ((w : World) → first w ≡ second w) → ((w : World) → act w ≡ value_discarded (second w))
+    → sense_of_value first ≡ record { value = second; place = stuck_run; effect = act }
 same_sense first second act same goes =
-    ap₂ (λ (v : World → Out Scalar) (a : World → OutDone). record { value = v; place = stuck; effect = a }) (fun_ext same)
-    (fun_ext (λ w. ap done (same w) ∙ sym (goes w)))
+    ap₂ (λ (v : World → Out Scalar) (a : World → OutDone). record { value = v; place = stuck_run; effect = a }) (fun_ext same)
+    (fun_ext (λ w. ap value_discarded (same w) ∙ sym (goes w)))
 
 -- the type of the whole, and of its arms
 abbrev int : Option ValueType
@@ -47,7 +47,7 @@ module _ (s : Setting) where
       ap (λ of. choice of (type_of s.facts x) (type_of s.facts y) token c x y) whole
       ∙ ap (λ of. choice int of (type_of s.facts y) token c x y) left ∙ ap (λ of. choice int int of token c x y) right
 
-  choice_goes : (token : ℕ) (c x y : ExprTree) (w : World) → (int_choice token c x y).effect w ≡ done ((int_choice token c x y).value w)
+  choice_goes : (token : ℕ) (c x y : ExprTree) (w : World) → (int_choice token c x y).effect w ≡ value_discarded ((int_choice token c x y).value w)
   choice_goes token c x y w =
       conditional_goes s 0 token (expr s c) (arm int int x) (arm int int y) (act int int x) (act int int y)
       (λ u. arm_goes (is_null_as int x) int int (expr s x) u tt) (λ u. arm_goes (is_null_as int y) int int (expr s y) u tt) w
@@ -57,38 +57,38 @@ module _ (s : Setting) where
     flag = flag_of question b first second
 
     flag_chosen : (holds : Bool) (w : World)
-        → Go (flag_value holds) w ≡ bind (choose holds (arm int int (one_at first)) (arm int int (zero_at second)) w) (λ v. Go v)
+        → Go (flag_value holds) w ≡ bind (chosen_part holds (arm int int (one_at first)) (arm int int (zero_at second)) w) (λ v. Go v)
     flag_chosen true w = refl
     flag_chosen false w = refl
 
     -- the truth of the value as an `int` is the arm `b ? 1 : 0`
     flag_arm : (w : World) → as_flag (expr s b).value w ≡ arm int int flag w
     flag_arm w =
-        bind_behind ((expr s b).value w) (λ v u. bind (truth v u) (λ holds. choose holds (arm int int (one_at first)) (arm int int (zero_at second)))) _
-        (λ v. Go v) (λ v u. bind_behind (truth v u) (λ holds. choose holds (arm int int (one_at first)) (arm int int (zero_at second)))
+        bind_behind ((expr s b).value w) (λ v u. bind (truth_value v u) (λ holds. chosen_part holds (arm int int (one_at first)) (arm int int (zero_at second)))) _
+        (λ v. Go v) (λ v u. bind_behind (truth_value v u) (λ holds. chosen_part holds (arm int int (one_at first)) (arm int int (zero_at second)))
         (λ holds. Go (flag_value holds)) (λ v. Go v) flag_chosen)
-        ∙ ap (λ (at : Option ℕ). bind (bind ((expr s b).value w) (λ v u. bind (bind (visited s (listed at) v u) truth) (λ holds.
-        choose holds (arm int int (one_at first)) (arm int int (zero_at second))))) (λ v. Go v)) (sym ints.bare)
+        ∙ ap (λ (at : Option ℕ). bind (bind ((expr s b).value w) (λ v u. bind (bind (sites_visited s (site_list at) v u) truth_value) (λ holds.
+        chosen_part holds (arm int int (one_at first)) (arm int int (zero_at second))))) (λ v. Go v)) (sym ints.bare)
         ∙ ap (λ (m : Sense). bind (m.value w) (λ v. Go v)) (sym (choice_is question b (one_at first) (zero_at second) ints.flag ints.one ints.nought))
 
     both_chosen : (holds : Bool) (w : World)
-        → bind (choose holds (as_flag (expr s b).value) (Go (flag_value false)) w) (λ v. Go v) ≡ choose holds (arm int int flag) (arm int int (zero_at other)) w
+        → bind (chosen_part holds (as_flag (expr s b).value) (Go (flag_value false)) w) (λ v. Go v) ≡ chosen_part holds (arm int int flag) (arm int int (zero_at other)) w
     both_chosen true w = bind_go (as_flag (expr s b).value w) ∙ flag_arm w
     both_chosen false w = refl
 
     either_chosen : (holds : Bool) (w : World)
-        → bind (choose holds (Go (flag_value true)) (as_flag (expr s b).value) w) (λ v. Go v) ≡ choose holds (arm int int (one_at other)) (arm int int flag) w
+        → bind (chosen_part holds (Go (flag_value true)) (as_flag (expr s b).value) w) (λ v. Go v) ≡ chosen_part holds (arm int int (one_at other)) (arm int int flag) w
     either_chosen true w = refl
     either_chosen false w = bind_go (as_flag (expr s b).value w) ∙ flag_arm w
 
     -- the operator, and the outer conditional
     joint_value : (a : ExprTree) (x y : World → Out Scalar) (left right : ExprTree)
-        → ((holds : Bool) (w : World) → bind (choose holds x y w) (λ v. Go v) ≡ choose holds (arm int int left) (arm int int right) w) → (w : World)
-        → bind ((expr s a).value w) (λ v u. bind (bind (decided s token v u) (λ holds. choose holds x y)) (λ r. Go r))
+        → ((holds : Bool) (w : World) → bind (chosen_part holds x y w) (λ v. Go v) ≡ chosen_part holds (arm int int left) (arm int int right) w) → (w : World)
+        → bind ((expr s a).value w) (λ v u. bind (bind (visited_truth s token v u) (λ holds. chosen_part holds x y)) (λ r. Go r))
         ≡ (int_choice token a left right).value w
     joint_value a x y left right same w =
         bind_alike ((expr s a).value w) _ _ (λ v u.
-        sym (bind_behind (decided s token v u) (λ holds. choose holds x y) (λ holds. choose holds (arm int int left) (arm int int right)) (λ r. Go r)
+        sym (bind_behind (visited_truth s token v u) (λ holds. chosen_part holds x y) (λ holds. chosen_part holds (arm int int left) (arm int int right)) (λ r. Go r)
         (λ holds y. sym (same holds y))))
 
     and_is : (level : ℕ) (a : ExprTree) → expr s (joined_by sign.AndAnd level token a b) ≡ expr s (e.Conditional token a flag (zero_at other))

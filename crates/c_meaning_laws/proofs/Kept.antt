@@ -8,9 +8,9 @@ use Rattle.cbi_base.specs.declared.scalar.Scalar.{Scalar}
 use Rattle.cbi_base.specs.declared.scalar.Scalar.TheVariants.{Number, Place, Null, Undefined}
 use Rattle.cbi_base.specs.declared.scalar.Want.{Want}
 use Rattle.cbi_base.specs.declared.trap.Trap.{Trap}
-use Rattle.cbi_base.specs.Words.{filled, Objects, allocated, cleared, killed, loaded, made_with, moved, released, stored}
+use Rattle.cbi_base.specs.Words.{object_filled, Objects, object_allocated, object_made_undefined, object_killed, loaded_value, made_with, moved_pointer, object_released, value_stored}
 use Rattle.cbi_base.specs.Objects.{◌>>=◌}
-use Rattle.c_meaning.specs.World.{World, Out, Go, Stop, answered, bind, choose, done, nothing, spend}
+use Rattle.c_meaning.specs.World.{World, Out, Go, Stop, answer_or_trap, bind, chosen_part, value_discarded, no_effect, one_turn_spent}
 use Rattle.c_meaning_laws.proofs.Parts.{Ends, ends_bind}
 
 -- what an answer holds
@@ -32,14 +32,14 @@ pub record Closed (Q : Scalar → Type 0) (Own : ℕ → Type 0) (I : Objects �
   pub null : Q Null
   pub undefined : Q Undefined
   pub places : (number offset : ℕ) → Own number → Q (Place number offset)
-  pub loads : (wanted : Want) (p : Scalar) (o : Objects) → Q p → I o → Answers Q (loaded wanted p o)
-  pub moves : (p : Scalar) (cells : ℤ) (o : Objects) → Q p → Answers Q (moved p cells o)
-  pub stores : (p v : Scalar) (o : Objects) → Q p → Q v → I o → Answers I (stored p v o)
-  pub releases : (p : Scalar) (o : Objects) → Q p → I o → Answers I (released p o)
-  pub allocates : (cells : ℕ) (o : Objects) → I o → Q (allocated cells o).0 × I (allocated cells o).1
-  pub clears : (number : ℕ) (o : Objects) → Own number → I o → I (cleared number o)
-  pub fills : (number : ℕ) (v : Scalar) (o : Objects) → Own number → Q v → I o → I (filled number v o)
-  pub kills : (number : ℕ) (o : Objects) → Own number → I o → I (killed number o)
+  pub loads : (wanted : Want) (p : Scalar) (o : Objects) → Q p → I o → Answers Q (loaded_value wanted p o)
+  pub moves : (p : Scalar) (cells : ℤ) (o : Objects) → Q p → Answers Q (moved_pointer p cells o)
+  pub stores : (p v : Scalar) (o : Objects) → Q p → Q v → I o → Answers I (value_stored p v o)
+  pub releases : (p : Scalar) (o : Objects) → Q p → I o → Answers I (object_released p o)
+  pub allocates : (cells : ℕ) (o : Objects) → I o → Q (object_allocated cells o).0 × I (object_allocated cells o).1
+  pub clears : (number : ℕ) (o : Objects) → Own number → I o → I (object_made_undefined number o)
+  pub fills : (number : ℕ) (v : Scalar) (o : Objects) → Own number → Q v → I o → I (object_filled number v o)
+  pub kills : (number : ℕ) (o : Objects) → Own number → I o → I (object_killed number o)
   pub makes : (cells : List Scalar) (o : Objects) → AllByRecursion Q cells → I o → Made I (made_with Local cells o)
   pub fresh : (number : ℕ) (o : Objects) → I o → o.made ≤ number → Own number
 
@@ -48,17 +48,17 @@ pub record Keeps (I : Objects → Type 0) {A : Type 0} (P : A → Type 0) (m : W
   pub at : (w : World) → I w.objects → Ends (λ x u. P x × I u.objects) (m w)
 
 answered_ends : (I : Objects → Type 0) {A : Type 0} (P : A → Type 0) (r : Result A Trap) (w : World) → I w.objects → Answers P r
-    → Ends (λ x u. P x × I u.objects) (answered r w)
+    → Ends (λ x u. P x × I u.objects) (answer_or_trap r w)
 answered_ends I P (Ok x) w a h = (h, a)
 answered_ends I P (Err t) w a h = tt
 
 any_ends : (I : Objects → Type 0) {A : Type 0} (P : A → Type 0) (out : Out A) → Ends (λ x u. P x × I u.objects) out
-    → Ends (λ x u. Any x × I u.objects) (done out)
+    → Ends (λ x u. Any x × I u.objects) (value_discarded out)
 any_ends I P (Go x w) h = (tt, h.1)
 any_ends I P (Stop o w) h = tt
 
 spent : (I : Objects → Type 0) {A : Type 0} (P : A → Type 0) (turns : ℕ) (w : World) (go : World → Out A) → Keeps I P go → I w.objects
-    → Ends (λ x u. P x × I u.objects) (spend turns w go)
+    → Ends (λ x u. P x × I u.objects) (one_turn_spent turns w go)
 spent I P zero w go h a = tt
 spent I P (suc turns) w go h a = h.at (record w { turns = turns }) a
 
@@ -71,7 +71,7 @@ module _ {I : Objects → Type 0} where
   }
 
   -- the answer of an operation
-  pub answers : {A : Type 0} {P : A → Type 0} (r : World → Result A Trap) → ((w : World) → I w.objects → Answers P (r w)) → Keeps I P (λ w. answered (r w) w)
+  pub answers : {A : Type 0} {P : A → Type 0} (r : World → Result A Trap) → ((w : World) → I w.objects → Answers P (r w)) → Keeps I P (λ w. answer_or_trap (r w) w)
   answers {P = P} r h = record { at = λ w a. answered_ends I P (r w) w a (h w a) }
 
   pub gives : {A : Type 0} {P : A → Type 0} (x : A) → P x → Keeps I P (λ w. Go x w)
@@ -85,7 +85,7 @@ module _ {I : Objects → Type 0} where
       → Keeps I P (λ w. Go (x w) (f w))
   changes x f h = record { at = h }
 
-  pub chosen : {A : Type 0} {P : A → Type 0} {m n : World → Out A} (b : Bool) → Keeps I P m → Keeps I P n → Keeps I P (choose b m n)
+  pub chosen : {A : Type 0} {P : A → Type 0} {m n : World → Out A} (b : Bool) → Keeps I P m → Keeps I P n → Keeps I P (chosen_part b m n)
   chosen true h k = h
   chosen false h k = k
 
@@ -93,14 +93,14 @@ module _ {I : Objects → Type 0} where
   pub by_state : {A B : Type 0} {P : A → Type 0} (f : World → B) (m : B → World → Out A) → ((x : B) → Keeps I P (m x)) → Keeps I P (λ w. m (f w) w)
   by_state f m h = record { at = λ w a. (h (f w)).at w a }
 
-  pub done_kept : {A : Type 0} {P : A → Type 0} {m : World → Out A} → Keeps I P m → Keeps I Any (λ w. done (m w))
+  pub done_kept : {A : Type 0} {P : A → Type 0} {m : World → Out A} → Keeps I P m → Keeps I Any (λ w. value_discarded (m w))
   done_kept {P = P} {m = m} h = record { at = λ w a. any_ends I P (m w) (h.at w a) }
 
-  pub nothing_kept : Keeps I Any nothing
+  pub nothing_kept : Keeps I Any no_effect
   nothing_kept = record { at = λ w a. (tt, a) }
 
   -- a part behind a turn that is spent
-  pub spends : {A : Type 0} {P : A → Type 0} {go : World → Out A} → Keeps I P go → Keeps I P (λ w. spend w.turns w go)
+  pub spends : {A : Type 0} {P : A → Type 0} {go : World → Out A} → Keeps I P go → Keeps I P (λ w. one_turn_spent w.turns w go)
   spends {P = P} {go = go} h = record { at = λ w a. spent I P w.turns w go h a }
 
 pub answers_bind : {A B : Type 0} (P : A → Type 0) (Q : B → Type 0) (r : Result A Trap) (f : A → Result B Trap) → Answers P r

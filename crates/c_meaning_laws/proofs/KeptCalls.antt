@@ -12,7 +12,7 @@ use Rattle.cbi_base.specs.declared.scalar.Scalar.{Scalar}
 use Rattle.cbi_base.specs.declared.scalar.Scalar.TheVariants.{Number, Place, Null, Undefined}
 use Rattle.cbi_base.specs.declared.trap.Trap.TheVariants as trap
 use Rattle.c_syntax.specs.StatementTree.{EntryList}
-use Rattle.c_meaning.specs.Words.{Signature, Source, call_at, enter_function, enter_with, gives_value, inside, left_function, locals_at, locals_of, run_body}
+use Rattle.c_meaning.specs.Words.{Signature, Source, call_at, enter_function, enter_with, gives_value, body_world, left_function, locals_at, locals_of, run_body}
 use Rattle.c_meaning.specs.Words.{setting_of, value_left, World, Out, Go, Stop, Caller, Flow, Next, Broken, Continued, Returned, bind}
 use Rattle.c_meaning_laws.proofs.Parts.{Ends, ends_bind}
 use Rattle.c_meaning_laws.proofs.Kept.{Closed, Keeps, Made, changes, gives, seq, spends, stops}
@@ -94,7 +94,7 @@ module _ {Q : Scalar → Type 0} {Own : ℕ → Type 0} {I : Objects → Type 0}
       with_ended : (number : ℕ) (f : Signature) (w : World) (o : Option Objects) → AllOwn w.objects.made → Made I o
           → Ended (enter_with src call n number f w o)
       with_ended number f w None own h = tt
-      with_ended number f w (Some objects) own h = (body_kept f (locals_at f w) (src.body number) own).at (inside objects w) h
+      with_ended number f w (Some objects) own h = (body_kept f (locals_at f w) (src.body number) own).at (body_world objects w) h
 
       room_ended : (number : ℕ) (f : Signature) (w : World) (b : Bool) (o : Option Objects) → AllOwn w.objects.made → Made I o
           → Ended (if b then enter_with src call n number f w o else Stop (Trapped trap.StackOverflow) w)

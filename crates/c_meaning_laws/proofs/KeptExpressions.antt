@@ -10,9 +10,9 @@ use Rattle.c_syntax.specs.ExprTree as e
 use Rattle.c_syntax.specs.ExprTree.{ExprTree, ExprList, LinkList, PostfixList}
 use Rattle.c_types_expressions.specs.ExprWalk.{binary_of}
 use Rattle.c_meaning.specs.declared.value_type.ValueType.{ValueType}
-use Rattle.c_meaning.specs.Words.{is_null_as, Facts, Setting, arguments_value, condition, expr, formatted, last_sense, links_value, lone_value, onward}
-use Rattle.c_meaning.specs.Words.{text_of_string, text_place, operation, assignment, begins_null, called_as, count, ends_as_place, first_type, is_null_beside}
-use Rattle.c_meaning.specs.Words.{is_place, joint, operand_type, other_types, token_of, type_of}
+use Rattle.c_meaning.specs.Words.{is_null_as, Facts, Setting, arguments_value, condition, expr, arguments_printed, last_sense, links_value, lone_value, value_after_postfix}
+use Rattle.c_meaning.specs.Words.{text_of_string, text_place, operation, assignment_of_sign, begins_null, called_as, expression_count, ends_as_place, first_type, is_null_beside}
+use Rattle.c_meaning.specs.Words.{is_place, joint_of_sign, operand_type, other_types, token_of, type_of}
 use Rattle.c_meaning_laws.proofs.Kept.{Any, Closed, Keeps, chosen, gives, seq}
 use Rattle.c_meaning_laws.proofs.KeptPlaces.{LocalsOwn, StaticsOwn, decided_kept, member_kept, operate_kept, stepped_behind_kept, stuck_kept, variable_kept}
 use Rattle.c_meaning_laws.proofs.KeptSenses.{SenseKept, arm_effect_kept, arm_kept, assign_kept, call_kept, cast_kept, comma_kept, conditional_kept}
@@ -30,7 +30,7 @@ module _ {Q : Scalar → Type 0} {Own : ℕ → Type 0} {I : Objects → Type 0}
     pub expr_kept : (x : ExprTree) → SenseKept Q I (expr s x)
     expr_kept (e.Comma token operands) = last_kept operands
     expr_kept (e.Assign token sign target value) =
-        valued_kept c (assign_kept c s token (assignment sign) (is_null_as (type_of s.facts target) value) (type_of s.facts target)
+        valued_kept c (assign_kept c s token (assignment_of_sign sign) (is_null_as (type_of s.facts target) value) (type_of s.facts target)
         (type_of s.facts value) (expr s target) (expr s value) (expr_kept target) (expr_kept value))
     expr_kept (e.Conditional token condition first second) =
         conditional_kept c s token (expr s condition) (expr_kept condition)
@@ -51,8 +51,8 @@ module _ {Q : Scalar → Type 0} {Own : ℕ → Type 0} {I : Objects → Type 0}
         (seq (spot_kept c (is_place primary) (expr s primary) (expr_kept primary)) (behind_kept operators (is_place primary) (type_of s.facts primary)))
     expr_kept (e.Name token name) = placed_kept c (s.facts.type_at token) (variable_kept c s token statics locals)
     expr_kept (e.Call token name arguments) =
-        call_kept c s calls token (called_as (s.facts.function_at token) name) (count arguments) (λ types. arguments_value s types arguments [])
-        (λ want. lone_value s want arguments) (formatted s arguments) (λ types. arguments_kept arguments types [] tt) (lone_kept arguments)
+        call_kept c s calls token (called_as (s.facts.function_at token) name) (expression_count arguments) (λ types. arguments_value s types arguments [])
+        (λ want. lone_value s want arguments) (arguments_printed s arguments) (λ types. arguments_kept arguments types [] tt) (lone_kept arguments)
         (formatted_kept arguments)
     expr_kept (e.Constant token kind value) = valued_kept c (gives (Number kind value) (c.numbers kind value))
     expr_kept (e.Strings token parts) = valued_kept c (text_kept c s.facts (s.facts.text_at token) (statics.texts token))
@@ -60,7 +60,7 @@ module _ {Q : Scalar → Type 0} {Own : ℕ → Type 0} {I : Objects → Type 0}
     expr_kept (e.Null token) = valued_kept c (gives Null c.null)
     expr_kept (e.EndOfFile token) = valued_kept c (gives (Number Int (negsuc 0)) (c.numbers Int (negsuc 0)))
 
-    behind_kept : (operators : PostfixList) (known : Bool) (of : Option ValueType) (v : Scalar) → Q v → Keeps I Q (onward s known of operators v)
+    behind_kept : (operators : PostfixList) (known : Bool) (of : Option ValueType) (v : Scalar) → Q v → Keeps I Q (value_after_postfix s known of operators v)
     behind_kept e.no_postfix known of v h = gives v h
     behind_kept (e.index token i rest) known of v h =
         seq (settled_kept c known of v h) (λ p k. seq (expr_kept i).value (λ x j.
@@ -76,12 +76,12 @@ module _ {Q : Scalar → Type 0} {Own : ℕ → Type 0} {I : Objects → Type 0}
     links_kept : (links : LinkList) (left : Option ValueType) (v : Scalar) → Q v → Keeps I Q (links_value s left links v)
     links_kept e.no_links left v h = gives v h
     links_kept (e.more_links token sign operand rest) left v h =
-        seq (linked_kept c s (joint sign) token left (operand_type (is_null_beside (binary_of sign) left operand) (type_of s.facts operand)) _ v
+        seq (linked_kept c s (joint_of_sign sign) token left (operand_type (is_null_beside (binary_of sign) left operand) (type_of s.facts operand)) _ v
         (null_kept c (is_null_beside (binary_of sign) left operand) (expr s operand) (expr_kept operand)) h) (links_kept rest (s.facts.type_at token))
 
     last_kept : (operands : ExprList) → SenseKept Q I (last_sense s operands)
     last_kept e.no_exprs = valued_kept c (stuck_kept c)
-    last_kept (e.more_exprs x rest) = comma_kept c (count rest) (expr s x) (last_sense s rest) (expr_kept x) (last_kept rest)
+    last_kept (e.more_exprs x rest) = comma_kept c (expression_count rest) (expr s x) (last_sense s rest) (expr_kept x) (last_kept rest)
 
     arguments_kept : (arguments : ExprList) (types : List ValueType) (before : List Scalar) → AllByRecursion Q before
         → Keeps I (AllByRecursion Q) (arguments_value s types arguments before)
@@ -93,13 +93,13 @@ module _ {Q : Scalar → Type 0} {Own : ℕ → Type 0} {I : Objects → Type 0}
     lone_kept : (arguments : ExprList) (want : Option ValueType → Option ValueType) → Keeps I Q (lone_value s want arguments)
     lone_kept e.no_exprs want = stuck_kept c
     lone_kept (e.more_exprs x rest) want =
-        chosen (count rest == 0)
+        chosen (expression_count rest == 0)
         (handed_value_kept c (is_null_as (want (type_of s.facts x)) x) (want (type_of s.facts x)) (expr s x) (expr_kept x)) (stuck_kept c)
 
-    formatted_kept : (arguments : ExprList) → Keeps I Any (formatted s arguments)
+    formatted_kept : (arguments : ExprList) → Keeps I Any (arguments_printed s arguments)
     formatted_kept e.no_exprs = stuck_kept c
     formatted_kept (e.more_exprs x rest) =
-        print_by_kept c (text_of_string s.facts x) (count rest) (λ types. arguments_value s types rest []) (λ types. arguments_kept rest types [] tt)
+        print_by_kept c (text_of_string s.facts x) (expression_count rest) (λ types. arguments_value s types rest []) (λ types. arguments_kept rest types [] tt)
 
   -- a condition, with the visit of its site
   pub condition_kept : (token : ℕ) (x : ExprTree) → Keeps I Any (condition s token x)

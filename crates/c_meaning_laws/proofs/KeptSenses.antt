@@ -4,7 +4,7 @@ use Rattle.std.proofs.Common.{subst, sym}
 use Rattle.std.proofs.lemmas.List.{reverse-append}
 use Rattle.std.specs.Prelude.{if◌then◌else◌, unsigned_abs, reverse}
 use Rattle.std.specs.List.{AllByRecursion, list_all}
-use Rattle.cbi_base.specs.Words.{pieces_of, complement, fitted, Objects, allocated, released, applied_to_one, as_promoted, opposite, truth_of, is_defined_value}
+use Rattle.cbi_base.specs.Words.{pieces_of, complement, fitted_value, Objects, object_allocated, object_released, applied_to_one, as_promoted, logical_negation, truth_of, is_defined_value}
 use Rattle.cbi_base.specs.declared.operators.Unary.{Unary}
 use Rattle.cbi_base.specs.declared.operators.Unary.TheVariants as unary
 use Rattle.cbi_base.specs.declared.outcome.Outcome.TheVariants.{Trapped, Ended}
@@ -23,11 +23,11 @@ use Rattle.c_meaning.specs.declared.value_type.Called.{Called}
 use Rattle.c_meaning.specs.declared.value_type.Called.TheVariants as called
 use Rattle.c_meaning.specs.declared.value_type.ValueType.{ValueType}
 use Rattle.c_meaning.specs.declared.value_type.ValueType.TheVariants as type
-use Rattle.c_meaning.specs.Words.{Argument, Arguments, all_defined, allocate, as_type, assert, call_function, call_library, call_sense, exit, print_by, release}
-use Rattle.c_meaning.specs.Words.{returned, types_taken, with_result, as_used, conversion, Sense, arm_as, arm_effect, arm_value, as_flag, assign, cast, comma}
-use Rattle.c_meaning.specs.Words.{conditional, effected, handed_value, is_other_pointer, is_struct_value, linked, null_or, one_operand, placed, postfixed}
-use Rattle.c_meaning.specs.Words.{prefixed_sense, settled, size_value, spot, valued, wanted_value, Setting, Signature, flag_value, operation, pointed_place}
-use Rattle.c_meaning.specs.Words.{Assignment, Plain, By, Joint, Both, Either, Computes, Unjoined, has_value, listed, World, Out, Go, Stop, OutDone, bind}
+use Rattle.c_meaning.specs.Words.{Argument, Arguments, all_defined, space_allocated, as_type, assert, call_function, call_library, call_sense, exit, print_by, space_released}
+use Rattle.c_meaning.specs.Words.{call_result_visited, types_taken, with_result, as_used, conversion, Sense, arm_as, arm_effect, arm_value, as_flag, assigned_value, cast_sense, comma_sense}
+use Rattle.c_meaning.specs.Words.{conditional, sense_of_effect, handed_value, is_other_pointer, is_struct_value, value_after_link, null_or, one_operand, sense_of_place, postfixed_sense}
+use Rattle.c_meaning.specs.Words.{prefixed_sense, loaded_operand, size_value, place_or_value, sense_of_value, wanted_value, Setting, Signature, flag_value, operation, pointed_place}
+use Rattle.c_meaning.specs.Words.{Assignment, Plain, By, Joint, Both, Either, Computes, Unjoined, has_value, site_list, World, Out, Go, Stop, OutDone, bind}
 use Rattle.c_meaning_laws.proofs.Kept.{Answers, Any, Closed, Keeps, answers, changes, chosen, done_kept, gives, nothing_kept, seq, stops}
 use Rattle.c_meaning_laws.proofs.KeptPlaces.{assigned_kept, changed_kept, decided_kept, handed_kept, load_kept, next_kept, number_kept, operate_kept}
 use Rattle.c_meaning_laws.proofs.KeptPlaces.{pointed_kept}
@@ -50,13 +50,13 @@ each_reversed Q (x ∷ xs) h =
     subst (AllByRecursion Q) (sym (reverse-append (x ∷ []) xs)) (each_appended Q (reverse xs) (x ∷ []) (each_reversed Q xs h.1) (h.0, tt))
 
 module _ {Q : Scalar → Type 0} {Own : ℕ → Type 0} {I : Objects → Type 0} (c : Closed Q Own I) where
-  pub valued_kept : {m : World → Out Scalar} → Keeps I Q m → SenseKept Q I (valued m)
+  pub valued_kept : {m : World → Out Scalar} → Keeps I Q m → SenseKept Q I (sense_of_value m)
   valued_kept h = record { value = h; place = stuck_kept c; effect = done_kept h }
 
-  pub effected_kept : {m : World → OutDone} → Keeps I Any m → SenseKept Q I (effected m)
+  pub effected_kept : {m : World → OutDone} → Keeps I Any m → SenseKept Q I (sense_of_effect m)
   effected_kept h = record { value = stuck_kept c; place = stuck_kept c; effect = h }
 
-  pub placed_kept : {m : World → Out Scalar} (of : Option ValueType) → Keeps I Q m → SenseKept Q I (placed of m)
+  pub placed_kept : {m : World → Out Scalar} (of : Option ValueType) → Keeps I Q m → SenseKept Q I (sense_of_place of m)
   placed_kept of h = record {
     value = seq h (load_kept c of);
     place = h;
@@ -87,29 +87,29 @@ module _ {Q : Scalar → Type 0} {Own : ℕ → Type 0} {I : Objects → Type 0}
   arm_effect_kept b have (Some type.Void) m h = record { at = h.effect.at }
   arm_effect_kept b have want m h = done_kept (arm_kept b have want m h)
 
-  cast_value : (b : Bool) (want : Option ValueType) (m : Sense) → SenseKept Q I m → SenseKept Q I (valued (handed_value b want m))
+  cast_value : (b : Bool) (want : Option ValueType) (m : Sense) → SenseKept Q I m → SenseKept Q I (sense_of_value (handed_value b want m))
   cast_value b want m h = valued_kept (handed_value_kept b want m h)
 
-  pub cast_kept : (b : Bool) (want : Option ValueType) (m : Sense) → SenseKept Q I m → SenseKept Q I (cast b want m)
+  pub cast_kept : (b : Bool) (want : Option ValueType) (m : Sense) → SenseKept Q I m → SenseKept Q I (cast_sense b want m)
   cast_kept b (Some type.Void) m h = effected_kept h.effect
   cast_kept b want m h = cast_value b want m h
 
-  pub comma_kept : (n : ℕ) (m rest : Sense) → SenseKept Q I m → SenseKept Q I rest → SenseKept Q I (comma n m rest)
+  pub comma_kept : (n : ℕ) (m rest : Sense) → SenseKept Q I m → SenseKept Q I rest → SenseKept Q I (comma_sense n m rest)
   comma_kept zero m rest h k = h
   comma_kept (suc n) m rest h k = record { value = seq h.effect (λ _ _. k.value); place = stuck_kept c; effect = seq h.effect (λ _ _. k.effect) }
 
   flag_kept : {m : World → Out Scalar} → Keeps I Q m → Keeps I Q (as_flag m)
   flag_kept h = seq h (λ v _. seq (truth_kept c v) (λ holds _. gives (flag_value holds) (c.numbers Int _)))
 
-  pub settled_kept : (b : Bool) (of : Option ValueType) (v : Scalar) → Q v → Keeps I Q (settled b of v)
+  pub settled_kept : (b : Bool) (of : Option ValueType) (v : Scalar) → Q v → Keeps I Q (loaded_operand b of v)
   settled_kept true of v h = load_kept c of v h
   settled_kept false of v h = gives v h
 
-  pub spot_kept : (b : Bool) (m : Sense) → SenseKept Q I m → Keeps I Q (spot b m)
+  pub spot_kept : (b : Bool) (m : Sense) → SenseKept Q I m → Keeps I Q (place_or_value b m)
   spot_kept true m h = h.place
   spot_kept false m h = h.value
 
-  pub postfixed_kept : {m : World → Out Scalar} (b : Bool) (of : Option ValueType) → Keeps I Q m → SenseKept Q I (postfixed b of m)
+  pub postfixed_kept : {m : World → Out Scalar} (b : Bool) (of : Option ValueType) → Keeps I Q m → SenseKept Q I (postfixed_sense b of m)
   postfixed_kept true of h = placed_kept of h
   postfixed_kept false of h = valued_kept h
 
@@ -122,14 +122,14 @@ module _ {Q : Scalar → Type 0} {Own : ℕ → Type 0} {I : Objects → Type 0}
   promoted_kept Int r = number_kept c Int r
   promoted_kept Unsigned r = number_kept c Unsigned r
 
-  opposite_kept : (r : Result Bool Trap) → Answers Q (opposite r)
+  opposite_kept : (r : Result Bool Trap) → Answers Q (logical_negation r)
   opposite_kept (Ok holds) = c.numbers Int _
   opposite_kept (Err t) = tt
 
   one_kept : (o : Unary) (v : Scalar) → Answers Q (applied_to_one o v)
   unfolding applied_to_one
   one_kept unary.Not v = opposite_kept (truth_of v)
-  one_kept unary.Neg (Number kind value) = promoted_kept kind (fitted kind (neg_ℤ value))
+  one_kept unary.Neg (Number kind value) = promoted_kept kind (fitted_value kind (neg_ℤ value))
   one_kept unary.Com (Number kind value) = promoted_kept kind (Ok (complement kind value))
   one_kept unary.Neg Undefined = tt
   one_kept unary.Neg Null = tt
@@ -139,21 +139,21 @@ module _ {Q : Scalar → Type 0} {Own : ℕ → Type 0} {I : Objects → Type 0}
   one_kept unary.Com (Place number offset) = tt
 
   operand_kept : {m : World → Out Scalar} (have want : Option ValueType) (o : Unary) → Keeps I Q m
-      → SenseKept Q I (valued (λ w. bind (m w) (one_operand have want o)))
+      → SenseKept Q I (sense_of_value (λ w. bind (m w) (one_operand have want o)))
   operand_kept have want o h =
       valued_kept (seq h (λ v k. seq (wanted_kept c (conversion have want) v k) (λ x _. answers (λ w. applied_to_one o x) (λ w _. one_kept o x))))
 
   -- calls of the library
-  allocate_kept : (v : Scalar) → Keeps I Q (allocate v)
+  allocate_kept : (v : Scalar) → Keeps I Q (space_allocated v)
   allocate_kept Undefined = stops (Trapped trap.Undefined)
   allocate_kept (Number Unsigned cells) =
-      changes (λ w. (allocated (unsigned_abs cells) w.objects).0) (λ w. record w { objects = (allocated (unsigned_abs cells) w.objects).1 })
+      changes (λ w. (object_allocated (unsigned_abs cells) w.objects).0) (λ w. record w { objects = (object_allocated (unsigned_abs cells) w.objects).1 })
       (λ w a. c.allocates (unsigned_abs cells) w.objects a)
   allocate_kept v = stuck_kept c
 
-  release_kept : (p : Scalar) → Q p → Keeps I Any (release p)
+  release_kept : (p : Scalar) → Q p → Keeps I Any (space_released p)
   release_kept p h =
-      seq (answers (λ w. released p w.objects) (λ w a. c.releases p w.objects h a)) (λ objects a.
+      seq (answers (λ w. object_released p w.objects) (λ w a. c.releases p w.objects h a)) (λ objects a.
       changes (λ w. tt {0}) (λ w. record w { objects = objects }) (λ w _. (tt, a)))
 
   exit_kept : (v : Scalar) → Keeps I Any (exit v)
@@ -181,14 +181,14 @@ module _ {Q : Scalar → Type 0} {Own : ℕ → Type 0} {I : Objects → Type 0}
 
   module _ (s : Setting) where
     pub linked_kept : (j : Joint) (token : ℕ) (left right : Option ValueType) (m : World → Out Scalar) (v : Scalar) → Keeps I Q m → Q v
-        → Keeps I Q (linked s j token left right m v)
+        → Keeps I Q (value_after_link s j token left right m v)
     linked_kept Both token left right m v h k = seq (decided_kept c s token v k) (λ b _. chosen b (flag_kept h) (gives (flag_value false) (c.numbers Int _)))
     linked_kept Either token left right m v h k = seq (decided_kept c s token v k) (λ b _. chosen b (gives (flag_value true) (c.numbers Int _)) (flag_kept h))
     linked_kept (Computes o) token left right m v h k = seq h (λ x i. operate_kept c (operation o left right) v x k i)
     linked_kept Unjoined token left right m v h k = stuck_kept c
 
     pub assign_kept : (token : ℕ) (a : Assignment) (b : Bool) (left right : Option ValueType) (goal m : Sense) → SenseKept Q I goal → SenseKept Q I m
-        → Keeps I Q (assign s token a b left right goal m)
+        → Keeps I Q (assigned_value s token a b left right goal m)
     assign_kept token Plain b left right goal m h k =
         seq h.place (λ p i. seq (wanted_value_kept b right left m k) (λ v j. assigned_kept c s token p v i j))
     assign_kept token (By o) b left right goal m h k =
@@ -216,8 +216,8 @@ module _ {Q : Scalar → Type 0} {Own : ℕ → Type 0} {I : Objects → Type 0}
         valued_kept (seq h.value (λ v _. answers (λ w. applied_to_one unary.Not v) (λ w _. one_kept unary.Not v)))
     prefixed_kept token prefix.SizeOf of cells m h = size_kept cells
 
-    returned_kept : (token : ℕ) {m : World → Out Scalar} → Keeps I Q m → SenseKept Q I (returned s token m)
-    returned_kept token h = valued_kept (seq h (visited_kept c s (listed (s.sites.return_at token))))
+    returned_kept : (token : ℕ) {m : World → Out Scalar} → Keeps I Q m → SenseKept Q I (call_result_visited s token m)
+    returned_kept token h = valued_kept (seq h (visited_kept c s (site_list (s.sites.return_at token))))
 
     result_kept : (token : ℕ) (b : Bool) {m : World → Out Scalar} → Keeps I Q m → SenseKept Q I (with_result s token b m)
     result_kept token true h = returned_kept token h

@@ -7,7 +7,7 @@ use Rattle.cbi_base.specs.declared.scalar.Scalar.TheVariants.{Place}
 use Rattle.cbi_base.specs.declared.scalar.Want.{Want}
 use Rattle.cbi_base.specs.declared.scalar.Want.TheVariants as want
 use Rattle.std.specs.List.{AllByRecursion}
-use Rattle.cbi_base.specs.Words.{char_of, zero_value, filled, Objects, cleared, stored, stored_bytes}
+use Rattle.cbi_base.specs.Words.{char_of, zero_value, object_filled, Objects, object_made_undefined, value_stored, stored_bytes}
 use Rattle.c_syntax.specs.ExprTree as e
 use Rattle.c_syntax.specs.Words.{ExprTree, ExprList, InitialTree, StartTree, ForStartTree, StatementTree, EntryList}
 use Rattle.c_syntax.specs.StatementTree as tree
@@ -16,10 +16,10 @@ use Rattle.flow.specs.declared.site.Slot.{Slot}
 use Rattle.flow.specs.declared.site.Slot.TheVariants as slot
 use Rattle.c_meaning.specs.declared.value_type.ValueType.{ValueType}
 use Rattle.c_meaning.specs.declared.value_type.ValueType.TheVariants as type
-use Rattle.c_meaning.specs.Words.{is_null_as, Setting, all_started, clear, element_set, elements_set, equals_token, initialised, object_of, on_local, on_object}
-use Rattle.c_meaning.specs.Words.{scalar_set, spell, value_set, want_of, zeroed, condition, expr, text_of_string, after_body, after_entry, do_round, exec}
-use Rattle.c_meaning.specs.Words.{exec_all, for_round, for_started, optional_condition, optional_effect, returned_value, rounds, while_round, type_of, World}
-use Rattle.c_meaning.specs.Words.{Out, Stop, OutDone, Flow, Next, Broken, Continued, Returned, spend}
+use Rattle.c_meaning.specs.Words.{is_null_as, Setting, all_started, variable_cleared, element_set, elements_set, equals_token, variable_initialised, object_of, on_local, on_object}
+use Rattle.c_meaning.specs.Words.{scalar_set, string_stored, value_set, want_of, array_zeroed, condition, expr, text_of_string, after_body, after_entry, do_round, exec}
+use Rattle.c_meaning.specs.Words.{exec_all, for_round, for_started, optional_condition, optional_effect, returned_value, loop_rounds, while_round, type_of, World}
+use Rattle.c_meaning.specs.Words.{Out, Stop, OutDone, Flow, Next, Broken, Continued, Returned, one_turn_spent}
 use Rattle.c_meaning_laws.proofs.Kept.{Answers, Any, Closed, Keeps, answers, answers_bind, changes, chosen, done_kept, gives, seq, spends, stops}
 use Rattle.c_meaning_laws.proofs.KeptPlaces.{LocalsOwn, StaticsOwn, assigned_kept, member_kept, store_kept, stuck_kept, variable_kept}
 use Rattle.c_meaning_laws.proofs.KeptSenses.{wanted_value_kept}
@@ -35,27 +35,27 @@ module _ {Q : Scalar → Type 0} {Own : ℕ → Type 0} {I : Objects → Type 0}
   on_kept None h = stuck_kept c
   on_kept (Some number) h = record { at = (h number refl).at }
 
-  clear_kept : (number : ℕ) → Own number → Keeps I Any (clear number)
-  clear_kept number own = changes (λ w. tt {0}) (λ w. record w { objects = cleared number w.objects }) (λ w a. (tt, c.clears number w.objects own a))
+  clear_kept : (number : ℕ) → Own number → Keeps I Any (variable_cleared number)
+  clear_kept number own = changes (λ w. tt {0}) (λ w. record w { objects = object_made_undefined number w.objects }) (λ w a. (tt, c.clears number w.objects own a))
 
   zero_kept : (wanted : Want) → Q (zero_value wanted)
   zero_kept (want.Number kind) = c.numbers kind _
   zero_kept want.Pointer = c.null
 
-  zeroed_kept : (wanted : Option Want) (number : ℕ) → Own number → Keeps I Any (zeroed wanted number)
+  zeroed_kept : (wanted : Option Want) (number : ℕ) → Own number → Keeps I Any (array_zeroed wanted number)
   zeroed_kept None number own = stuck_kept c
   zeroed_kept (Some wanted) number own =
-      changes (λ w. tt {0}) (λ w. record w { objects = filled number (zero_value wanted) w.objects })
+      changes (λ w. tt {0}) (λ w. record w { objects = object_filled number (zero_value wanted) w.objects })
       (λ w a. (tt, c.fills number (zero_value wanted) w.objects own (zero_kept wanted) a))
 
   spelled_kept : (number offset : ℕ) (bytes : List ℕ) (o : Objects) → Own number → I o → Answers I (stored_bytes number offset bytes o)
   spelled_kept number offset [] o own a = a
   spelled_kept number offset (byte ∷ bytes) o own a =
-      answers_bind I I (stored (Place number offset) (char_of byte) o) (stored_bytes number (offset + 1) bytes)
+      answers_bind I I (value_stored (Place number offset) (char_of byte) o) (stored_bytes number (offset + 1) bytes)
       (c.stores (Place number offset) (char_of byte) o (c.places number offset own) (c.numbers Char _) a) (λ more k.
       spelled_kept number (offset + 1) bytes more own k)
 
-  spell_kept : (text : Option Text) (number : ℕ) → Own number → Keeps I Any (spell text number)
+  spell_kept : (text : Option Text) (number : ℕ) → Own number → Keeps I Any (string_stored text number)
   spell_kept None number own = stuck_kept c
   spell_kept (Some text) number own =
       seq (answers (λ w. stored_bytes number 0 text.bytes w.objects) (λ w a. spelled_kept number 0 text.bytes w.objects own a)) (λ objects a.
@@ -87,9 +87,9 @@ module _ {Q : Scalar → Type 0} {Own : ℕ → Type 0} {I : Objects → Type 0}
       → RoundKept (for_round test body step)
   for_kept h j i again more = while_kept h j _ (seq i (λ _ _. more))
 
-  rounds_kept : (n : ℕ) (round : (World → Out Flow) → World → Out Flow) → RoundKept round → Keeps I (Leaves Q) (rounds n round)
+  rounds_kept : (n : ℕ) (round : (World → Out Flow) → World → Out Flow) → RoundKept round → Keeps I (Leaves Q) (loop_rounds n round)
   rounds_kept zero round h = record { at = (h (Stop CutTurns) (stops CutTurns)).at }
-  rounds_kept (suc n) round h = record { at = (h (λ u. spend u.turns u (rounds n round)) (spends (rounds_kept n round h))).at }
+  rounds_kept (suc n) round h = record { at = (h (λ u. one_turn_spent u.turns u (loop_rounds n round)) (spends (rounds_kept n round h))).at }
 
   module _ (s : Setting) (statics : StaticsOwn Own s.facts) (locals : LocalsOwn Own s.locals)
       (calls : (number : ℕ) (vs : List Scalar) → AllByRecursion Q vs → Keeps I Q (s.call number vs)) where
@@ -122,7 +122,7 @@ module _ {Q : Scalar → Type 0} {Own : ℕ → Type 0} {I : Objects → Type 0}
         seq (local_kept token (zeroed_kept (want_of (s.facts.element_at token)))) (λ _ _. local_kept token (spell_kept (text_of_string s.facts x)))
     value_kept token of x = scalar_kept token x
 
-    initialised_kept : (token : ℕ) (i : Option InitialTree) → Keeps I Any (initialised s token i)
+    initialised_kept : (token : ℕ) (i : Option InitialTree) → Keeps I Any (variable_initialised s token i)
     initialised_kept token None = gives tt tt
     initialised_kept token (Some (tree.Value x)) = value_kept token (s.facts.declared_at token) x
     initialised_kept token (Some (tree.Braced at items comma)) =

@@ -2,9 +2,9 @@
 use Rattle.std.proofs.Common.{◌≡◌, ℕ, zero, suc, ◌+◌, ◌≤◌, ◌++◌, Bool, true, false, List, [], Result, Ok, Err, refl, ap, sym, ◌∙◌, subst, arith, append_assoc, append-nil}
 use Rattle.cbi_base.specs.declared.observation.Observation.{Observation}
 use Rattle.cbi_base.specs.declared.outcome.Outcome.{Outcome}
-use Rattle.cbi_base.specs.declared.outcome.Outcome.TheVariants.{Ended, Trapped, CutTurns, CutOutput}
+use Rattle.cbi_base.specs.declared.outcome.Outcome.TheVariants.{CutTurns}
 use Rattle.cbi_base.specs.declared.trap.Trap.{Trap}
-use Rattle.c_meaning.specs.World.{World, Out, Go, Stop, answered, bind, choose, done, spend}
+use Rattle.c_meaning.specs.World.{World, Out, Go, Stop, answer_or_trap, bind, chosen_part, value_discarded, one_turn_spent}
 
 -- what was written and seen begins what is written and seen later
 pub record Extends (w u : World) : Type 0 where
@@ -89,19 +89,19 @@ module _ (k : ℕ) where
     same = λ w. same_bind (m w) (more (longer w)) f g (h.same w) next;
   }
 
-  grown_answer : {A : Type 0} (r : Result A Trap) (w : World) → Grows w (left_in (answered r w))
+  grown_answer : {A : Type 0} (r : Result A Trap) (w : World) → Grows w (left_in (answer_or_trap r w))
   grown_answer (Ok x) w = grows_itself w
   grown_answer (Err t) w = grows_itself w
 
-  same_answer : {A : Type 0} (r : Result A Trap) (w : World) → Matches (answered r w) (answered r (longer w))
+  same_answer : {A : Type 0} (r : Result A Trap) (w : World) → Matches (answer_or_trap r w) (answer_or_trap r (longer w))
   same_answer (Ok x) w = refl
   same_answer (Err t) w = refl
 
   -- the answer of an operation, which sees no turns
-  pub answers : {A : Type 0} (r : World → Result A Trap) → ((w : World) → r (longer w) ≡ r w) → Longer (λ w. answered (r w) w) (λ w. answered (r w) w)
+  pub answers : {A : Type 0} (r : World → Result A Trap) → ((w : World) → r (longer w) ≡ r w) → Longer (λ w. answer_or_trap (r w) w) (λ w. answer_or_trap (r w) w)
   answers r h = record {
     grows = λ w. grown_answer (r w) w;
-    same = λ w. subst (λ q. Matches (answered (r w) w) (answered q (longer w))) (sym (h w)) (same_answer (r w) w);
+    same = λ w. subst (λ q. Matches (answer_or_trap (r w) w) (answer_or_trap q (longer w))) (sym (h w)) (same_answer (r w) w);
   }
 
   pub gives : {A : Type 0} (x : A) → Longer (λ w. Go x w) (λ w. Go x w)
@@ -123,31 +123,31 @@ module _ (k : ℕ) where
     same = λ w. ap (λ v. Go v (f (longer w))) (same_value w) ∙ ap (λ u. Go (x w) u) (same_state w);
   }
 
-  pub chosen : {A : Type 0} {m more n others : World → Out A} (b : Bool) → Longer m more → Longer n others → Longer (choose b m n) (choose b more others)
+  pub chosen : {A : Type 0} {m more n others : World → Out A} (b : Bool) → Longer m more → Longer n others → Longer (chosen_part b m n) (chosen_part b more others)
   chosen true h j = h
   chosen false h j = j
 
-  pub done_longer : {A : Type 0} {m more : World → Out A} → Longer m more → Longer (λ w. done (m w)) (λ w. done (more w))
+  pub done_longer : {A : Type 0} {m more : World → Out A} → Longer m more → Longer (λ w. value_discarded (m w)) (λ w. value_discarded (more w))
   done_longer h = seq h (λ x. gives tt)
 
   pub grown_spend : {A : Type 0} (turns : ℕ) (w : World) (go : World → Out A) → ((u : World) → Grows u (left_in (go u)))
-      → turns ≤ w.turns → Grows w (left_in (spend turns w go))
+      → turns ≤ w.turns → Grows w (left_in (one_turn_spent turns w go))
   grown_spend zero w go h le = grows_itself w
   grown_spend (suc turns) w go h le =
       let later : Grows (record w { turns = turns }) (left_in (go (record w { turns = turns }))) = h (record w { turns = turns }) in
       record { extends = record { output = later.extends.output; seen = later.extends.seen }; turns = omega (arith, later.turns, le) }
 
   same_spend : {A : Type 0} (turns : ℕ) (w : World) (go more : World → Out A) → Longer go more → turns ≤ w.turns
-      → Matches (spend turns w go) (spend (turns + k) (longer w) more)
+      → Matches (one_turn_spent turns w go) (one_turn_spent (turns + k) (longer w) more)
   same_spend zero w go more h le =
-      let later : Grows (longer w) (left_in (spend (zero + k) (longer w) more)) = grown_spend (zero + k) (longer w) more h.grows (omega (arith, le)) in
+      let later : Grows (longer w) (left_in (one_turn_spent (zero + k) (longer w) more)) = grown_spend (zero + k) (longer w) more h.grows (omega (arith, le)) in
       record { output = later.extends.output; seen = later.extends.seen }
   same_spend (suc turns) w go more h le =
       let next : suc turns + k ≡ suc (turns + k) = omega arith in
-      subst (λ n. Matches (go (record w { turns = turns })) (spend n (longer w) more)) (sym next) (h.same (record w { turns = turns }))
+      subst (λ n. Matches (go (record w { turns = turns })) (one_turn_spent n (longer w) more)) (sym next) (h.same (record w { turns = turns }))
 
   -- a part behind a turn that is spent
-  pub spends : {A : Type 0} {go more : World → Out A} → Longer go more → Longer (λ w. spend w.turns w go) (λ w. spend w.turns w more)
+  pub spends : {A : Type 0} {go more : World → Out A} → Longer go more → Longer (λ w. one_turn_spent w.turns w go) (λ w. one_turn_spent w.turns w more)
   spends {go = go} {more = more} h = record {
     grows = λ w. grown_spend w.turns w more h.grows (omega arith);
     same = λ w. same_spend w.turns w go more h (omega arith);

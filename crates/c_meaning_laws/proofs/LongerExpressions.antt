@@ -8,9 +8,9 @@ use Rattle.c_syntax.specs.ExprTree as e
 use Rattle.c_syntax.specs.ExprTree.{ExprTree, ExprList, LinkList, PostfixList}
 use Rattle.c_types_expressions.specs.ExprWalk.{binary_of}
 use Rattle.c_meaning.specs.declared.value_type.ValueType.{ValueType}
-use Rattle.c_meaning.specs.Words.{is_null_as, Facts, Setting, arguments_value, condition, expr, formatted, last_sense, links_value, lone_value, onward}
-use Rattle.c_meaning.specs.Words.{text_of_string, text_place, operation, assignment, begins_null, called_as, count, ends_as_place, first_type, is_null_beside}
-use Rattle.c_meaning.specs.Words.{is_place, joint, operand_type, other_types, token_of, type_of, Caller}
+use Rattle.c_meaning.specs.Words.{is_null_as, Facts, Setting, arguments_value, condition, expr, arguments_printed, last_sense, links_value, lone_value, value_after_postfix}
+use Rattle.c_meaning.specs.Words.{text_of_string, text_place, operation, assignment_of_sign, begins_null, called_as, expression_count, ends_as_place, first_type, is_null_beside}
+use Rattle.c_meaning.specs.Words.{is_place, joint_of_sign, operand_type, other_types, token_of, type_of, Caller}
 use Rattle.c_meaning_laws.proofs.Longer.{Longer, chosen, gives, seq}
 use Rattle.c_meaning_laws.proofs.LongerPlaces.{decided_longer, member_longer, operate_longer, stepped_behind_longer, stuck_longer, variable_longer}
 use Rattle.c_meaning_laws.proofs.LongerSenses.{SenseLonger, arm_effect_longer, arm_longer, assign_longer, call_longer, cast_longer, comma_longer, conditional_longer, handed_value_longer}
@@ -28,7 +28,7 @@ module _ (k : ℕ) (s : Setting) (call : Caller) (calls : (number : ℕ) (vs : L
     pub expr_longer : (x : ExprTree) → SenseLonger k (expr s x) (expr t x)
     expr_longer (e.Comma token operands) = last_longer operands
     expr_longer (e.Assign token sign target value) =
-        valued_longer k (assign_longer k s call token (assignment sign) (is_null_as (type_of s.facts target) value) (type_of s.facts target)
+        valued_longer k (assign_longer k s call token (assignment_of_sign sign) (is_null_as (type_of s.facts target) value) (type_of s.facts target)
         (type_of s.facts value) (expr s target) (expr t target) (expr s value) (expr t value) (expr_longer target) (expr_longer value))
     expr_longer (e.Conditional token c first second) =
         conditional_longer k s call token (expr s c) (expr t c) (expr_longer c)
@@ -54,9 +54,9 @@ module _ (k : ℕ) (s : Setting) (call : Caller) (calls : (number : ℕ) (vs : L
         (behind_longer operators (is_place primary) (type_of s.facts primary)))
     expr_longer (e.Name token name) = placed_longer k (s.facts.type_at token) (variable_longer k s call (s.facts.slot_at token))
     expr_longer (e.Call token name arguments) =
-        call_longer k s call calls token (called_as (s.facts.function_at token) name) (count arguments)
+        call_longer k s call calls token (called_as (s.facts.function_at token) name) (expression_count arguments)
         (λ types. arguments_value s types arguments []) (λ types. arguments_value t types arguments [])
-        (λ want. lone_value s want arguments) (λ want. lone_value t want arguments) (formatted s arguments) (formatted t arguments)
+        (λ want. lone_value s want arguments) (λ want. lone_value t want arguments) (arguments_printed s arguments) (arguments_printed t arguments)
         (λ types. arguments_longer arguments types []) (lone_longer arguments) (formatted_longer arguments)
     expr_longer (e.Constant token kind value) = valued_longer k (gives k (Number kind value))
     expr_longer (e.Strings token parts) = valued_longer k (text_longer k s.facts (s.facts.text_at token))
@@ -65,7 +65,7 @@ module _ (k : ℕ) (s : Setting) (call : Caller) (calls : (number : ℕ) (vs : L
     expr_longer (e.EndOfFile token) = valued_longer k (gives k (Number Int (negsuc 0)))
 
     behind_longer : (operators : PostfixList) (known : Bool) (of : Option ValueType) (v : Scalar)
-        → Longer k (onward s known of operators v) (onward t known of operators v)
+        → Longer k (value_after_postfix s known of operators v) (value_after_postfix t known of operators v)
     behind_longer e.no_postfix known of v = gives k v
     behind_longer (e.index token i rest) known of v =
         seq k (settled_longer k known of v) (λ p. seq k (expr_longer i).value (λ x.
@@ -82,14 +82,14 @@ module _ (k : ℕ) (s : Setting) (call : Caller) (calls : (number : ℕ) (vs : L
     links_longer : (links : LinkList) (left : Option ValueType) (v : Scalar) → Longer k (links_value s left links v) (links_value t left links v)
     links_longer e.no_links left v = gives k v
     links_longer (e.more_links token sign operand rest) left v =
-        seq k (linked_longer k s call (joint sign) token left (operand_type (is_null_beside (binary_of sign) left operand) (type_of s.facts operand)) _ _ v
+        seq k (linked_longer k s call (joint_of_sign sign) token left (operand_type (is_null_beside (binary_of sign) left operand) (type_of s.facts operand)) _ _ v
         (null_longer k (is_null_beside (binary_of sign) left operand) (expr s operand) (expr t operand) (expr_longer operand)))
         (links_longer rest (s.facts.type_at token))
 
     last_longer : (operands : ExprList) → SenseLonger k (last_sense s operands) (last_sense t operands)
     last_longer e.no_exprs = valued_longer k (stuck_longer k Scalar)
     last_longer (e.more_exprs x rest) =
-        comma_longer k (count rest) (expr s x) (expr t x) (last_sense s rest) (last_sense t rest) (expr_longer x) (last_longer rest)
+        comma_longer k (expression_count rest) (expr s x) (expr t x) (last_sense s rest) (last_sense t rest) (expr_longer x) (last_longer rest)
 
     arguments_longer : (arguments : ExprList) (types : List ValueType) (before : List Scalar)
         → Longer k (arguments_value s types arguments before) (arguments_value t types arguments before)
@@ -101,13 +101,13 @@ module _ (k : ℕ) (s : Setting) (call : Caller) (calls : (number : ℕ) (vs : L
     lone_longer : (arguments : ExprList) (want : Option ValueType → Option ValueType) → Longer k (lone_value s want arguments) (lone_value t want arguments)
     lone_longer e.no_exprs want = stuck_longer k Scalar
     lone_longer (e.more_exprs x rest) want =
-        chosen k (count rest == 0)
+        chosen k (expression_count rest == 0)
         (handed_value_longer k (is_null_as (want (type_of s.facts x)) x) (want (type_of s.facts x)) (expr s x) (expr t x) (expr_longer x)) (stuck_longer k Scalar)
 
-    formatted_longer : (arguments : ExprList) → Longer k (formatted s arguments) (formatted t arguments)
+    formatted_longer : (arguments : ExprList) → Longer k (arguments_printed s arguments) (arguments_printed t arguments)
     formatted_longer e.no_exprs = stuck_longer k (Unit {0})
     formatted_longer (e.more_exprs x rest) =
-        print_by_longer k (text_of_string s.facts x) (count rest) (λ types. arguments_value s types rest []) (λ types. arguments_value t types rest [])
+        print_by_longer k (text_of_string s.facts x) (expression_count rest) (λ types. arguments_value s types rest []) (λ types. arguments_value t types rest [])
         (λ types. arguments_longer rest types [])
 
   -- a condition, with the visit of its site

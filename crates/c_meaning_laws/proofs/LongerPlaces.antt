@@ -1,10 +1,10 @@
 -- Values, places, visits and output, where more turns are left: none of them looks at turns.
 use Rattle.std.proofs.Common.{◌≡◌, ℕ, ◌+◌, ◌++◌, ◌-◌, Bool, true, false, pos, negsuc, nat_le, length, take, List, [], ◌∷◌, Option, Some, None, refl, sym, subst, arith}
 use Rattle.std.specs.Prelude.{if◌then◌else◌}
-use Rattle.cbi_base.specs.Words.{Printed, pieces_of, printed_format, string_at, take_values, then_print, these, output_limit, local_at, low_byte, Objects}
-use Rattle.cbi_base.specs.Words.{loaded, moved, stored, converted, truth_of}
+use Rattle.cbi_base.specs.Words.{Printed, pieces_of, printed_format, string_at, take_values, then_print, bytes_printed, output_limit, local_at, low_byte, Objects}
+use Rattle.cbi_base.specs.Words.{loaded_value, moved_pointer, value_stored, converted_number, truth_of}
 use Rattle.cbi_base.specs.declared.outcome.Outcome.TheVariants.{Trapped, CutOutput}
-use Rattle.cbi_base.specs.declared.scalar.Kind.TheVariants.{Char, Int, Unsigned}
+use Rattle.cbi_base.specs.declared.scalar.Kind.TheVariants.{Int}
 use Rattle.cbi_base.specs.declared.scalar.Scalar.{Scalar}
 use Rattle.cbi_base.specs.declared.scalar.Scalar.TheVariants.{Number, Place, Null, Undefined}
 use Rattle.cbi_base.specs.declared.scalar.Want.TheVariants as want
@@ -12,22 +12,22 @@ use Rattle.cbi_base.specs.declared.trap.Trap.{Trap}
 use Rattle.cbi_base.specs.declared.trap.Trap.TheVariants as trap
 use Rattle.flow.specs.declared.site.Slot.{Slot}
 use Rattle.flow.specs.declared.site.Slot.TheVariants as slot
-use Rattle.flow.specs.Truths.{looked}
+use Rattle.flow.specs.Truths.{seen_at_site}
 use Rattle.c_meaning.specs.declared.conversion.Conversion.{Conversion}
 use Rattle.c_meaning.specs.declared.operation.Operation.{Operation}
 use Rattle.c_meaning.specs.declared.value_type.ValueType.{ValueType}
 use Rattle.c_meaning.specs.declared.value_type.ValueType.TheVariants as type
-use Rattle.c_meaning.specs.Words.{as_wanted, conversion, converts, defined, handed, load_at, Setting, operate, type_given, next_byte, print, put_byte}
-use Rattle.c_meaning.specs.Words.{put_format, put_string, stop_or, written, assigned_at, changed, member_place, object_place, one_beside, step_operation}
-use Rattle.c_meaning.specs.Words.{store_at, stepped_value, stepped_behind, variable, decided, listed, observed_value, truth, visited, world_with_seen, World}
-use Rattle.c_meaning.specs.Words.{Out, Go, Stop, Caller, answered, bind, choose, nothing, stuck}
+use Rattle.c_meaning.specs.Words.{as_wanted, conversion, conversion_result, defined_scalar, handed_scalar, load_at, Setting, operation_result, type_given, next_byte, put_printed, put_byte}
+use Rattle.c_meaning.specs.Words.{put_format, put_string, stop_or, put_bytes, assigned_at, compound_result_stored, member_place, object_place, one_beside, step_operation}
+use Rattle.c_meaning.specs.Words.{store_at, stepped_value, stepped_behind, variable, visited_truth, site_list, observed_value, truth_value, sites_visited, world_with_seen, World}
+use Rattle.c_meaning.specs.Words.{Out, Go, Stop, Caller, answer_or_trap, bind, chosen_part, no_effect, stuck_run}
 use Rattle.c_meaning_laws.proofs.Longer.{Longer, Matches, answers, changes, chosen, gives, longer, no_more, same_left, seq, stops}
 
 module _ (k : ℕ) where
-  pub stuck_longer : (A : Type 0) → Longer k {A = A} stuck stuck
+  pub stuck_longer : (A : Type 0) → Longer k {A = A} stuck_run stuck_run
   stuck_longer A = stops k A (Trapped trap.Internal)
 
-  pub nothing_longer : Longer k nothing nothing
+  pub nothing_longer : Longer k no_effect no_effect
   nothing_longer = gives k tt
 
   -- a part that changes the objects alone
@@ -36,21 +36,21 @@ module _ (k : ℕ) where
       (λ w. same_left w _ refl refl refl)
 
   pub load_longer : (of : Option ValueType) (p : Scalar) → Longer k (load_at of p) (load_at of p)
-  load_longer (Some (type.Number kind)) p = answers k (λ w. loaded (want.Number kind) p w.objects) (λ w. refl)
-  load_longer (Some (type.Pointer size)) p = answers k (λ w. loaded want.Pointer p w.objects) (λ w. refl)
+  load_longer (Some (type.Number kind)) p = answers k (λ w. loaded_value (want.Number kind) p w.objects) (λ w. refl)
+  load_longer (Some (type.Pointer size)) p = answers k (λ w. loaded_value want.Pointer p w.objects) (λ w. refl)
   load_longer (Some (type.Array size)) p = gives k p
   load_longer of p = stuck_longer Scalar
 
   pub wanted_longer : (c : Conversion) (v : Scalar) → Longer k (as_wanted c v) (as_wanted c v)
-  wanted_longer c v = answers k (λ w. converts c v) (λ w. refl)
+  wanted_longer c v = answers k (λ w. conversion_result c v) (λ w. refl)
 
-  pub handed_longer : (of : Option ValueType) (v : Scalar) → Longer k (handed of v) (handed of v)
-  handed_longer (Some (type.Number kind)) v = answers k (λ w. converted kind v) (λ w. refl)
-  handed_longer (Some (type.Pointer size)) v = answers k (λ w. defined v) (λ w. refl)
+  pub handed_longer : (of : Option ValueType) (v : Scalar) → Longer k (handed_scalar of v) (handed_scalar of v)
+  handed_longer (Some (type.Number kind)) v = answers k (λ w. converted_number kind v) (λ w. refl)
+  handed_longer (Some (type.Pointer size)) v = answers k (λ w. defined_scalar v) (λ w. refl)
   handed_longer of v = stuck_longer Scalar
 
-  pub operate_longer : (o : Operation) (x y : Scalar) → Longer k (λ w. answered (operate o x y w.objects) w) (λ w. answered (operate o x y w.objects) w)
-  operate_longer o x y = answers k (λ w. operate o x y w.objects) (λ w. refl)
+  pub operate_longer : (o : Operation) (x y : Scalar) → Longer k (λ w. answer_or_trap (operation_result o x y w.objects) w) (λ w. answer_or_trap (operation_result o x y w.objects) w)
+  operate_longer o x y = answers k (λ w. operation_result o x y w.objects) (λ w. refl)
 
   pub object_longer : (number : Option ℕ) → Longer k (object_place number) (object_place number)
   object_longer None = stuck_longer Scalar
@@ -58,15 +58,15 @@ module _ (k : ℕ) where
 
   pub member_longer : (offset : Option ℕ) (p : Scalar) → Longer k (member_place offset p) (member_place offset p)
   member_longer None p = stuck_longer Scalar
-  member_longer (Some offset) p = answers k (λ w. moved p (pos offset) w.objects) (λ w. refl)
+  member_longer (Some offset) p = answers k (λ w. moved_pointer p (pos offset) w.objects) (λ w. refl)
 
   pub store_longer : (p v : Scalar) → Longer k (store_at p v) (store_at p v)
   store_longer p v =
-      seq k (answers k (λ w. stored p v w.objects) (λ w. refl)) (λ objects.
+      seq k (answers k (λ w. value_stored p v w.objects) (λ w. refl)) (λ objects.
       changes k (λ w. v) (λ w. record w { objects = objects }) (λ w. refl) (λ w. refl)
       (λ w. same_left w _ refl refl refl))
 
-  pub truth_longer : (v : Scalar) → Longer k (truth v) (truth v)
+  pub truth_longer : (v : Scalar) → Longer k (truth_value v) (truth_value v)
   truth_longer v = answers k (λ w. truth_of v) (λ w. refl)
 
   -- output
@@ -82,7 +82,7 @@ module _ (k : ℕ) where
     same = λ w. refl;
   }
 
-  pub written_longer : (bytes : List ℕ) → Longer k (written bytes) (written bytes)
+  pub written_longer : (bytes : List ℕ) → Longer k (put_bytes bytes) (put_bytes bytes)
   written_longer bytes = record {
     grows = λ w. (written_by (nat_le (length w.output + length bytes) output_limit) bytes (take (output_limit - length w.output) bytes)).grows w;
     same = λ w. (written_by (nat_le (length w.output + length bytes) output_limit) bytes (take (output_limit - length w.output) bytes)).same w;
@@ -92,7 +92,7 @@ module _ (k : ℕ) where
   stop_longer None = gives k tt
   stop_longer (Some t) = stops k (Unit {0}) (Trapped t)
 
-  pub print_longer : (p : Printed) → Longer k (print p) (print p)
+  pub print_longer : (p : Printed) → Longer k (put_printed p) (put_printed p)
   print_longer p = seq k (written_longer p.bytes) (λ _. stop_longer p.stop)
 
   -- a part that is chosen by what a state has whatever turns are left
@@ -116,12 +116,12 @@ module _ (k : ℕ) where
   put_byte_longer (Number Int value) = seq k (written_longer (low_byte value ∷ [])) (λ _. gives k (Number Int (pos (low_byte value))))
   put_byte_longer v = stuck_longer Scalar
 
-  string_longer : (p : Scalar) → Longer k (λ w. bind (print (then_print (string_at p w.objects) (these (10 ∷ []))) w) (λ _. Go (Number Int (pos 0))))
-      (λ w. bind (print (then_print (string_at p w.objects) (these (10 ∷ []))) w) (λ _. Go (Number Int (pos 0))))
+  string_longer : (p : Scalar) → Longer k (λ w. bind (put_printed (then_print (string_at p w.objects) (bytes_printed (10 ∷ []))) w) (λ _. Go (Number Int (pos 0))))
+      (λ w. bind (put_printed (then_print (string_at p w.objects) (bytes_printed (10 ∷ []))) w) (λ _. Go (Number Int (pos 0))))
   string_longer p =
-      seq k (by_state (λ w. w.objects) (λ o. print (then_print (string_at p o) (these (10 ∷ [])))) (λ o. print (then_print (string_at p o) (these (10 ∷ []))))
+      seq k (by_state (λ w. w.objects) (λ o. put_printed (then_print (string_at p o) (bytes_printed (10 ∷ [])))) (λ o. put_printed (then_print (string_at p o) (bytes_printed (10 ∷ []))))
       (λ w. refl)
-      (λ o. print_longer (then_print (string_at p o) (these (10 ∷ []))))) (λ _. gives k (Number Int (pos 0)))
+      (λ o. print_longer (then_print (string_at p o) (bytes_printed (10 ∷ []))))) (λ _. gives k (Number Int (pos 0)))
 
   pub put_string_longer : (p : Scalar) → Longer k (put_string p) (put_string p)
   put_string_longer Undefined = stops k Scalar (Trapped trap.Undefined)
@@ -131,8 +131,8 @@ module _ (k : ℕ) where
 
   pub put_format_longer : (format : List ℕ) (values : List Scalar) → Longer k (put_format format values) (put_format format values)
   put_format_longer format values =
-      by_state (λ w. w.objects) (λ o. choose (take_values (pieces_of format) values) (print (printed_format (pieces_of format) values o)) stuck)
-      (λ o. choose (take_values (pieces_of format) values) (print (printed_format (pieces_of format) values o)) stuck) (λ w. refl)
+      by_state (λ w. w.objects) (λ o. chosen_part (take_values (pieces_of format) values) (put_printed (printed_format (pieces_of format) values o)) stuck_run)
+      (λ o. chosen_part (take_values (pieces_of format) values) (put_printed (printed_format (pieces_of format) values o)) stuck_run) (λ w. refl)
       (λ o. chosen k (take_values (pieces_of format) values) (print_longer (printed_format (pieces_of format) values o)) (stuck_longer (Unit {0})))
 
   module _ (s : Setting) (call : Caller) where
@@ -146,22 +146,22 @@ module _ (k : ℕ) where
 
     observed_longer : (site : ℕ) (v : Scalar) → Longer k (observed_value s site v) (observed_value t site v)
     observed_longer site v =
-        seq k (answers k (λ w. looked (s.sites.site site) (Some v) s.locals w.objects) (λ w. refl)) (λ seen.
+        seq k (answers k (λ w. seen_at_site (s.sites.site site) (Some v) s.locals w.objects) (λ w. refl)) (λ seen.
         changes k (λ w. v) (λ w. world_with_seen site seen w) (λ w. refl) (λ w. refl)
         (λ w. record { extends = record { output = no_more w.output; seen = (_, refl) }; turns = omega arith }))
 
-    pub visited_longer : (sites : List ℕ) (v : Scalar) → Longer k (visited s sites v) (visited t sites v)
+    pub visited_longer : (sites : List ℕ) (v : Scalar) → Longer k (sites_visited s sites v) (sites_visited t sites v)
     visited_longer [] v = gives k v
     visited_longer (site ∷ more) v = seq k (observed_longer site v) (visited_longer more)
 
-    pub decided_longer : (token : ℕ) (v : Scalar) → Longer k (decided s token v) (decided t token v)
-    decided_longer token v = seq k (visited_longer (listed (s.sites.branch_at token)) v) truth_longer
+    pub decided_longer : (token : ℕ) (v : Scalar) → Longer k (visited_truth s token v) (visited_truth t token v)
+    decided_longer token v = seq k (visited_longer (site_list (s.sites.branch_at token)) v) truth_longer
 
     pub assigned_longer : (token : ℕ) (p v : Scalar) → Longer k (assigned_at s token p v) (assigned_at t token p v)
     assigned_longer token p v = seq k (store_longer p v) (visited_longer (s.sites.pairs_at token))
 
     pub changed_longer : (token : ℕ) (of : Option ValueType) (o : Operation) (p right : Scalar)
-        → Longer k (changed s token of o p right) (changed t token of o p right)
+        → Longer k (compound_result_stored s token of o p right) (compound_result_stored t token of o p right)
     changed_longer token of o p right =
         seq k (load_longer of p) (λ old. seq k (operate_longer o old right) (λ x.
         seq k (wanted_longer (conversion (type_given o of) of) x) (assigned_longer token p)))

@@ -9,9 +9,9 @@ use Rattle.cbi_base.specs.declared.scalar.Scalar.{Scalar}
 use Rattle.cbi_base.specs.declared.scalar.Scalar.TheVariants.{Number, Place, Null, Undefined}
 use Rattle.cbi_base.specs.declared.trap.Trap.TheVariants as trap
 use Rattle.c_syntax.specs.StatementTree.{EntryList}
-use Rattle.c_meaning.specs.Words.{all_defined, Signature, Source, behaves, call_at, enter_function, enter_with, first_world, gives_value, inside, left_function}
-use Rattle.c_meaning.specs.Words.{locals_at, locals_of, meaning, run_body, run_from, run_main, setting_of, status, value_left, source_of, World, Out, Go, Stop}
-use Rattle.c_meaning.specs.Words.{Flow, Next, Broken, Continued, Returned, Caller, bind, spend}
+use Rattle.c_meaning.specs.Words.{all_defined, Signature, Source, run_behaviour, call_at, enter_function, enter_with, first_world, gives_value, body_world, left_function}
+use Rattle.c_meaning.specs.Words.{locals_at, locals_of, meaning, run_body, run_from, run_main, setting_of, exit_behaviour, value_left, source_of, World, Out, Go, Stop}
+use Rattle.c_meaning.specs.Words.{Flow, Next, Broken, Continued, Returned, Caller, bind, one_turn_spent}
 use Rattle.c_meaning_laws.specs.Turns.{Begins, CutBegins, CutTextBegins, UncutStays, UncutTextStays}
 use Rattle.c_meaning_laws.proofs.Longer.{Extends, Grows, Longer, Matches, changes, cut, extends_itself, gives, grows_itself, left_in, longer, same_left, seq, spends, stops}
 use Rattle.c_meaning_laws.proofs.LongerPlaces.{by_state, stuck_longer}
@@ -52,9 +52,9 @@ module _ (k : ℕ) where
           → Longer k (λ w. enter_with src call n number f w objects) (λ w. enter_with src others m number f w objects)
       inside_longer number f None = stops k Flow (Trapped trap.StackOverflow)
       inside_longer number f (Some objects) =
-          by_state k (λ w. locals_at f w) (λ l w. run_body src call n f l (src.body number) (inside objects w))
-          (λ l w. run_body src others m f l (src.body number) (inside objects w)) (λ w. refl) (λ l.
-          seq k (changes k (λ w. tt {0}) (inside objects) (λ w. refl) (λ w. refl) (λ w. same_left w _ refl refl refl))
+          by_state k (λ w. locals_at f w) (λ l w. run_body src call n f l (src.body number) (body_world objects w))
+          (λ l w. run_body src others m f l (src.body number) (body_world objects w)) (λ w. refl) (λ l.
+          seq k (changes k (λ w. tt {0}) (body_world objects) (λ w. refl) (λ w. refl) (λ w. same_left w _ refl refl refl))
           (λ _. body_longer f l (src.body number)))
 
       room_longer : (number : ℕ) (f : Signature) (cells : List (List Scalar)) (b : Bool)
@@ -102,8 +102,8 @@ module _ (k : ℕ) where
 
       -- a call behind its turn
       next_longer : (number : ℕ) (vs : List Scalar)
-          → Longer k (λ w. spend w.turns w (λ u. bind (all_defined vs u) (λ xs _. passes call n number xs u)))
-          (λ w. spend w.turns w (λ u. bind (all_defined vs u) (λ xs _. passes others m number xs u)))
+          → Longer k (λ w. one_turn_spent w.turns w (λ u. bind (all_defined vs u) (λ xs _. passes call n number xs u)))
+          (λ w. one_turn_spent w.turns w (λ u. bind (all_defined vs u) (λ xs _. passes others m number xs u)))
       next_longer number vs = spends k (given_longer number (reverse vs) (list_all is_defined_value vs))
 
     -- a call only adds to what was written and seen: beside calls that are cut at once
@@ -135,7 +135,7 @@ module _ (k : ℕ) where
     main_longer input turns (Some objects) = from_longer input turns (each_made objects no_objects)
 
   -- what is seen of a run
-  status_same : (v : Scalar) (w : World) → status v (longer k w) ≡ status v w
+  status_same : (v : Scalar) (w : World) → exit_behaviour v (longer k w) ≡ exit_behaviour v w
   status_same (Number Char value) w = refl
   status_same (Number Int value) w = refl
   status_same (Number Unsigned value) w = refl
@@ -143,10 +143,10 @@ module _ (k : ℕ) where
   status_same Null w = refl
   status_same Undefined w = refl
 
-  uncut_same : (out other : Out Scalar) → Matches k out other → ((behaves out).outcome ≡ CutTurns → ⊥) → behaves other ≡ behaves out
-  uncut_same (Go v w) other h uncut = ap behaves h ∙ status_same v w
+  uncut_same : (out other : Out Scalar) → Matches k out other → ((run_behaviour out).outcome ≡ CutTurns → ⊥) → run_behaviour other ≡ run_behaviour out
+  uncut_same (Go v w) other h uncut = ap run_behaviour h ∙ status_same v w
   uncut_same (Stop CutTurns w) other h uncut = absurd (uncut refl)
-  uncut_same out other h uncut = ap behaves h
+  uncut_same out other h uncut = ap run_behaviour h
 
   onward : {A : Type 0} (other : Out A) (w u : World) → left_in other ≡ longer k u → Extends w u → Extends w (left_in other)
   onward other w u same h = subst (Extends w) (sym same) (record { output = h.output; seen = h.seen })
@@ -158,7 +158,7 @@ module _ (k : ℕ) where
   matches_extends (Stop (Ended v) w) other h = onward other w w (ap left_in h) (extends_itself w)
   matches_extends (Stop (Trapped trap) w) other h = onward other w w (ap left_in h) (extends_itself w)
 
-status_left : (v : Scalar) (w : World) → ((status v w).output ≡ w.output) × ((status v w).seen ≡ w.seen)
+status_left : (v : Scalar) (w : World) → ((exit_behaviour v w).output ≡ w.output) × ((exit_behaviour v w).seen ≡ w.seen)
 status_left (Number Char value) w = (refl, refl)
 status_left (Number Int value) w = (refl, refl)
 status_left (Number Unsigned value) w = (refl, refl)
@@ -166,11 +166,11 @@ status_left (Place number offset) w = (refl, refl)
 status_left Null w = (refl, refl)
 status_left Undefined w = (refl, refl)
 
-behaves_left : (out : Out Scalar) → ((behaves out).output ≡ (left_in out).output) × ((behaves out).seen ≡ (left_in out).seen)
+behaves_left : (out : Out Scalar) → ((run_behaviour out).output ≡ (left_in out).output) × ((run_behaviour out).seen ≡ (left_in out).seen)
 behaves_left (Go v w) = status_left v w
 behaves_left (Stop outcome w) = (refl, refl)
 
-extends_begins : (out other : Out Scalar) → Extends (left_in out) (left_in other) → Begins (behaves out) (behaves other)
+extends_begins : (out other : Out Scalar) → Extends (left_in out) (left_in other) → Begins (run_behaviour out) (run_behaviour other)
 extends_begins out other h = record {
   output = (h.output.0, (behaves_left other).0 ∙ h.output.1 ∙ ap (λ l. l ++ h.output.0) (sym (behaves_left out).0));
   seen = (h.seen.0, (behaves_left other).1 ∙ h.seen.1 ∙ ap (λ l. l ++ h.seen.0) (sym (behaves_left out).1));

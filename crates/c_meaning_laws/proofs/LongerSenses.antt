@@ -2,13 +2,13 @@
 use Rattle.std.proofs.Common.{ℕ, zero, suc, ◌==◌, Bool, true, false, pos, length, List, Option, Some, None, refl}
 use Rattle.std.specs.Prelude.{if◌then◌else◌, unsigned_abs, reverse}
 use Rattle.std.specs.List.{list_all}
-use Rattle.cbi_base.specs.Words.{pieces_of, allocated, released, applied_to_one, is_defined_value}
+use Rattle.cbi_base.specs.Words.{pieces_of, object_allocated, object_released, applied_to_one, is_defined_value}
 use Rattle.cbi_base.specs.declared.operators.Unary.{Unary}
 use Rattle.cbi_base.specs.declared.operators.Unary.TheVariants as unary
 use Rattle.cbi_base.specs.declared.outcome.Outcome.TheVariants.{Trapped, Ended}
-use Rattle.cbi_base.specs.declared.scalar.Kind.TheVariants.{Char, Int, Unsigned}
+use Rattle.cbi_base.specs.declared.scalar.Kind.TheVariants.{Int, Unsigned}
 use Rattle.cbi_base.specs.declared.scalar.Scalar.{Scalar}
-use Rattle.cbi_base.specs.declared.scalar.Scalar.TheVariants.{Number, Place, Null, Undefined}
+use Rattle.cbi_base.specs.declared.scalar.Scalar.TheVariants.{Number, Null, Undefined}
 use Rattle.cbi_base.specs.declared.trap.Trap.TheVariants as trap
 use Rattle.c_types_rules.specs.declared.library.Library.{Library}
 use Rattle.c_types_rules.specs.declared.library.Library.TheVariants as library
@@ -19,11 +19,11 @@ use Rattle.c_meaning.specs.declared.value_type.Called.{Called}
 use Rattle.c_meaning.specs.declared.value_type.Called.TheVariants as called
 use Rattle.c_meaning.specs.declared.value_type.ValueType.{ValueType}
 use Rattle.c_meaning.specs.declared.value_type.ValueType.TheVariants as type
-use Rattle.c_meaning.specs.Words.{Argument, Arguments, all_defined, allocate, as_type, assert, call_function, call_library, call_sense, exit, print_by, release}
-use Rattle.c_meaning.specs.Words.{returned, types_taken, with_result, as_used, conversion, Sense, arm_as, arm_effect, arm_value, as_flag, assign, cast, comma}
-use Rattle.c_meaning.specs.Words.{conditional, effected, handed_value, is_other_pointer, is_struct_value, linked, null_or, one_operand, placed, postfixed}
-use Rattle.c_meaning.specs.Words.{prefixed_sense, settled, size_value, spot, valued, wanted_value, Setting, Signature, flag_value, operation, pointed_place}
-use Rattle.c_meaning.specs.Words.{Assignment, Plain, By, Joint, Both, Either, Computes, Unjoined, has_value, listed, World, Out, Go, Stop, OutDone, Caller}
+use Rattle.c_meaning.specs.Words.{Argument, Arguments, all_defined, space_allocated, as_type, assert, call_function, call_library, call_sense, exit, print_by, space_released}
+use Rattle.c_meaning.specs.Words.{call_result_visited, types_taken, with_result, as_used, conversion, Sense, arm_as, arm_effect, arm_value, as_flag, assigned_value, cast_sense, comma_sense}
+use Rattle.c_meaning.specs.Words.{conditional, sense_of_effect, handed_value, is_other_pointer, is_struct_value, value_after_link, null_or, one_operand, sense_of_place, postfixed_sense}
+use Rattle.c_meaning.specs.Words.{prefixed_sense, loaded_operand, size_value, place_or_value, sense_of_value, wanted_value, Setting, Signature, flag_value, operation, pointed_place}
+use Rattle.c_meaning.specs.Words.{Assignment, Plain, By, Joint, Both, Either, Computes, Unjoined, has_value, site_list, World, Out, Go, Stop, OutDone, Caller}
 use Rattle.c_meaning.specs.Words.{bind}
 use Rattle.c_meaning_laws.proofs.Longer.{Longer, answers, changes, chosen, done_longer, gives, same_left, seq, stops}
 use Rattle.c_meaning_laws.proofs.LongerPlaces.{assigned_longer, changed_longer, decided_longer, handed_longer, load_longer, next_longer, nothing_longer, operate_longer}
@@ -36,13 +36,13 @@ module _ (k : ℕ) where
     pub place : Longer k m.place more.place
     pub effect : Longer k m.effect more.effect
 
-  pub valued_longer : {m more : World → Out Scalar} → Longer k m more → SenseLonger (valued m) (valued more)
+  pub valued_longer : {m more : World → Out Scalar} → Longer k m more → SenseLonger (sense_of_value m) (sense_of_value more)
   valued_longer h = record { value = h; place = stuck_longer k Scalar; effect = done_longer k h }
 
-  pub effected_longer : {m more : World → OutDone} → Longer k m more → SenseLonger (effected m) (effected more)
+  pub effected_longer : {m more : World → OutDone} → Longer k m more → SenseLonger (sense_of_effect m) (sense_of_effect more)
   effected_longer h = record { value = stuck_longer k Scalar; place = stuck_longer k Scalar; effect = h }
 
-  pub placed_longer : {m more : World → Out Scalar} (of : Option ValueType) → Longer k m more → SenseLonger (placed of m) (placed of more)
+  pub placed_longer : {m more : World → Out Scalar} (of : Option ValueType) → Longer k m more → SenseLonger (sense_of_place of m) (sense_of_place of more)
   placed_longer of h = record {
     value = seq k h (load_longer k of);
     place = h;
@@ -76,14 +76,14 @@ module _ (k : ℕ) where
   arm_effect_longer b have want m more h = done_longer k (arm_longer b have want m more h)
 
   cast_value : (b : Bool) (want : Option ValueType) (m more : Sense) → SenseLonger m more
-      → SenseLonger (valued (handed_value b want m)) (valued (handed_value b want more))
+      → SenseLonger (sense_of_value (handed_value b want m)) (sense_of_value (handed_value b want more))
   cast_value b want m more h = valued_longer (handed_value_longer b want m more h)
 
-  pub cast_longer : (b : Bool) (want : Option ValueType) (m more : Sense) → SenseLonger m more → SenseLonger (cast b want m) (cast b want more)
+  pub cast_longer : (b : Bool) (want : Option ValueType) (m more : Sense) → SenseLonger m more → SenseLonger (cast_sense b want m) (cast_sense b want more)
   cast_longer b (Some type.Void) m more h = effected_longer h.effect
   cast_longer b want m more h = cast_value b want m more h
 
-  pub comma_longer : (n : ℕ) (m more rest others : Sense) → SenseLonger m more → SenseLonger rest others → SenseLonger (comma n m rest) (comma n more others)
+  pub comma_longer : (n : ℕ) (m more rest others : Sense) → SenseLonger m more → SenseLonger rest others → SenseLonger (comma_sense n m rest) (comma_sense n more others)
   comma_longer zero m more rest others h j = h
   comma_longer (suc n) m more rest others h j = record {
     value = seq k h.effect (λ _. j.value);
@@ -94,15 +94,15 @@ module _ (k : ℕ) where
   flag_longer : {m more : World → Out Scalar} → Longer k m more → Longer k (as_flag m) (as_flag more)
   flag_longer h = seq k h (λ v. seq k (truth_longer k v) (λ holds. gives k (flag_value holds)))
 
-  pub settled_longer : (b : Bool) (of : Option ValueType) (v : Scalar) → Longer k (settled b of v) (settled b of v)
+  pub settled_longer : (b : Bool) (of : Option ValueType) (v : Scalar) → Longer k (loaded_operand b of v) (loaded_operand b of v)
   settled_longer true of v = load_longer k of v
   settled_longer false of v = gives k v
 
-  pub spot_longer : (b : Bool) (m more : Sense) → SenseLonger m more → Longer k (spot b m) (spot b more)
+  pub spot_longer : (b : Bool) (m more : Sense) → SenseLonger m more → Longer k (place_or_value b m) (place_or_value b more)
   spot_longer true m more h = h.place
   spot_longer false m more h = h.value
 
-  pub postfixed_longer : {m more : World → Out Scalar} (b : Bool) (of : Option ValueType) → Longer k m more → SenseLonger (postfixed b of m) (postfixed b of more)
+  pub postfixed_longer : {m more : World → Out Scalar} (b : Bool) (of : Option ValueType) → Longer k m more → SenseLonger (postfixed_sense b of m) (postfixed_sense b of more)
   postfixed_longer true of h = placed_longer of h
   postfixed_longer false of h = valued_longer h
 
@@ -111,19 +111,19 @@ module _ (k : ℕ) where
   size_longer (Some cells) = valued_longer (gives k (Number Unsigned (pos cells)))
 
   operand_longer : {m more : World → Out Scalar} (have want : Option ValueType) (o : Unary) → Longer k m more
-      → SenseLonger (valued (λ w. bind (m w) (one_operand have want o))) (valued (λ w. bind (more w) (one_operand have want o)))
+      → SenseLonger (sense_of_value (λ w. bind (m w) (one_operand have want o))) (sense_of_value (λ w. bind (more w) (one_operand have want o)))
   operand_longer have want o h = valued_longer (seq k h (λ v. seq k (wanted_longer k (conversion have want) v) (λ x. answers k (λ w. applied_to_one o x) (λ w. refl))))
 
   -- calls of the library
-  allocate_longer : (v : Scalar) → Longer k (allocate v) (allocate v)
+  allocate_longer : (v : Scalar) → Longer k (space_allocated v) (space_allocated v)
   allocate_longer Undefined = stops k Scalar (Trapped trap.Undefined)
   allocate_longer (Number Unsigned cells) =
-      changes k (λ w. (allocated (unsigned_abs cells) w.objects).0) (λ w. record w { objects = (allocated (unsigned_abs cells) w.objects).1 }) (λ w. refl)
+      changes k (λ w. (object_allocated (unsigned_abs cells) w.objects).0) (λ w. record w { objects = (object_allocated (unsigned_abs cells) w.objects).1 }) (λ w. refl)
       (λ w. refl) (λ w. same_left w _ refl refl refl)
   allocate_longer v = stuck_longer k Scalar
 
-  release_longer : (p : Scalar) → Longer k (release p) (release p)
-  release_longer p = seq k (answers k (λ w. released p w.objects) (λ w. refl)) (stores k)
+  release_longer : (p : Scalar) → Longer k (space_released p) (space_released p)
+  release_longer p = seq k (answers k (λ w. object_released p w.objects) (λ w. refl)) (stores k)
 
   exit_longer : (v : Scalar) → Longer k (exit v) (exit v)
   exit_longer Undefined = stops k (Unit {0}) (Trapped trap.Undefined)
@@ -154,14 +154,14 @@ module _ (k : ℕ) where
     t = record s { call = call }
 
     pub linked_longer : (j : Joint) (token : ℕ) (left right : Option ValueType) (m more : World → Out Scalar) (v : Scalar) → Longer k m more
-        → Longer k (linked s j token left right m v) (linked t j token left right more v)
+        → Longer k (value_after_link s j token left right m v) (value_after_link t j token left right more v)
     linked_longer Both token left right m more v h = seq k (decided_longer k s call token v) (λ b. chosen k b (flag_longer h) (gives k (flag_value false)))
     linked_longer Either token left right m more v h = seq k (decided_longer k s call token v) (λ b. chosen k b (gives k (flag_value true)) (flag_longer h))
     linked_longer (Computes o) token left right m more v h = seq k h (λ x. operate_longer k (operation o left right) v x)
     linked_longer Unjoined token left right m more v h = stuck_longer k Scalar
 
     pub assign_longer : (token : ℕ) (a : Assignment) (b : Bool) (left right : Option ValueType) (goal goals m more : Sense) → SenseLonger goal goals
-        → SenseLonger m more → Longer k (assign s token a b left right goal m) (assign t token a b left right goals more)
+        → SenseLonger m more → Longer k (assigned_value s token a b left right goal m) (assigned_value t token a b left right goals more)
     assign_longer token Plain b left right goal goals m more h j =
         seq k h.place (λ p. seq k (wanted_value_longer b right left m more j) (assigned_longer k s call token p))
     assign_longer token (By o) b left right goal goals m more h j =
@@ -188,8 +188,8 @@ module _ (k : ℕ) where
     prefixed_longer token prefix.Not of cells m more h = valued_longer (seq k h.value (λ v. answers k (λ w. applied_to_one unary.Not v) (λ w. refl)))
     prefixed_longer token prefix.SizeOf of cells m more h = size_longer cells
 
-    returned_longer : (token : ℕ) {m more : World → Out Scalar} → Longer k m more → SenseLonger (returned s token m) (returned t token more)
-    returned_longer token h = valued_longer (seq k h (visited_longer k s call (listed (s.sites.return_at token))))
+    returned_longer : (token : ℕ) {m more : World → Out Scalar} → Longer k m more → SenseLonger (call_result_visited s token m) (call_result_visited t token more)
+    returned_longer token h = valued_longer (seq k h (visited_longer k s call (site_list (s.sites.return_at token))))
 
     result_longer : (token : ℕ) (b : Bool) {m more : World → Out Scalar} → Longer k m more → SenseLonger (with_result s token b m) (with_result t token b more)
     result_longer token true h = returned_longer token h

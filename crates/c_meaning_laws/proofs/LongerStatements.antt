@@ -1,19 +1,19 @@
 -- Declarations and statements, where more turns are left.
 use Rattle.std.proofs.Common.{ℕ, zero, suc, ◌≤◌, Bool, true, List, [], ◌∷◌, Option, Some, None, refl, arith}
-use Rattle.cbi_base.specs.Words.{zero_value, filled, cleared, stored_bytes}
+use Rattle.cbi_base.specs.Words.{zero_value, object_filled, object_made_undefined, stored_bytes}
 use Rattle.cbi_base.specs.declared.outcome.Outcome.TheVariants.{CutTurns}
 use Rattle.cbi_base.specs.declared.scalar.Scalar.{Scalar}
 use Rattle.cbi_base.specs.declared.scalar.Want.{Want}
 use Rattle.c_syntax.specs.ExprTree as e
-use Rattle.c_syntax.specs.Words.{ExprTree, ExprList, InitialTree, StartTree, DeclarationTree, ForStartTree, StatementTree, EntryList}
+use Rattle.c_syntax.specs.Words.{ExprTree, ExprList, InitialTree, StartTree, ForStartTree, StatementTree, EntryList}
 use Rattle.c_syntax.specs.StatementTree as tree
 use Rattle.flow.specs.declared.program.Text.{Text}
 use Rattle.c_meaning.specs.declared.value_type.ValueType.{ValueType}
 use Rattle.c_meaning.specs.declared.value_type.ValueType.TheVariants as type
-use Rattle.c_meaning.specs.Words.{is_null_as, Setting, all_started, clear, element_set, elements_set, equals_token, initialised, object_of, on_local, on_object}
-use Rattle.c_meaning.specs.Words.{scalar_set, spell, value_set, want_of, zeroed, condition, expr, text_of_string, after_body, after_entry, do_round, exec}
-use Rattle.c_meaning.specs.Words.{exec_all, for_round, for_started, optional_condition, optional_effect, returned_value, rounds, while_round, type_of, World}
-use Rattle.c_meaning.specs.Words.{Out, Stop, OutDone, Flow, Next, Broken, Continued, Returned, Caller, spend}
+use Rattle.c_meaning.specs.Words.{is_null_as, Setting, all_started, variable_cleared, element_set, elements_set, equals_token, variable_initialised, object_of, on_local, on_object}
+use Rattle.c_meaning.specs.Words.{scalar_set, string_stored, value_set, want_of, array_zeroed, condition, expr, text_of_string, after_body, after_entry, do_round, exec}
+use Rattle.c_meaning.specs.Words.{exec_all, for_round, for_started, optional_condition, optional_effect, returned_value, loop_rounds, while_round, type_of, World}
+use Rattle.c_meaning.specs.Words.{Out, Stop, OutDone, Flow, Next, Broken, Continued, Returned, Caller, one_turn_spent}
 use Rattle.c_meaning_laws.proofs.Longer.{Longer, answers, changes, chosen, cut, done_longer, gives, grown_spend, same_left, seq, spends, stops}
 use Rattle.c_meaning_laws.proofs.LongerPlaces.{assigned_longer, member_longer, store_longer, stores, stuck_longer, variable_longer}
 use Rattle.c_meaning_laws.proofs.LongerSenses.{wanted_value_longer}
@@ -24,16 +24,16 @@ module _ (k : ℕ) where
   on_longer None h = stuck_longer k (Unit {0})
   on_longer (Some number) h = record { grows = (h number).grows; same = (h number).same }
 
-  clear_longer : (number : ℕ) → Longer k (clear number) (clear number)
-  clear_longer number = changes k (λ w. tt {0}) (λ w. record w { objects = cleared number w.objects }) (λ w. refl) (λ w. refl)
+  clear_longer : (number : ℕ) → Longer k (variable_cleared number) (variable_cleared number)
+  clear_longer number = changes k (λ w. tt {0}) (λ w. record w { objects = object_made_undefined number w.objects }) (λ w. refl) (λ w. refl)
       (λ w. same_left w _ refl refl refl)
 
-  zeroed_longer : (wanted : Option Want) (number : ℕ) → Longer k (zeroed wanted number) (zeroed wanted number)
+  zeroed_longer : (wanted : Option Want) (number : ℕ) → Longer k (array_zeroed wanted number) (array_zeroed wanted number)
   zeroed_longer None number = stuck_longer k (Unit {0})
-  zeroed_longer (Some wanted) number = changes k (λ w. tt {0}) (λ w. record w { objects = filled number (zero_value wanted) w.objects }) (λ w. refl) (λ w. refl)
+  zeroed_longer (Some wanted) number = changes k (λ w. tt {0}) (λ w. record w { objects = object_filled number (zero_value wanted) w.objects }) (λ w. refl) (λ w. refl)
       (λ w. same_left w _ refl refl refl)
 
-  spell_longer : (text : Option Text) (number : ℕ) → Longer k (spell text number) (spell text number)
+  spell_longer : (text : Option Text) (number : ℕ) → Longer k (string_stored text number) (string_stored text number)
   spell_longer None number = stuck_longer k (Unit {0})
   spell_longer (Some text) number = seq k (answers k (λ w. stored_bytes number 0 text.bytes w.objects) (λ w. refl)) (stores k)
 
@@ -65,24 +65,24 @@ module _ (k : ℕ) where
   for_longer h j i again others more = while_longer h j _ _ (seq k i (λ _. more))
 
   -- the only round where no turn may be spent
-  first_round : (m : ℕ) (round other : (World → Out Flow) → World → Out Flow) → RoundLonger round other → Longer k (round (Stop CutTurns)) (rounds m other)
+  first_round : (m : ℕ) (round other : (World → Out Flow) → World → Out Flow) → RoundLonger round other → Longer k (round (Stop CutTurns)) (loop_rounds m other)
   first_round zero round other h =
       let only : Longer k (round (Stop CutTurns)) (other (Stop CutTurns)) = h (Stop CutTurns) (Stop CutTurns) (stops k Flow CutTurns) in
       record { grows = only.grows; same = only.same }
   first_round (suc m) round other h =
-      let next : Longer k (round (Stop CutTurns)) (other (λ u. spend u.turns u (rounds m other))) = h (Stop CutTurns) (λ u. spend u.turns u (rounds m other))
-      (cut k (λ u. spend u.turns u (rounds m other)) (λ u. grown_spend k u.turns u (rounds m other) (first_round m round other h).grows (omega arith))) in
+      let next : Longer k (round (Stop CutTurns)) (other (λ u. one_turn_spent u.turns u (loop_rounds m other))) = h (Stop CutTurns) (λ u. one_turn_spent u.turns u (loop_rounds m other))
+      (cut k (λ u. one_turn_spent u.turns u (loop_rounds m other)) (λ u. grown_spend k u.turns u (loop_rounds m other) (first_round m round other h).grows (omega arith))) in
       record { grows = next.grows; same = next.same }
 
   pub rounds_longer : (n m : ℕ) (round other : (World → Out Flow) → World → Out Flow) → n ≤ m → RoundLonger round other
-      → Longer k (rounds n round) (rounds m other)
+      → Longer k (loop_rounds n round) (loop_rounds m other)
   rounds_longer zero m round other le h =
-      let first : Longer k (round (Stop CutTurns)) (rounds m other) = first_round m round other h in record { grows = first.grows; same = first.same }
+      let first : Longer k (round (Stop CutTurns)) (loop_rounds m other) = first_round m round other h in record { grows = first.grows; same = first.same }
   rounds_longer (suc n) zero round other le h = absurd (omega (arith, le))
   rounds_longer (suc n) (suc m) round other le h =
-      let rest : Longer k (rounds n round) (rounds m other) = rounds_longer n m round other (omega (arith, le)) h in
-      let next : Longer k (round (λ u. spend u.turns u (rounds n round))) (other (λ u. spend u.turns u (rounds m other))) =
-      h (λ u. spend u.turns u (rounds n round)) (λ u. spend u.turns u (rounds m other)) (spends k rest) in
+      let rest : Longer k (loop_rounds n round) (loop_rounds m other) = rounds_longer n m round other (omega (arith, le)) h in
+      let next : Longer k (round (λ u. one_turn_spent u.turns u (loop_rounds n round))) (other (λ u. one_turn_spent u.turns u (loop_rounds m other))) =
+      h (λ u. one_turn_spent u.turns u (loop_rounds n round)) (λ u. one_turn_spent u.turns u (loop_rounds m other)) (spends k rest) in
       record { grows = next.grows; same = next.same }
 
   module _ (s : Setting) (call : Caller) (calls : (number : ℕ) (vs : List Scalar) → Longer k (s.call number vs) (call number vs)) where
@@ -113,7 +113,7 @@ module _ (k : ℕ) where
         seq k (local_longer token (zeroed_longer (want_of (s.facts.element_at token)))) (λ _. local_longer token (spell_longer (text_of_string s.facts x)))
     value_longer token of x = scalar_longer token x
 
-    initialised_longer : (token : ℕ) (i : Option InitialTree) → Longer k (initialised s token i) (initialised t token i)
+    initialised_longer : (token : ℕ) (i : Option InitialTree) → Longer k (variable_initialised s token i) (variable_initialised t token i)
     initialised_longer token None = gives k tt
     initialised_longer token (Some (tree.Value x)) = value_longer token (s.facts.declared_at token) x
     initialised_longer token (Some (tree.Braced at items comma)) =

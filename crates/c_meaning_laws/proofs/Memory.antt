@@ -1,13 +1,10 @@
 -- Objects: what is loaded has the type that was wanted, what was stored is there, and no place that is one comes to trap Internal.
-use Rattle.std.proofs.Common.{◌≡◌, ℕ, refl, ap, ◌∙◌, arith, List, [], ◌∷◌, Some, None, ◌+◌, Ok, Err, Bool, true, false, length, cond}
-use Rattle.std.proofs.lemmas.Bool.Decides.{nat_tests}
+use Rattle.std.proofs.Common.{◌≡◌, ℕ, refl, ap, ◌∙◌, List, [], ◌∷◌, Some, None, ◌+◌, Ok, Err, Bool, true, false, length, cond}
 use Rattle.std.specs.Prelude.{Option, ℤ, pos, slice_get, slice_set, nat_lt, if◌then◌else◌, unsigned_abs, ◌+ℤ◌, ◌*ℤ◌, int_le, ◌&&◌, ◌==◌, replicate}
 use Rattle.std.proofs.lemmas.Cmp.{nat_cmp_total}
-use Rattle.std.specs.Cmp.{unsigned_tied}
 use Rattle.std.specs.FinMap.{get, insert, get-insert}
-use Rattle.std.specs.Ordering.{nat_cmp, eq_by_cmp}
-use Rattle.cbi_base.specs.Words.{char_of, Objects, Object, loaded, stored, found_cell, live_or, set_in, moved, moved_by, stored_bytes, moved_in, with_object}
-use Rattle.cbi_base.specs.Words.{is_text, allocated, place_or_null, made_with, released, is_heap_start, killed}
+use Rattle.cbi_base.specs.Words.{char_of, Objects, Object, loaded_value, value_stored, found_cell, live_or, set_in, moved_pointer, moved_by, stored_bytes, moved_in, with_object}
+use Rattle.cbi_base.specs.Words.{is_text, object_allocated, place_or_null, made_with, object_released, is_heap_start, object_killed}
 use Rattle.base_lists.proofs.Numbers.{key_itself}
 use Rattle.cbi_base.specs.declared.trap.Trap.TheVariants as trap
 use Rattle.cbi_base.specs.declared.scalar.Class.TheVariants.{Heap}
@@ -55,8 +52,8 @@ live_calm None = tt
 live_calm (Some object) = tt
 
 loaded_calm : (t : ValueType) (w : Want) (p : Scalar) (o : Objects) → IsAt p → ((c : Option Scalar) → Calm (Fits (Some t)) (found_cell w c))
-    → Calm (Fits (Some t)) (loaded w p o)
-unfolding loaded
+    → Calm (Fits (Some t)) (loaded_value w p o)
+unfolding loaded_value
 loaded_calm t w (Place a i) o h f =
     calm_bind Any (Fits (Some t)) (live_or (get o.live a)) (λ object. found_cell w (slice_get object.cells i)) (live_calm (get o.live a))
     (λ object _. f (slice_get object.cells i))
@@ -64,10 +61,10 @@ loaded_calm t w p o h f = absurd h
 
 pub load_safe : (t : Option ValueType) (p : Scalar) → IsValue t → IsAt p → Safe (Fits t) (load_at t p) (load_at t p)
 load_safe (Some (type.Number kind)) p h a =
-    answers (λ w. loaded (want.Number kind) p w.objects) (λ w. refl) (λ w. loaded_calm (type.Number kind) (want.Number kind) p w.objects a
+    answers (λ w. loaded_value (want.Number kind) p w.objects) (λ w. refl) (λ w. loaded_calm (type.Number kind) (want.Number kind) p w.objects a
     (found_number kind))
 load_safe (Some (type.Pointer size)) p h a =
-    answers (λ w. loaded want.Pointer p w.objects) (λ w. refl) (λ w. loaded_calm (type.Pointer size) want.Pointer p w.objects a (found_pointer size))
+    answers (λ w. loaded_value want.Pointer p w.objects) (λ w. refl) (λ w. loaded_calm (type.Pointer size) want.Pointer p w.objects a (found_pointer size))
 load_safe (Some (type.Array size)) (Place a i) h k = gives (Place a i) tt
 load_safe (Some (type.Array size)) Undefined h k = absurd k
 load_safe (Some (type.Array size)) Null h k = absurd k
@@ -102,8 +99,8 @@ set_any number offset v o object =
     (calm_if Any (is_text object.class) (Err trap.ReadOnly) (Ok (with_object o number set)) tt tt) tt
 
 -- what is stored in a variable is there
-stored_number : (number : ℕ) (kind : Kind) (v : Scalar) (o : Objects) → Fits (Some (type.Number kind)) v → Calm (Holds number) (stored (Place number 0) v o)
-unfolding stored
+stored_number : (number : ℕ) (kind : Kind) (v : Scalar) (o : Objects) → Fits (Some (type.Number kind)) v → Calm (Holds number) (value_stored (Place number 0) v o)
+unfolding value_stored
 stored_number number kind Undefined o h = tt
 stored_number number kind (Number k n) o h = calm_bind Any (Holds number) (live_or (get o.live number)) (set_in number 0 (Number k n) o)
     (live_calm (get o.live number))
@@ -111,15 +108,15 @@ stored_number number kind (Number k n) o h = calm_bind Any (Holds number) (live_
 stored_number number kind Null o h = absurd h
 stored_number number kind (Place a i) o h = absurd h
 
-pub stored_holds : (t : Option ValueType) (number : ℕ) (v : Scalar) (o : Objects) → IsNumberType t → Fits t v → Calm (Holds number) (stored (Place number 0) v o)
+pub stored_holds : (t : Option ValueType) (number : ℕ) (v : Scalar) (o : Objects) → IsNumberType t → Fits t v → Calm (Holds number) (value_stored (Place number 0) v o)
 stored_holds (Some (type.Number kind)) number v o h f = stored_number number kind v o f
 stored_holds t number v o h f = absurd h
 
 set_at : (a i : ℕ) (v : Scalar) (o : Objects) → Calm Any (live_or (get o.live a) >>= set_in a i v o)
 set_at a i v o = calm_bind Any Any (live_or (get o.live a)) (set_in a i v o) (live_calm (get o.live a)) (λ object _. set_any a i v o object)
 
-pub stored_calm : (p v : Scalar) (o : Objects) → IsAt p → Calm Any (stored p v o)
-unfolding stored
+pub stored_calm : (p v : Scalar) (o : Objects) → IsAt p → Calm Any (value_stored p v o)
+unfolding value_stored
 stored_calm (Place a i) Undefined o h = tt
 stored_calm (Place a i) (Number k n) o h = set_at a i (Number k n) o
 stored_calm (Place a i) Null o h = set_at a i Null o
@@ -128,12 +125,12 @@ stored_calm p v o h = absurd h
 
 pub spelled_calm : (number offset : ℕ) (bytes : List ℕ) (o : Objects) → Calm Any (stored_bytes number offset bytes o)
 spelled_calm number offset [] o = tt
-spelled_calm number offset (byte ∷ bytes) o = calm_bind Any Any (stored (Place number offset) (char_of byte) o) (stored_bytes number (offset + 1) bytes)
+spelled_calm number offset (byte ∷ bytes) o = calm_bind Any Any (value_stored (Place number offset) (char_of byte) o) (stored_bytes number (offset + 1) bytes)
     (stored_calm (Place number offset) (char_of byte) o tt) (λ more _. spelled_calm number (offset + 1) bytes more)
 
 -- pointers that are moved and used
-pub moved_calm : (t : Option ValueType) (p : Scalar) (cells : ℤ) (o : Objects) → IsPointing t → Fits t p → Calm IsAt (moved p cells o)
-unfolding moved
+pub moved_calm : (t : Option ValueType) (p : Scalar) (cells : ℤ) (o : Objects) → IsPointing t → Fits t p → Calm IsAt (moved_pointer p cells o)
+unfolding moved_pointer
 moved_calm t Undefined cells o h f = tt
 moved_calm t Null cells o h f = tt
 moved_calm t (Place a i) cells o h f =
@@ -144,7 +141,7 @@ moved_calm (Some (type.Pointer size)) (Number k n) cells o h f = absurd f
 moved_calm (Some (type.Array size)) (Number k n) cells o h f = absurd f
 moved_calm t (Number k n) cells o h f = absurd h
 
-pub moved_at : (p : Scalar) (cells : ℤ) (o : Objects) → IsAt p → Calm IsAt (moved p cells o)
+pub moved_at : (p : Scalar) (cells : ℤ) (o : Objects) → IsAt p → Calm IsAt (moved_pointer p cells o)
 moved_at (Place a i) cells o h = moved_calm (Some (type.Array 0)) (Place a i) cells o tt tt
 moved_at p cells o h = absurd h
 
@@ -173,19 +170,19 @@ made_fits (Some (type.Pointer size)) number o None h = tt
 made_fits (Some (type.Pointer size)) number o (Some objects) h = tt
 made_fits t number o made h = absurd h
 
-pub allocated_fits : (t : Option ValueType) (cells : ℕ) (o : Objects) → IsPointer t → Fits t (allocated cells o).0
-unfolding allocated
+pub allocated_fits : (t : Option ValueType) (cells : ℕ) (o : Objects) → IsPointer t → Fits t (object_allocated cells o).0
+unfolding object_allocated
 allocated_fits t cells o h = either (cells == 0)
   where
     either : (b : Bool) → Fits t (if b then (Null, o) else place_or_null o.made o (made_with Heap (replicate cells Undefined) o)).0
     either true = made_fits t 0 o None h
     either false = made_fits t o.made o (made_with Heap (replicate cells Undefined) o) h
 
-pub released_calm : (t : Option ValueType) (p : Scalar) (o : Objects) → IsPointing t → Fits t p → Calm Any (released p o)
-unfolding released
+pub released_calm : (t : Option ValueType) (p : Scalar) (o : Objects) → IsPointing t → Fits t p → Calm Any (object_released p o)
+unfolding object_released
 released_calm t Undefined o h f = tt
 released_calm t Null o h f = tt
-released_calm t (Place a i) o h f = calm_if Any (is_heap_start i (get o.live a)) (Ok (killed a o)) (Err trap.BadFree) tt tt
+released_calm t (Place a i) o h f = calm_if Any (is_heap_start i (get o.live a)) (Ok (object_killed a o)) (Err trap.BadFree) tt tt
 released_calm (Some (type.Pointer size)) (Number k n) o h f = absurd f
 released_calm (Some (type.Array size)) (Number k n) o h f = absurd f
 released_calm t (Number k n) o h f = absurd h

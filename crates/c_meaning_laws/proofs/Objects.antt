@@ -1,23 +1,21 @@
 -- What a load finds in an object that was just put, or whose cells were all set, and what is found at other numbers.
-use Rattle.std.proofs.Common.{◌≡◌, ℕ, zero, suc, ◌<◌, ◌==◌, Bool, true, false, cond, List, [], ◌∷◌, length, Option, Some, None, Result}
+use Rattle.std.proofs.Common.{◌≡◌, ℕ, zero, suc, ◌<◌, ◌==◌, cond, List, [], ◌∷◌, length, Option, Some, None, Result}
 use Rattle.std.proofs.Common.{refl, ap, ◌∙◌, option_map, slice_get, slice_set, arith, rules}
-use Rattle.std.proofs.lemmas.Bool.Decides.{nat_tests}
-use Rattle.std.specs.Cmp.{nat_cmp_total, unsigned_tied}
+use Rattle.std.specs.Cmp.{nat_cmp_total}
 use Rattle.std.specs.FinMap.{get, gets, insert, remove, get-insert, get-remove}
-use Rattle.std.specs.Ordering.{eq_by_cmp, nat_cmp}
 use Rattle.base_lists.proofs.Numbers.{key_apart, key_itself}
 use Rattle.cbi_base.specs.declared.scalar.Scalar.{Scalar}
 use Rattle.cbi_base.specs.declared.scalar.Scalar.TheVariants.{Place}
 use Rattle.cbi_base.specs.declared.scalar.Want.{Want}
 use Rattle.cbi_base.specs.declared.trap.Trap.{Trap}
-use Rattle.cbi_base.specs.Objects.{Object, Objects, found_cell, live_or, loaded, with_object, ◌>>=◌}
+use Rattle.cbi_base.specs.Objects.{Object, Objects, found_cell, live_or, loaded_value, with_object, ◌>>=◌}
 
 -- a load from what is found at an object's number
 abbrev pub load_in : Want → ℕ → Option Object → Result Scalar Trap
 load_in wanted place o = live_or o >>= λ object. found_cell wanted (slice_get object.cells place)
 
-pub load_found : (wanted : Want) (number place : ℕ) (o : Objects) → loaded wanted (Place number place) o ≡ load_in wanted place (get o.live number)
-unfolding loaded
+pub load_found : (wanted : Want) (number place : ℕ) (o : Objects) → loaded_value wanted (Place number place) o ≡ load_in wanted place (get o.live number)
+unfolding loaded_value
 load_found wanted number place o = refl
 
 pub put_found : (o : Objects) (number : ℕ) (object : Object) → get (with_object o number object).live number ≡ Some object

@@ -11,14 +11,14 @@ use Rattle.cbi_base.specs.declared.scalar.Scalar.{Scalar}
 use Rattle.cbi_base.specs.declared.scalar.Scalar.TheVariants.{Number, Place, Null, Undefined}
 use Rattle.cbi_base.specs.declared.operators.Binary.{Binary}
 use Rattle.cbi_base.specs.declared.operators.Order.{Order}
-use Rattle.cbi_base.specs.declared.operators.Order.TheVariants.{Lt, Le, Gt, Ge, Eq, Ne}
-use Rattle.cbi_base.specs.Words.{kind_given, Objects, compared, difference, elements, in_order, live_or, of_pointers, same_place, within_one, moved_by, applied}
+use Rattle.cbi_base.specs.declared.operators.Order.TheVariants.{Eq, Ne}
+use Rattle.cbi_base.specs.Words.{kind_given, Objects, pointer_comparison, pointer_difference, elements_between, in_order, live_or, of_pointers, same_place, within_one, moved_by, operator_applied}
 use Rattle.cbi_base.specs.Objects.{◌>>=◌}
 use Rattle.c_meaning.specs.declared.operation.Operation.{Operation}
 use Rattle.c_meaning.specs.declared.operation.Operation.TheVariants.{Numbers, MoveLeft, MoveRight, Span, Ordered, Wrong}
 use Rattle.c_meaning.specs.declared.value_type.ValueType.{ValueType}
 use Rattle.c_meaning.specs.declared.value_type.ValueType.TheVariants as type
-use Rattle.c_meaning.specs.Words.{between, converts, counted_value, flagged, left_kind, operate, right_kind, answered}
+use Rattle.c_meaning.specs.Words.{kind_conversion, conversion_result, counted_value, flagged_value, left_kind, operation_result, right_kind, answer_or_trap}
 use Rattle.c_meaning_laws.specs.Rules.{IsPointing, IsValue, Moves, Operates}
 use Rattle.c_meaning_laws.proofs.Safe.{Any, Calm, Safe, answers, calm_bind, calm_if, calm_map}
 use Rattle.c_meaning_laws.proofs.Values.{Fits, IsAt, applied_calm, at_fits, between_calm, number_value, pointing_value, takes_converted}
@@ -67,19 +67,19 @@ ordered_calm : (order : Order) (x y : Scalar) (o : Objects) → IsReference x �
 ordered_calm order x y o h k =
     pointers_calm Any x y (within_one x y o (λ i j. Ok (in_order order i j))) h k (within_calm Any x y o (λ i j. Ok (in_order order i j)) (λ i j. tt))
 
-compared_calm : (order : Order) (x y : Scalar) (o : Objects) → IsReference x → IsReference y → Calm Any (compared order x y o)
-unfolding compared
+compared_calm : (order : Order) (x y : Scalar) (o : Objects) → IsReference x → IsReference y → Calm Any (pointer_comparison order x y o)
+unfolding pointer_comparison
 compared_calm Eq x y o h k = pointers_calm Any x y (Ok (same_place x y)) h k tt
 compared_calm Ne x y o h k = pointers_calm Any x y (Ok (not (same_place x y))) h k tt
 compared_calm order x y o h k = ordered_calm order x y o h k
 
-difference_calm : (x y : Scalar) (size : ℕ) (o : Objects) → IsReference x → IsReference y → Calm Any (difference x y size o)
-unfolding difference
+difference_calm : (x y : Scalar) (size : ℕ) (o : Objects) → IsReference x → IsReference y → Calm Any (pointer_difference x y size o)
+unfolding pointer_difference
 difference_calm x y size o h k =
-    pointers_calm Any x y (within_one x y o (λ i j. elements size (pos i -ℤ pos j))) h k (within_calm Any x y o (λ i j. elements size (pos i -ℤ pos j))
+    pointers_calm Any x y (within_one x y o (λ i j. elements_between size (pos i -ℤ pos j))) h k (within_calm Any x y o (λ i j. elements_between size (pos i -ℤ pos j))
     (λ i j. calm_if Any (int_eq (int_rem (pos i -ℤ pos j) (pos size)) (pos 0)) (Ok (int_div (pos i -ℤ pos j) (pos size))) (Err trap.Bounds) tt tt))
 
-flagged_calm : (r : Result Bool Trap) → Calm Any r → Calm (Fits (Some (type.Number Int))) (flagged r)
+flagged_calm : (r : Result Bool Trap) → Calm Any r → Calm (Fits (Some (type.Number Int))) (flagged_value r)
 flagged_calm (Ok b) h = refl
 flagged_calm (Err t) h = h
 
@@ -88,45 +88,45 @@ counted_calm (Ok n) h = refl
 counted_calm (Err t) h = h
 
 numbers_calm : (o : Binary) (l r : Kind) (x y : Scalar) → Fits (Some (type.Number l)) x → Fits (Some (type.Number r)) y
-    → Calm (Fits (Some (type.Number (kind_given o (left_kind o l r))))) (converts (between l (left_kind o l r)) x >>= λ a. converts
-    (between r (right_kind o l r)) y >>= λ b. applied o a b)
+    → Calm (Fits (Some (type.Number (kind_given o (left_kind o l r))))) (conversion_result (kind_conversion l (left_kind o l r)) x >>= λ a. conversion_result
+    (kind_conversion r (right_kind o l r)) y >>= λ b. operator_applied o a b)
 numbers_calm o l r x y f g =
     calm_bind (Fits (Some (type.Number (left_kind o l r)))) (Fits (Some (type.Number (kind_given o (left_kind o l r)))))
-    (converts (between l (left_kind o l r)) x)
-    (λ a. converts (between r (right_kind o l r)) y >>= λ b. applied o a b) (between_calm l (left_kind o l r) x f) (λ a p.
+    (conversion_result (kind_conversion l (left_kind o l r)) x)
+    (λ a. conversion_result (kind_conversion r (right_kind o l r)) y >>= λ b. operator_applied o a b) (between_calm l (left_kind o l r) x f) (λ a p.
     calm_bind (Fits (Some (type.Number (right_kind o l r)))) (Fits (Some (type.Number (kind_given o (left_kind o l r)))))
-    (converts (between r (right_kind o l r)) y)
-    (λ b. applied o a b) (between_calm r (right_kind o l r) y g) (λ b q. applied_calm o (left_kind o l r) (right_kind o l r) a b (takes_converted o l r) p q))
+    (conversion_result (kind_conversion r (right_kind o l r)) y)
+    (λ b. operator_applied o a b) (between_calm r (right_kind o l r) y g) (λ b q. applied_calm o (left_kind o l r) (right_kind o l r) a b (takes_converted o l r) p q))
 
 pub operate_calm : (o : Operation) (left right t : Option ValueType) (x y : Scalar) (objects : Objects) → Operates o left right t → Fits left x → Fits right y
-    → Calm (Fits t) (operate o x y objects)
-unfolding operate
+    → Calm (Fits t) (operation_result o x y objects)
+unfolding operation_result
 operate_calm (Numbers o l r) left right t x y objects h f g = rw h.2 (numbers_calm o l r x y (subst (λ a. Fits a x) h.0 f) (subst (λ a. Fits a y) h.1 g))
 operate_calm (MoveLeft size) left right t x y objects h f g =
     calm_map IsAt (Fits t) (moved_by size x y objects) (λ v. at_fits t v h.2) (moved_by_calm size left right x y objects h.0 h.1 f g)
 operate_calm (MoveRight size) left right t x y objects h f g =
     calm_map IsAt (Fits t) (moved_by size y x objects) (λ v. at_fits t v h.2) (moved_by_calm size right left y x objects h.1 h.0 g f)
 operate_calm (Span size) left right t x y objects h f g =
-    rw h.2 (counted_calm (difference x y size objects) (difference_calm x y size objects (pointer_reference left x h.0 f) (pointer_reference right y h.1 g)))
+    rw h.2 (counted_calm (pointer_difference x y size objects) (difference_calm x y size objects (pointer_reference left x h.0 f) (pointer_reference right y h.1 g)))
 operate_calm (Ordered o) left right t x y objects h f g =
-    rw h.2 (flagged_calm (compared o x y objects) (compared_calm o x y objects (pointer_reference left x h.0 f) (pointer_reference right y h.1 g)))
+    rw h.2 (flagged_calm (pointer_comparison o x y objects) (compared_calm o x y objects (pointer_reference left x h.0 f) (pointer_reference right y h.1 g)))
 operate_calm Wrong left right t x y objects h f g = absurd h
 
 pub operate_safe : (o : Operation) (left right t : Option ValueType) (x y : Scalar) → Operates o left right t → Fits left x → Fits right y
-    → Safe (Fits t) (λ w. answered (operate o x y w.objects) w) (λ w. answered (operate o x y w.objects) w)
-operate_safe o left right t x y h f g = answers (λ w. operate o x y w.objects) (λ w. refl) (λ w. operate_calm o left right t x y w.objects h f g)
+    → Safe (Fits t) (λ w. answer_or_trap (operation_result o x y w.objects) w) (λ w. answer_or_trap (operation_result o x y w.objects) w)
+operate_safe o left right t x y h f g = answers (λ w. operation_result o x y w.objects) (λ w. refl) (λ w. operate_calm o left right t x y w.objects h f g)
 
 -- a moved pointer is a place
 moves_calm : (o : Operation) (left right : Option ValueType) (x y : Scalar) (objects : Objects) → Moves o left right → Fits left x → Fits right y
-    → Calm IsAt (operate o x y objects)
-unfolding operate
+    → Calm IsAt (operation_result o x y objects)
+unfolding operation_result
 moves_calm (MoveLeft size) left right x y objects h f g = moved_by_calm size left right x y objects h.0 h.1 f g
 moves_calm (MoveRight size) left right x y objects h f g = moved_by_calm size right left y x objects h.1 h.0 g f
 moves_calm o left right x y objects h f g = absurd h
 
 pub moves_safe : (o : Operation) (left right : Option ValueType) (x y : Scalar) → Moves o left right → Fits left x → Fits right y
-    → Safe IsAt (λ w. answered (operate o x y w.objects) w) (λ w. answered (operate o x y w.objects) w)
-moves_safe o left right x y h f g = answers (λ w. operate o x y w.objects) (λ w. refl) (λ w. moves_calm o left right x y w.objects h f g)
+    → Safe IsAt (λ w. answer_or_trap (operation_result o x y w.objects) w) (λ w. answer_or_trap (operation_result o x y w.objects) w)
+moves_safe o left right x y h f g = answers (λ w. operation_result o x y w.objects) (λ w. refl) (λ w. moves_calm o left right x y w.objects h f g)
 
 pub moves_values : (o : Operation) (left right : Option ValueType) → Moves o left right → IsValue left × IsValue right
 moves_values (MoveLeft size) left right h = (pointing_value left h.0, number_value right h.1)

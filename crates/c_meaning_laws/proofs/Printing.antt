@@ -4,8 +4,8 @@ use Rattle.std.proofs.lemmas.Bool.{false≢true, true≢false}
 use Rattle.std.specs.Prelude.{Option, ℤ, pos, nat_le, take, drop, ◌-◌, ◌==◌, ◌||◌, if◌then◌else◌}
 use Rattle.std.specs.Cmp.Derive.{both_true}
 use Rattle.std.specs.FinMap.{get}
-use Rattle.cbi_base.specs.Words.{Byte, Conversion, FormatPiece, Printed, after_bytes, converted_by, joined, nothing_printed, pieces_of, printed_format}
-use Rattle.cbi_base.specs.Words.{printed_or, string_at, string_on, take_values, takes_value, then_print, these, output_limit, is_zero, low_byte, is_conversion}
+use Rattle.cbi_base.specs.Words.{Byte, Conversion, FormatPiece, Printed, after_bytes, converted_by, printed_unless_stopped, nothing_printed, pieces_of, printed_format}
+use Rattle.cbi_base.specs.Words.{printed_or, string_at, string_on, take_values, takes_value, then_print, bytes_printed, output_limit, is_zero, low_byte, is_conversion}
 use Rattle.cbi_base.specs.Words.{is_percent, Object, Objects, live_or}
 use Rattle.cbi_base.specs.declared.outcome.Outcome.TheVariants.{CutOutput}
 use Rattle.cbi_base.specs.declared.scalar.Kind.{Kind}
@@ -16,7 +16,7 @@ use Rattle.cbi_base.specs.declared.trap.Trap.{Trap}
 use Rattle.cbi_base.specs.Objects.{◌>>=◌}
 use Rattle.c_meaning.specs.declared.value_type.ValueType.{ValueType}
 use Rattle.c_meaning.specs.declared.value_type.ValueType.TheVariants as type
-use Rattle.c_meaning.specs.Words.{types_taken, print, put_byte, put_format, put_string, stop_or, written, World, Out, Go, Stop, bind, choose, stuck}
+use Rattle.c_meaning.specs.Words.{types_taken, put_printed, put_byte, put_format, put_string, stop_or, put_bytes, World, Out, Go, Stop, bind, chosen_part, stuck_run}
 use Rattle.c_meaning_laws.proofs.Safe.{Any, Ending, IsPlain, Safe, chosen_true, gives, plain, seq, unseen}
 use Rattle.c_meaning_laws.proofs.Values.{Fits, Given}
 use Rattle.c_meaning_laws.proofs.Operations.{IsReference}
@@ -29,7 +29,7 @@ written_end : (b : Bool) (w : World) (more cut : List ℕ)
 written_end true w more cut = (tt, refl)
 written_end false w more cut = (tt, refl)
 
-pub written_safe : (bytes : List ℕ) → Safe Any (written bytes) (written bytes)
+pub written_safe : (bytes : List ℕ) → Safe Any (put_bytes bytes) (put_bytes bytes)
 written_safe bytes = record {
   at = λ w. (written_end (nat_le (length w.output + length bytes) output_limit) w (w.output ++ bytes)
       (w.output ++ take (output_limit - length w.output) bytes)).0;
@@ -45,7 +45,7 @@ stop_safe : (stop : Option Trap) → CalmStop stop → Safe Any (stop_or stop) (
 stop_safe None h = record { at = λ w. tt; same = λ w. refl }
 stop_safe (Some t) h = record { at = λ w. h; same = λ w. refl }
 
-print_safe : (p : Printed) → CalmStop p.stop → Safe Any (print p) (print p)
+print_safe : (p : Printed) → CalmStop p.stop → Safe Any (put_printed p) (put_printed p)
 print_safe p h = seq (written_safe p.bytes) (λ _ _. stop_safe p.stop h)
 
 -- a part that looks at the objects
@@ -78,15 +78,15 @@ string_at_calm Null o h = tt
 string_at_calm (Place a i) o h = string_in_calm i (get o.live a)
 string_at_calm (Number k n) o h = absurd h
 
-joined_calm : (first : Printed) (stop : Option Trap) (rest : Printed) → CalmStop first.stop → CalmStop rest.stop → CalmStop (joined first stop rest).stop
+joined_calm : (first : Printed) (stop : Option Trap) (rest : Printed) → CalmStop first.stop → CalmStop rest.stop → CalmStop (printed_unless_stopped first stop rest).stop
 joined_calm first None rest h k = k
 joined_calm first (Some t) rest h k = h
 
-line_safe : (p : Scalar) → IsReference p → Safe (Fits (Some (type.Number Int))) (λ w. bind (print (then_print (string_at p w.objects) (these (10 ∷ []))) w)
+line_safe : (p : Scalar) → IsReference p → Safe (Fits (Some (type.Number Int))) (λ w. bind (put_printed (then_print (string_at p w.objects) (bytes_printed (10 ∷ []))) w)
     (λ _. Go (Number Int (pos 0))))
-    (λ w. bind (print (then_print (string_at p w.objects) (these (10 ∷ []))) w) (λ _. Go (Number Int (pos 0))))
-line_safe p h = seq (on_objects (λ o. print (then_print (string_at p o) (these (10 ∷ [])))) (λ o. print (then_print (string_at p o) (these (10 ∷ []))))
-    (λ o. print_safe (then_print (string_at p o) (these (10 ∷ []))) (joined_calm (string_at p o) (string_at p o).stop (these (10 ∷ []))
+    (λ w. bind (put_printed (then_print (string_at p w.objects) (bytes_printed (10 ∷ []))) w) (λ _. Go (Number Int (pos 0))))
+line_safe p h = seq (on_objects (λ o. put_printed (then_print (string_at p o) (bytes_printed (10 ∷ [])))) (λ o. put_printed (then_print (string_at p o) (bytes_printed (10 ∷ []))))
+    (λ o. print_safe (then_print (string_at p o) (bytes_printed (10 ∷ []))) (joined_calm (string_at p o) (string_at p o).stop (bytes_printed (10 ∷ []))
     (string_at_calm p o h) tt)))
     (λ _ _. gives (Number Int (pos 0)) refl)
 
@@ -182,7 +182,7 @@ printed_calm (Conversion letter ∷ pieces) (v ∷ vs) o g =
 -- `printf`
 pub put_format_safe : (format : List ℕ) (values : List Scalar) → AllGiven (types_taken (pieces_of format)) values
     → Safe Any (put_format format values) (put_format format values)
-put_format_safe format values g = on_objects (λ o. choose (take_values (pieces_of format) values) (print (printed_format (pieces_of format) values o)) stuck)
-    (λ o. choose (take_values (pieces_of format) values) (print (printed_format (pieces_of format) values o)) stuck)
-    (λ o. chosen_true stuck stuck (take_values (pieces_of format) values) (values_taken (pieces_of format) values (pieces_known format) g)
+put_format_safe format values g = on_objects (λ o. chosen_part (take_values (pieces_of format) values) (put_printed (printed_format (pieces_of format) values o)) stuck_run)
+    (λ o. chosen_part (take_values (pieces_of format) values) (put_printed (printed_format (pieces_of format) values o)) stuck_run)
+    (λ o. chosen_true stuck_run stuck_run (take_values (pieces_of format) values) (values_taken (pieces_of format) values (pieces_known format) g)
     (print_safe (printed_format (pieces_of format) values o) (printed_calm (pieces_of format) values o g)))

@@ -13,13 +13,13 @@ use Rattle.cbi_base.specs.declared.scalar.Scalar.{Scalar}
 use Rattle.cbi_base.specs.declared.scalar.Scalar.TheVariants.{Number, Place, Null, Undefined}
 use Rattle.cbi_base.specs.declared.scalar.Want.{Want}
 use Rattle.cbi_base.specs.declared.trap.Trap.TheVariants as trap
-use Rattle.cbi_base.specs.Words.{filled_in, Locals, Object, Objects, allocated, found_cell, has_room, is_heap_start, is_text, is_wanted, killed, live_or}
-use Rattle.cbi_base.specs.Words.{loaded, made_with, moved, moved_in, one_object_more, place_or_null, released, set_in, stored, undefined_in, with_object}
+use Rattle.cbi_base.specs.Words.{filled_in, Locals, Object, Objects, object_allocated, found_cell, has_room, is_heap_start, is_text, is_wanted, object_killed, live_or}
+use Rattle.cbi_base.specs.Words.{loaded_value, made_with, moved_pointer, moved_in, one_object_more, place_or_null, object_released, set_in, value_stored, undefined_in, with_object}
 use Rattle.cbi_base.specs.Objects.{◌>>=◌}
 use Rattle.c_syntax.specs.ExprTree as e
 use Rattle.c_syntax.specs.ExprTree.{ExprList}
-use Rattle.c_meaning.specs.Words.{call_function, call_sense, with_result, Sense, Facts, Setting, Signature, arguments_value, expr, formatted, lone_value}
-use Rattle.c_meaning.specs.Words.{Source, call_at, setting_of, called_as, count, has_value, listed, visited, World, Out, Go, Stop, bind, choose, done, stuck}
+use Rattle.c_meaning.specs.Words.{call_function, call_sense, with_result, Sense, Facts, Setting, Signature, arguments_value, expr, arguments_printed, lone_value}
+use Rattle.c_meaning.specs.Words.{Source, call_at, setting_of, called_as, expression_count, has_value, site_list, sites_visited, World, Out, Go, Stop, bind, chosen_part, value_discarded, stuck_run}
 use Rattle.c_meaning_laws.specs.Calls.{AreHidden, AreUnnamed, CallExpressionLeavesHidden, CallLeavesHidden, LeadsElsewhere}
 use Rattle.c_meaning_laws.proofs.Objects.{put_other, removed_other}
 use Rattle.c_meaning_laws.proofs.Parts.{Ends, ends_bind, ends_go}
@@ -102,7 +102,7 @@ module _ (hidden : ℕ → Bool) (first : Objects) where
   with_stays : (o : Objects) (n : ℕ) (object : Object) → Own n → AllByRecursion Elsewhere object.cells → Stay o → Stay (with_object o n object)
   with_stays o n object own cells h = put_stays o o.made n object (omega arith) own cells h
 
-  kill_stays : (n : ℕ) (o : Objects) → Own n → Stay o → Stay (killed n o)
+  kill_stays : (n : ℕ) (o : Objects) → Own n → Stay o → Stay (object_killed n o)
   kill_stays n o own h = record {
     same = λ m k. removed_other o n m (differs m n k own) ∙ h.same m k;
     apart = record {
@@ -136,8 +136,8 @@ module _ (hidden : ℕ → Bool) (first : Objects) where
   live_object None h = tt
   live_object (Some object) h = h
 
-  loads_elsewhere : (wanted : Want) (p : Scalar) (o : Objects) → Elsewhere p → Stay o → Answers Elsewhere (loaded wanted p o)
-  unfolding loaded
+  loads_elsewhere : (wanted : Want) (p : Scalar) (o : Objects) → Elsewhere p → Stay o → Answers Elsewhere (loaded_value wanted p o)
+  unfolding loaded_value
   loads_elsewhere wanted (Place number offset) o own h =
       answers_bind (λ object. AllByRecursion Elsewhere object.cells) Elsewhere (live_or (get o.live number))
       (λ object. found_cell wanted (slice_get object.cells offset))
@@ -154,8 +154,8 @@ module _ (hidden : ℕ → Bool) (first : Objects) where
   any_object None = tt
   any_object (Some object) = tt
 
-  moves_elsewhere : (p : Scalar) (cells : ℤ) (o : Objects) → Elsewhere p → Answers Elsewhere (moved p cells o)
-  unfolding moved
+  moves_elsewhere : (p : Scalar) (cells : ℤ) (o : Objects) → Elsewhere p → Answers Elsewhere (moved_pointer p cells o)
+  unfolding moved_pointer
   moves_elsewhere (Place number offset) cells o own =
       answers_bind (λ _. Unit {0}) Elsewhere (live_or (get o.live number)) (λ object. moved_in number (pos offset +ℤ cells) object)
       (any_object (get o.live number)) (λ object _. either_place _ number _ own)
@@ -176,8 +176,8 @@ module _ (hidden : ℕ → Bool) (first : Objects) where
       either_set _ (is_text object.class) (with_object o number (record object { cells = slice_set object.cells offset v }))
       (with_stays o number (record object { cells = slice_set object.cells offset v }) own (set_cells Elsewhere object.cells offset v k cells) h))
 
-  stores_stay : (p v : Scalar) (o : Objects) → Elsewhere p → Elsewhere v → Stay o → Answers Stay (stored p v o)
-  unfolding stored
+  stores_stay : (p v : Scalar) (o : Objects) → Elsewhere p → Elsewhere v → Stay o → Answers Stay (value_stored p v o)
+  unfolding value_stored
   stores_stay (Place number offset) (Number kind value) o own k h = set_stays number offset (Number kind value) o own k h
   stores_stay (Place number offset) (Place other at) o own k h = set_stays number offset (Place other at) o own k h
   stores_stay (Place number offset) Null o own k h = set_stays number offset Null o own k h
@@ -193,12 +193,12 @@ module _ (hidden : ℕ → Bool) (first : Objects) where
   stores_stay (Number j n) Null o own k h = tt
 
   -- `malloc` and `free`
-  either_killed : (b : Bool) (number : ℕ) (o : Objects) → Own number → Stay o → Answers Stay (if b then Ok (killed number o) else Err trap.BadFree)
+  either_killed : (b : Bool) (number : ℕ) (o : Objects) → Own number → Stay o → Answers Stay (if b then Ok (object_killed number o) else Err trap.BadFree)
   either_killed true number o own h = kill_stays number o own h
   either_killed false number o own h = tt
 
-  releases_stay : (p : Scalar) (o : Objects) → Elsewhere p → Stay o → Answers Stay (released p o)
-  unfolding released
+  releases_stay : (p : Scalar) (o : Objects) → Elsewhere p → Stay o → Answers Stay (object_released p o)
+  unfolding object_released
   releases_stay Undefined o own h = tt
   releases_stay (Number kind value) o own h = tt
   releases_stay Null o own h = h
@@ -223,8 +223,8 @@ module _ (hidden : ℕ → Bool) (first : Objects) where
       placed_stays o (made_with Heap (replicate cells Undefined) o) h
       (either_made Heap (has_room (length (replicate cells Undefined)) o) (replicate cells Undefined) o (all_alike Elsewhere cells Undefined tt) h)
 
-  allocates_stay : (cells : ℕ) (o : Objects) → Stay o → Elsewhere (allocated cells o).0 × Stay (allocated cells o).1
-  unfolding allocated
+  allocates_stay : (cells : ℕ) (o : Objects) → Stay o → Elsewhere (object_allocated cells o).0 × Stay (object_allocated cells o).1
+  unfolding object_allocated
   allocates_stay cells o h = chosen_stays cells o (cells == 0) h
 
   -- variables
@@ -286,36 +286,36 @@ module _ (src : Source) (hidden : ℕ → Bool) (turns token number : ℕ) (loca
       ((calls_kept (closed hidden y.objects) src (statics_own hidden y.objects src.facts unnamed) turns number arguments elsewhere).at y
       (record { same = λ m k. refl; apart = apart }))
 
-  fitting_left : (b : Bool) → arguments_value s f.params passed [] w ≡ Go arguments y → Ends Left (choose b run stuck w)
+  fitting_left : (b : Bool) → arguments_value s f.params passed [] w ≡ Go arguments y → Ends Left (chosen_part b run stuck_run w)
   fitting_left true evaluated = run_left evaluated
   fitting_left false evaluated = tt
 
   abbrev IsLeft : Sense → Type 0
   IsLeft m = Ends Left (m.value w) × Ends (λ x u. Stay hidden y.objects u.objects) (m.effect w)
 
-  done_left : (out : Out Scalar) → Ends Left out → Ends (λ x u. Stay hidden y.objects u.objects) (done out)
+  done_left : (out : Out Scalar) → Ends Left out → Ends (λ x u. Stay hidden y.objects u.objects) (value_discarded out)
   done_left (Go v u) h = h.1
   done_left (Stop outcome u) h = tt
 
-  result_left : (b fits : Bool) → arguments_value s f.params passed [] w ≡ Go arguments y → IsLeft (with_result s token b (choose fits run stuck))
+  result_left : (b fits : Bool) → arguments_value s f.params passed [] w ≡ Go arguments y → IsLeft (with_result s token b (chosen_part fits run stuck_run))
   result_left true fits evaluated =
-      let seen : Ends Left (bind (choose fits run stuck w) (visited s (listed (s.sites.return_at token)))) =
-      ends_bind Left Left (choose fits run stuck w) (visited s (listed (s.sites.return_at token))) (fitting_left fits evaluated) (λ v u k.
-      (visited_kept (closed hidden y.objects) s (listed (s.sites.return_at token)) v k.0).at u k.1) in
-      (seen, done_left (bind (choose fits run stuck w) (visited s (listed (s.sites.return_at token)))) seen)
-  result_left false fits evaluated = (tt, done_left (choose fits run stuck w) (fitting_left fits evaluated))
+      let seen : Ends Left (bind (chosen_part fits run stuck_run w) (sites_visited s (site_list (s.sites.return_at token)))) =
+      ends_bind Left Left (chosen_part fits run stuck_run w) (sites_visited s (site_list (s.sites.return_at token))) (fitting_left fits evaluated) (λ v u k.
+      (visited_kept (closed hidden y.objects) s (site_list (s.sites.return_at token)) v k.0).at u k.1) in
+      (seen, done_left (bind (chosen_part fits run stuck_run w) (sites_visited s (site_list (s.sites.return_at token)))) seen)
+  result_left false fits evaluated = (tt, done_left (chosen_part fits run stuck_run w) (fitting_left fits evaluated))
 
   -- what the call means is its arguments and its function
   abbrev sense_of : Option ℕ → List ℕ → Sense
   sense_of at name =
-      call_sense s token (called_as at name) (count passed) (λ types. arguments_value s types passed []) (λ want. lone_value s want passed) (formatted s passed)
+      call_sense s token (called_as at name) (expression_count passed) (λ types. arguments_value s types passed []) (λ want. lone_value s want passed) (arguments_printed s passed)
 
   call_left : (name : List ℕ) → src.facts.function_at token ≡ Some number → src.facts.signature number ≡ Some f
       → arguments_value s f.params passed [] w ≡ Go arguments y → IsLeft (expr s (e.Call token name passed))
   call_left name called known evaluated =
       subst (λ at. IsLeft (sense_of at name)) (sym called)
-      (subst (λ g. IsLeft (call_function s token number g (count passed) (λ types. arguments_value s types passed []))) (sym known)
-      (result_left (has_value f.result) (count passed == length f.params) evaluated))
+      (subst (λ g. IsLeft (call_function s token number g (expression_count passed) (λ types. arguments_value s types passed []))) (sym known)
+      (result_left (has_value f.result) (expression_count passed == length f.params) evaluated))
 
   -- the objects of the set are what they were
   left_same : (m : Sense) (u : World) → IsLeft m → ((v : Scalar) × (m.value w ≡ Go v u)) ⊎ (m.effect w ≡ Go tt u) → (other : ℕ) → hidden other ≡ true

@@ -3,11 +3,11 @@ use Rattle.std.proofs.Common.{◌≡◌, ℕ, zero, suc, ◌≤◌, Bool, true, 
 use Rattle.cbi_base.specs.Frames.{Locals}
 use Rattle.cbi_base.specs.declared.outcome.Outcome.TheVariants.{CutTurns}
 use Rattle.cbi_base.specs.declared.scalar.Scalar.{Scalar}
-use Rattle.c_syntax.specs.Words.{ExprTree, StatementTree, EntryList}
+use Rattle.c_syntax.specs.Words.{ExprTree, StatementTree}
 use Rattle.c_syntax.specs.StatementTree as tree
 use Rattle.c_meaning.specs.declared.value_type.ValueType.{ValueType}
-use Rattle.c_meaning.specs.Words.{Setting, declares, condition, Source, call_at, setting_of, after_body, after_entry, do_round, exec, exec_all, rounds}
-use Rattle.c_meaning.specs.Words.{while_round, World, Out, Go, Stop, Flow, Next, Broken, Continued, Returned, bind, choose, spend}
+use Rattle.c_meaning.specs.Words.{Setting, declaration_done, condition, Source, call_at, setting_of, after_body, after_entry, do_round, exec, exec_all, loop_rounds}
+use Rattle.c_meaning.specs.Words.{while_round, World, Out, Go, Stop, Flow, Next, Broken, Continued, Returned, bind, chosen_part, one_turn_spent}
 use Rattle.c_meaning_laws.specs.Rounds.{BlockIsEntries, DoIsFirstRound, WhileIsFirstRound, joined_entries}
 use Rattle.c_meaning_laws.proofs.Longer.{Longer, cut, left_in}
 use Rattle.c_meaning_laws.proofs.LongerExpressions.{condition_longer}
@@ -38,37 +38,37 @@ after_within most m other Continued h u le = h u le
 after_within most m other Broken h u le = refl
 after_within most m other (Returned v) h u le = refl
 
-choose_within : (most : ℕ) (b : Bool) (m other : World → Out Flow) → Agree most m other → Agree most (choose b m (Go Next)) (choose b other (Go Next))
+choose_within : (most : ℕ) (b : Bool) (m other : World → Out Flow) → Agree most m other → Agree most (chosen_part b m (Go Next)) (chosen_part b other (Go Next))
 choose_within most true m other h u le = h u le
 choose_within most false m other h u le = refl
 
 while_within : (test : World → Out Bool) (body : World → Out Flow) → KeepsTurns test → KeepsTurns body → IsWithin (while_round test body)
 while_within test body tests bodies most m other h w le =
     let round : (World → Out Flow) → World → Out Flow = λ more u. bind (body u) (after_body more) in
-    bind_within most (test w) (λ b. choose b (round m) (Go Next)) (λ b. choose b (round other) (Go Next)) (omega (arith, tests w, le)) (λ b.
+    bind_within most (test w) (λ b. chosen_part b (round m) (Go Next)) (λ b. chosen_part b (round other) (Go Next)) (omega (arith, tests w, le)) (λ b.
     choose_within most b (round m) (round other) (λ u low.
     bind_within most (body u) (after_body m) (after_body other) (omega (arith, bodies u, low)) (λ flow. after_within most m other flow h)))
 
 do_within : (test : World → Out Bool) (body : World → Out Flow) → KeepsTurns test → KeepsTurns body → IsWithin (do_round test body)
 do_within test body tests bodies most m other h w le =
-    let next : (World → Out Flow) → World → Out Flow = λ more u. bind (test u) (λ b. choose b more (Go Next)) in
+    let next : (World → Out Flow) → World → Out Flow = λ more u. bind (test u) (λ b. chosen_part b more (Go Next)) in
     bind_within most (body w) (after_body (next m)) (after_body (next other)) (omega (arith, bodies w, le)) (λ flow.
     after_within most (next m) (next other) flow (λ u low.
-    bind_within most (test u) (λ b. choose b m (Go Next)) (λ b. choose b other (Go Next)) (omega (arith, tests u, low)) (λ b. choose_within most b m other h)))
+    bind_within most (test u) (λ b. chosen_part b m (Go Next)) (λ b. chosen_part b other (Go Next)) (omega (arith, tests u, low)) (λ b. choose_within most b m other h)))
 
 spend_alike : (turns : ℕ) (u : World) (m other : World → Out Flow) → ((t : ℕ) → suc t ≡ turns → m (record u { turns = t }) ≡ other (record u { turns = t }))
-    → spend turns u m ≡ spend turns u other
+    → one_turn_spent turns u m ≡ one_turn_spent turns u other
 spend_alike zero u m other h = refl
 spend_alike (suc t) u m other h = h t refl
 
 -- where at most so many turns are left, more of them as the bound of a loop change nothing
-enough : (round : (World → Out Flow) → World → Out Flow) → IsWithin round → (n : ℕ) (w : World) → w.turns ≤ n → rounds n round w ≡ rounds (suc n) round w
+enough : (round : (World → Out Flow) → World → Out Flow) → IsWithin round → (n : ℕ) (w : World) → w.turns ≤ n → loop_rounds n round w ≡ loop_rounds (suc n) round w
 enough round within zero w le =
-    within 0 (Stop CutTurns) (λ u. spend u.turns u (rounds zero round)) (λ u low.
-    subst (λ t. Stop CutTurns u ≡ spend t u (rounds zero round)) (let none : 0 ≡ u.turns = omega (arith, low) in none) refl) w le
+    within 0 (Stop CutTurns) (λ u. one_turn_spent u.turns u (loop_rounds zero round)) (λ u low.
+    subst (λ t. Stop CutTurns u ≡ one_turn_spent t u (loop_rounds zero round)) (let none : 0 ≡ u.turns = omega (arith, low) in none) refl) w le
 enough round within (suc n) w le =
-    within w.turns (λ u. spend u.turns u (rounds n round)) (λ u. spend u.turns u (rounds (suc n) round)) (λ u low.
-    spend_alike u.turns u (rounds n round) (rounds (suc n) round) (λ t is.
+    within w.turns (λ u. one_turn_spent u.turns u (loop_rounds n round)) (λ u. one_turn_spent u.turns u (loop_rounds (suc n) round)) (λ u low.
+    spend_alike u.turns u (loop_rounds n round) (loop_rounds (suc n) round) (λ t is.
     enough round within n (record u { turns = t }) (omega (arith, is, low, le)))) w (omega arith)
 
 module _ (src : Source) (calls : ℕ) (locals : Locals) where
@@ -116,7 +116,7 @@ after_alike flow m other h w = refl
 pub block_is_entries : BlockIsEntries
 block_is_entries s n result token tree.no_entries others w = refl
 block_is_entries s n result token (tree.declared d rest) others w =
-    sym (bind_behind (declares s d w) (λ _. exec_all s n result rest) (λ _. exec_all s n result (joined_entries rest others))
+    sym (bind_behind (declaration_done s d w) (λ _. exec_all s n result rest) (λ _. exec_all s n result (joined_entries rest others))
     (after_entry (exec_all s n result others)) (λ _ u. sym (block_is_entries s n result token rest others u)))
 block_is_entries s n result token (tree.stated x rest) others w =
     entry_next (exec s n result x w) (exec_all s n result rest) (exec_all s n result others)

@@ -11,8 +11,8 @@ use Rattle.cbi_base.specs.Arithmetic.{kind_given}
 use Rattle.c_types_rules.specs.declared.layout.StructType.{StructType}
 use Rattle.c_types_rules.specs.declared.operand.Operand.{Operand}
 use Rattle.c_types_rules.specs.TypeTree as t
-use Rattle.c_types_rules.specs.Words.{TypeTree, same_type, assignable, pointers_meet, is_arithmetic, is_pointer, is_scalar, is_void, of_kind, value_of, Looked}
-use Rattle.c_types_rules.specs.Words.{added, both_arithmetic, gives, is_movable, ordered, subtracted, common_kind, promoted_kind}
+use Rattle.c_types_rules.specs.Words.{TypeTree, same_type, is_assignable, pointers_meet, is_arithmetic, is_pointer, is_scalar, is_void, of_kind, value_of, OperandOrFault}
+use Rattle.c_types_rules.specs.Words.{typed_sum, both_arithmetic, value_if_operands_fit, is_movable, typed_relation, typed_difference, common_kind, promoted_kind}
 use Rattle.c_types_rules.specs.Conversions as rule
 use Rattle.c_meaning.specs.declared.operation.Operation.TheVariants.{Ordered}
 use Rattle.c_meaning.specs.declared.value_type.ValueType.{ValueType}
@@ -26,18 +26,18 @@ abbrev pub known : List StructType → TypeTree → Option ValueType
 known structs of = Some (computed_type structs of)
 
 -- types
-pub arithmetic_number : (structs : List StructType) (of : TypeTree) → is_arithmetic (rule.decayed of) ≡ true → IsNumberType (known structs of)
+pub arithmetic_number : (structs : List StructType) (of : TypeTree) → is_arithmetic (rule.decayed_type of) ≡ true → IsNumberType (known structs of)
 arithmetic_number structs t.Char h = tt
 arithmetic_number structs t.Int h = tt
 arithmetic_number structs t.Unsigned h = tt
 arithmetic_number structs of h = absurd (false≢true h)
 
-pub pointer_pointing : (structs : List StructType) (of : TypeTree) → is_pointer (rule.decayed of) ≡ true → IsPointing (known structs of)
+pub pointer_pointing : (structs : List StructType) (of : TypeTree) → is_pointer (rule.decayed_type of) ≡ true → IsPointing (known structs of)
 pointer_pointing structs (t.Pointer to) h = tt
 pointer_pointing structs (t.Array element size) h = tt
 pointer_pointing structs of h = absurd (false≢true h)
 
-pub scalar_usable : (structs : List StructType) (of : TypeTree) → is_scalar (rule.decayed of) ≡ true → IsValue (known structs of)
+pub scalar_usable : (structs : List StructType) (of : TypeTree) → is_scalar (rule.decayed_type of) ≡ true → IsValue (known structs of)
 scalar_usable structs t.Void h = absurd (false≢true h)
 scalar_usable structs (t.Struct tag) h = absurd (false≢true h)
 scalar_usable structs of h = tt
@@ -59,26 +59,26 @@ only_first false h = h
 meeting : (to : TypeTree) (b : TypeTree) → pointers_meet (t.Pointer to) b ≡ true → is_pointer b ≡ true
 meeting to b h = (and_parts (is_pointer b) (same_type (t.Pointer to) b || is_void to || rule.is_void_pointer b) h).0
 
-pub assignable_taken : (structs : List StructType) (target : TypeTree) (x : Operand) → assignable target x ≡ true
+pub assignable_taken : (structs : List StructType) (target : TypeTree) (x : Operand) → is_assignable target x ≡ true
     → TakesOrNull (mean.is_pointer_value (known structs target) && x.null) (known structs target) (known structs x.ctype)
 assignable_taken structs t.Char x h = number_takes kind.Char (known structs x.ctype) (arithmetic_number structs x.ctype
-    (only_first (is_arithmetic (rule.decayed x.ctype)) h))
+    (only_first (is_arithmetic (rule.decayed_type x.ctype)) h))
 assignable_taken structs t.Int x h = number_takes kind.Int (known structs x.ctype) (arithmetic_number structs x.ctype
-    (only_first (is_arithmetic (rule.decayed x.ctype)) h))
+    (only_first (is_arithmetic (rule.decayed_type x.ctype)) h))
 assignable_taken structs t.Unsigned x h = number_takes kind.Unsigned (known structs x.ctype)
-    (arithmetic_number structs x.ctype (only_first (is_arithmetic (rule.decayed x.ctype)) h))
+    (arithmetic_number structs x.ctype (only_first (is_arithmetic (rule.decayed_type x.ctype)) h))
 assignable_taken structs (t.Pointer to) x h = either x.null h
   where
-    either : (b : Bool) → (false || b || pointers_meet (t.Pointer to) (rule.decayed x.ctype)) ≡ true
+    either : (b : Bool) → (false || b || pointers_meet (t.Pointer to) (rule.decayed_type x.ctype)) ≡ true
         → TakesOrNull b (known structs (t.Pointer to)) (known structs x.ctype)
     either true h = tt
-    either false h = pointer_takes (element_cells structs to) (known structs x.ctype) (pointer_pointing structs x.ctype (meeting to (rule.decayed x.ctype) h))
+    either false h = pointer_takes (element_cells structs to) (known structs x.ctype) (pointer_pointing structs x.ctype (meeting to (rule.decayed_type x.ctype) h))
 assignable_taken structs t.Void x h = absurd (false≢true h)
 assignable_taken structs (t.Array element size) x h = absurd (false≢true h)
 assignable_taken structs (t.Struct tag) x h = absurd (false≢true h)
 
 -- kinds
-pub kind_of : (of : TypeTree) → is_arithmetic (rule.decayed of) ≡ true → (k : Kind) × (of ≡ of_kind k)
+pub kind_of : (of : TypeTree) → is_arithmetic (rule.decayed_type of) ≡ true → (k : Kind) × (of ≡ of_kind k)
 kind_of t.Char h = (kind.Char, refl)
 kind_of t.Int h = (kind.Int, refl)
 kind_of t.Unsigned h = (kind.Unsigned, refl)
@@ -89,7 +89,7 @@ kind_known structs kind.Char = refl
 kind_known structs kind.Int = refl
 kind_known structs kind.Unsigned = refl
 
-pub common_known : (structs : List StructType) (k l : Kind) → computed_type structs (rule.common (of_kind k) (of_kind l)) ≡ type.Number (common_kind k l)
+pub common_known : (structs : List StructType) (k l : Kind) → computed_type structs (rule.common_type (of_kind k) (of_kind l)) ≡ type.Number (common_kind k l)
 common_known structs kind.Char kind.Char = refl
 common_known structs kind.Char kind.Int = refl
 common_known structs kind.Char kind.Unsigned = refl
@@ -100,19 +100,19 @@ common_known structs kind.Unsigned kind.Char = refl
 common_known structs kind.Unsigned kind.Int = refl
 common_known structs kind.Unsigned kind.Unsigned = refl
 
-pub promoted_known : (structs : List StructType) (k : Kind) → computed_type structs (rule.promoted (of_kind k)) ≡ type.Number (promoted_kind k)
+pub promoted_known : (structs : List StructType) (k : Kind) → computed_type structs (rule.promoted_type (of_kind k)) ≡ type.Number (promoted_kind k)
 promoted_known structs kind.Char = refl
 promoted_known structs kind.Int = refl
 promoted_known structs kind.Unsigned = refl
 
-pub kind_plain : (k : Kind) → rule.decayed (of_kind k) ≡ of_kind k
+pub kind_plain : (k : Kind) → rule.decayed_type (of_kind k) ≡ of_kind k
 kind_plain kind.Char = refl
 kind_plain kind.Int = refl
 kind_plain kind.Unsigned = refl
 
 -- two numbers
-pub numbers_operate : (structs : List StructType) (o : Binary) (x y of : TypeTree) → is_arithmetic (rule.decayed x) ≡ true
-    → is_arithmetic (rule.decayed y) ≡ true
+pub numbers_operate : (structs : List StructType) (o : Binary) (x y of : TypeTree) → is_arithmetic (rule.decayed_type x) ≡ true
+    → is_arithmetic (rule.decayed_type y) ≡ true
     → ((k l : Kind) → x ≡ of_kind k → y ≡ of_kind l → computed_type structs of ≡ type.Number (kind_given o (left_kind o k l)))
     → Operates (operation o (known structs x) (known structs y)) (known structs x) (known structs y) (known structs of)
 numbers_operate structs o x y of h i e =
@@ -123,18 +123,18 @@ numbers_operate structs o x y of h i e =
     rw a (rw b (refl, refl, ap (λ v. Some v) (e left.0 right.0 left.1 right.1)))
 
 -- what a rule gives
-abbrev ok_or : Operand → Looked → Operand
+abbrev ok_or : Operand → OperandOrFault → Operand
 ok_or other (Ok x) = x
 ok_or other (Err kind) = other
 
 -- the rule gives this operand
-abbrev pub Is : Looked → Operand → Type 0
+abbrev pub Is : OperandOrFault → Operand → Type 0
 Is r z = r ≡ Ok z
 
 pub given : (P : Operand → Type 0) (x z : Operand) → P x → Is (Ok x) z → P z
 given P x z h e = subst P (ap (ok_or x) e) h
 
-pub gives_by : (P : Operand → Type 0) (fits : Bool) (of : TypeTree) (z : Operand) → (fits ≡ true → P (value_of of)) → Is (gives fits of) z → P z
+pub gives_by : (P : Operand → Type 0) (fits : Bool) (of : TypeTree) (z : Operand) → (fits ≡ true → P (value_of of)) → Is (value_if_operands_fit fits of) z → P z
 gives_by P true of z h e = given P (value_of of) z (h refl) e
 gives_by P false of z h e = cc
 
@@ -144,12 +144,12 @@ HasStep (Some (type.Pointer size)) = is_step_size size ≡ true
 HasStep (Some (type.Array size)) = is_step_size size ≡ true
 HasStep v = Unit {0}
 
-pub movable_pointing : (structs : List StructType) (of : TypeTree) → is_movable structs (rule.decayed of) ≡ true → IsPointing (known structs of)
+pub movable_pointing : (structs : List StructType) (of : TypeTree) → is_movable structs (rule.decayed_type of) ≡ true → IsPointing (known structs of)
 movable_pointing structs (t.Pointer to) h = tt
 movable_pointing structs (t.Array element size) h = tt
 movable_pointing structs of h = absurd (false≢true h)
 
-pub decayed_pointing : (structs : List StructType) (of : TypeTree) → IsPointing (known structs of) → IsPointing (known structs (rule.decayed of))
+pub decayed_pointing : (structs : List StructType) (of : TypeTree) → IsPointing (known structs of) → IsPointing (known structs (rule.decayed_type of))
 decayed_pointing structs (t.Pointer to) h = tt
 decayed_pointing structs (t.Array element size) h = tt
 decayed_pointing structs of h = h
@@ -190,31 +190,31 @@ abbrev pub Computed : List StructType → Binary → TypeTree → TypeTree → O
 Computed structs o x y z = Operates (operation o (known structs x) (known structs y)) (known structs x) (known structs y) (known structs z.ctype)
 
 -- `+`
-pub added_fits : (structs : List StructType) (x y : TypeTree) (z : Operand) → (is_movable structs (rule.decayed x) ≡ true → HasStep (known structs x))
-    → (is_movable structs (rule.decayed y) ≡ true → HasStep (known structs y)) → Is (added structs (rule.decayed x) (rule.decayed y)) z
+pub added_fits : (structs : List StructType) (x y : TypeTree) (z : Operand) → (is_movable structs (rule.decayed_type x) ≡ true → HasStep (known structs x))
+    → (is_movable structs (rule.decayed_type y) ≡ true → HasStep (known structs y)) → Is (typed_sum structs (rule.decayed_type x) (rule.decayed_type y)) z
     → Computed structs op.Add x y z
 added_fits structs x y z s r h =
-    either (both_arithmetic (rule.decayed x) (rule.decayed y)) (is_arithmetic (rule.decayed y)) refl refl h
+    either (both_arithmetic (rule.decayed_type x) (rule.decayed_type y)) (is_arithmetic (rule.decayed_type y)) refl refl h
   where
-    either : (b c : Bool) → both_arithmetic (rule.decayed x) (rule.decayed y) ≡ b → is_arithmetic (rule.decayed y) ≡ c
-        → Is (if b then Ok (value_of (rule.common (rule.decayed x) (rule.decayed y))) else if c then gives (is_movable structs (rule.decayed x))
-        (rule.decayed x)
-        else gives (is_arithmetic (rule.decayed x) && is_movable structs (rule.decayed y)) (rule.decayed y)) z
+    either : (b c : Bool) → both_arithmetic (rule.decayed_type x) (rule.decayed_type y) ≡ b → is_arithmetic (rule.decayed_type y) ≡ c
+        → Is (if b then Ok (value_of (rule.common_type (rule.decayed_type x) (rule.decayed_type y))) else if c then value_if_operands_fit (is_movable structs (rule.decayed_type x))
+        (rule.decayed_type x)
+        else value_if_operands_fit (is_arithmetic (rule.decayed_type x) && is_movable structs (rule.decayed_type y)) (rule.decayed_type y)) z
         → Computed structs op.Add x y z
-    either true c e f h = given (Computed structs op.Add x y) (value_of (rule.common (rule.decayed x) (rule.decayed y))) z
-        (numbers_operate structs op.Add x y (rule.common (rule.decayed x) (rule.decayed y))
-        (and_parts (is_arithmetic (rule.decayed x)) (is_arithmetic (rule.decayed y)) e).0
-        (and_parts (is_arithmetic (rule.decayed x)) (is_arithmetic (rule.decayed y)) e).1
+    either true c e f h = given (Computed structs op.Add x y) (value_of (rule.common_type (rule.decayed_type x) (rule.decayed_type y))) z
+        (numbers_operate structs op.Add x y (rule.common_type (rule.decayed_type x) (rule.decayed_type y))
+        (and_parts (is_arithmetic (rule.decayed_type x)) (is_arithmetic (rule.decayed_type y)) e).0
+        (and_parts (is_arithmetic (rule.decayed_type x)) (is_arithmetic (rule.decayed_type y)) e).1
         (λ k l i j. rw i (rw j (rw (kind_plain k) (rw (kind_plain l) (common_known structs k l)))))) h
-    either false true e f h = gives_by (Computed structs op.Add x y) (is_movable structs (rule.decayed x)) (rule.decayed x) z
-        (λ m. add_left (known structs x) (known structs y) (known structs (rule.decayed x)) (movable_pointing structs x m) (s m)
+    either false true e f h = gives_by (Computed structs op.Add x y) (is_movable structs (rule.decayed_type x)) (rule.decayed_type x) z
+        (λ m. add_left (known structs x) (known structs y) (known structs (rule.decayed_type x)) (movable_pointing structs x m) (s m)
         (arithmetic_number structs y f)
         (decayed_pointing structs x (movable_pointing structs x m))) h
-    either false false e f h = gives_by (Computed structs op.Add x y) (is_arithmetic (rule.decayed x) && is_movable structs (rule.decayed y))
-        (rule.decayed y) z
-        (λ m. let parts : (is_arithmetic (rule.decayed x) ≡ true) × (is_movable structs (rule.decayed y) ≡ true) = and_parts (is_arithmetic (rule.decayed x))
-        (is_movable structs (rule.decayed y)) m in
-        add_right (known structs x) (known structs y) (known structs (rule.decayed y)) (arithmetic_number structs x parts.0)
+    either false false e f h = gives_by (Computed structs op.Add x y) (is_arithmetic (rule.decayed_type x) && is_movable structs (rule.decayed_type y))
+        (rule.decayed_type y) z
+        (λ m. let parts : (is_arithmetic (rule.decayed_type x) ≡ true) × (is_movable structs (rule.decayed_type y) ≡ true) = and_parts (is_arithmetic (rule.decayed_type x))
+        (is_movable structs (rule.decayed_type y)) m in
+        add_right (known structs x) (known structs y) (known structs (rule.decayed_type y)) (arithmetic_number structs x parts.0)
         (movable_pointing structs y parts.1) (r parts.1)
         (decayed_pointing structs y (movable_pointing structs y parts.1))) h
 
@@ -231,31 +231,31 @@ movable_pointer : (structs : List StructType) (a : TypeTree) → is_movable stru
 movable_pointer structs (t.Pointer to) h = refl
 movable_pointer structs a h = h
 
-pub subtracted_fits : (structs : List StructType) (x y : TypeTree) (z : Operand) → (is_movable structs (rule.decayed x) ≡ true → HasStep (known structs x))
-    → Is (subtracted structs (rule.decayed x) (rule.decayed y)) z → Computed structs op.Sub x y z
+pub subtracted_fits : (structs : List StructType) (x y : TypeTree) (z : Operand) → (is_movable structs (rule.decayed_type x) ≡ true → HasStep (known structs x))
+    → Is (typed_difference structs (rule.decayed_type x) (rule.decayed_type y)) z → Computed structs op.Sub x y z
 subtracted_fits structs x y z s h =
-    either (both_arithmetic (rule.decayed x) (rule.decayed y)) (is_arithmetic (rule.decayed y)) refl refl h
+    either (both_arithmetic (rule.decayed_type x) (rule.decayed_type y)) (is_arithmetic (rule.decayed_type y)) refl refl h
   where
-    either : (b c : Bool) → both_arithmetic (rule.decayed x) (rule.decayed y) ≡ b → is_arithmetic (rule.decayed y) ≡ c
-        → Is (if b then Ok (value_of (rule.common (rule.decayed x) (rule.decayed y))) else if c then gives (is_movable structs (rule.decayed x))
-        (rule.decayed x)
-        else gives (is_movable structs (rule.decayed x) && same_type (rule.decayed x) (rule.decayed y)) t.Int) z
+    either : (b c : Bool) → both_arithmetic (rule.decayed_type x) (rule.decayed_type y) ≡ b → is_arithmetic (rule.decayed_type y) ≡ c
+        → Is (if b then Ok (value_of (rule.common_type (rule.decayed_type x) (rule.decayed_type y))) else if c then value_if_operands_fit (is_movable structs (rule.decayed_type x))
+        (rule.decayed_type x)
+        else value_if_operands_fit (is_movable structs (rule.decayed_type x) && same_type (rule.decayed_type x) (rule.decayed_type y)) t.Int) z
         → Computed structs op.Sub x y z
-    either true c e f h = given (Computed structs op.Sub x y) (value_of (rule.common (rule.decayed x) (rule.decayed y))) z
-        (numbers_operate structs op.Sub x y (rule.common (rule.decayed x) (rule.decayed y))
-        (and_parts (is_arithmetic (rule.decayed x)) (is_arithmetic (rule.decayed y)) e).0
-        (and_parts (is_arithmetic (rule.decayed x)) (is_arithmetic (rule.decayed y)) e).1
+    either true c e f h = given (Computed structs op.Sub x y) (value_of (rule.common_type (rule.decayed_type x) (rule.decayed_type y))) z
+        (numbers_operate structs op.Sub x y (rule.common_type (rule.decayed_type x) (rule.decayed_type y))
+        (and_parts (is_arithmetic (rule.decayed_type x)) (is_arithmetic (rule.decayed_type y)) e).0
+        (and_parts (is_arithmetic (rule.decayed_type x)) (is_arithmetic (rule.decayed_type y)) e).1
         (λ k l i j. rw i (rw j (rw (kind_plain k) (rw (kind_plain l) (common_known structs k l)))))) h
-    either false true e f h = gives_by (Computed structs op.Sub x y) (is_movable structs (rule.decayed x)) (rule.decayed x) z
-        (λ m. sub_left (known structs x) (known structs y) (known structs (rule.decayed x)) (movable_pointing structs x m) (s m)
+    either false true e f h = gives_by (Computed structs op.Sub x y) (is_movable structs (rule.decayed_type x)) (rule.decayed_type x) z
+        (λ m. sub_left (known structs x) (known structs y) (known structs (rule.decayed_type x)) (movable_pointing structs x m) (s m)
         (arithmetic_number structs y f)
         (decayed_pointing structs x (movable_pointing structs x m))) h
-    either false false e f h = gives_by (Computed structs op.Sub x y) (is_movable structs (rule.decayed x) && same_type (rule.decayed x)
-        (rule.decayed y)) t.Int z
-        (λ m. let parts : (is_movable structs (rule.decayed x) ≡ true) × (same_type (rule.decayed x) (rule.decayed y) ≡ true) =
-        and_parts (is_movable structs (rule.decayed x)) (same_type (rule.decayed x) (rule.decayed y)) m in
+    either false false e f h = gives_by (Computed structs op.Sub x y) (is_movable structs (rule.decayed_type x) && same_type (rule.decayed_type x)
+        (rule.decayed_type y)) t.Int z
+        (λ m. let parts : (is_movable structs (rule.decayed_type x) ≡ true) × (same_type (rule.decayed_type x) (rule.decayed_type y) ≡ true) =
+        and_parts (is_movable structs (rule.decayed_type x)) (same_type (rule.decayed_type x) (rule.decayed_type y)) m in
         span (known structs x) (known structs y) (movable_pointing structs x parts.0) (s parts.0)
-        (pointer_pointing structs y (same_pointers (rule.decayed x) (rule.decayed y) (movable_pointer structs (rule.decayed x) parts.0) parts.1))) h
+        (pointer_pointing structs y (same_pointers (rule.decayed_type x) (rule.decayed_type y) (movable_pointer structs (rule.decayed_type x) parts.0) parts.1))) h
 
 -- comparisons
 pub pointers_compared : (o : Binary) (r : Order) → ((size : ℕ) → on_pointers o size ≡ Ordered r) → (u v : Option ValueType) → IsPointing u → IsPointing v
@@ -277,20 +277,20 @@ numbers_compared o e u v h i = absurd h
 -- an order, of two numbers or two pointers of one type
 pub ordered_fits : (structs : List StructType) (o : Binary) (r : Order) → ((size : ℕ) → on_pointers o size ≡ Ordered r)
     → ((k : Kind) → kind_given o k ≡ kind.Int)
-    → (x y : TypeTree) (z : Operand) → Is (ordered (rule.decayed x) (rule.decayed y)) z → Computed structs o x y z
+    → (x y : TypeTree) (z : Operand) → Is (typed_relation (rule.decayed_type x) (rule.decayed_type y)) z → Computed structs o x y z
 ordered_fits structs o r e f x y z h =
-    gives_by (Computed structs o x y) (both_arithmetic (rule.decayed x) (rule.decayed y) ||
-    (is_pointer (rule.decayed x) && same_type (rule.decayed x) (rule.decayed y))) t.Int z
-    (λ m. either (both_arithmetic (rule.decayed x) (rule.decayed y)) refl m) h
+    gives_by (Computed structs o x y) (both_arithmetic (rule.decayed_type x) (rule.decayed_type y) ||
+    (is_pointer (rule.decayed_type x) && same_type (rule.decayed_type x) (rule.decayed_type y))) t.Int z
+    (λ m. either (both_arithmetic (rule.decayed_type x) (rule.decayed_type y)) refl m) h
   where
-    either : (b : Bool) → both_arithmetic (rule.decayed x) (rule.decayed y) ≡ b
-        → (b || (is_pointer (rule.decayed x) && same_type (rule.decayed x) (rule.decayed y))) ≡ true
+    either : (b : Bool) → both_arithmetic (rule.decayed_type x) (rule.decayed_type y) ≡ b
+        → (b || (is_pointer (rule.decayed_type x) && same_type (rule.decayed_type x) (rule.decayed_type y))) ≡ true
         → Computed structs o x y (value_of t.Int)
     either true b m = numbers_compared o f (known structs x) (known structs y) (arithmetic_number structs x
-        (and_parts (is_arithmetic (rule.decayed x)) (is_arithmetic (rule.decayed y)) b).0)
-        (arithmetic_number structs y (and_parts (is_arithmetic (rule.decayed x)) (is_arithmetic (rule.decayed y)) b).1)
+        (and_parts (is_arithmetic (rule.decayed_type x)) (is_arithmetic (rule.decayed_type y)) b).0)
+        (arithmetic_number structs y (and_parts (is_arithmetic (rule.decayed_type x)) (is_arithmetic (rule.decayed_type y)) b).1)
     either false b m =
-        let parts : (is_pointer (rule.decayed x) ≡ true) × (same_type (rule.decayed x) (rule.decayed y) ≡ true) = and_parts (is_pointer (rule.decayed x))
-        (same_type (rule.decayed x) (rule.decayed y)) m in
+        let parts : (is_pointer (rule.decayed_type x) ≡ true) × (same_type (rule.decayed_type x) (rule.decayed_type y) ≡ true) = and_parts (is_pointer (rule.decayed_type x))
+        (same_type (rule.decayed_type x) (rule.decayed_type y)) m in
         pointers_compared o r e (known structs x) (known structs y) (pointer_pointing structs x parts.0)
-        (pointer_pointing structs y (same_pointers (rule.decayed x) (rule.decayed y) parts.0 parts.1))
+        (pointer_pointing structs y (same_pointers (rule.decayed_type x) (rule.decayed_type y) parts.0 parts.1))

@@ -1,5 +1,5 @@
 -- What the rules on calls and formats accept, the rules on values take.
-use Rattle.std.proofs.Common.{◌≡◌, ℕ, suc, refl, sym, ◌∙◌, arith, List, [], ◌∷◌, Some, Ok, Err, Bool, true, false, length}
+use Rattle.std.proofs.Common.{◌≡◌, ℕ, refl, sym, ◌∙◌, arith, List, [], ◌∷◌, Some, Ok, Err, Bool, true, false, length}
 use Rattle.std.proofs.lemmas.Bool.{false≢true, true≢false, and_parts}
 use Rattle.std.proofs.lemmas.Bool.Decides.{nat_tests}
 use Rattle.std.specs.Prelude.{map, ◌==◌, ◌&&◌, if◌then◌else◌}
@@ -11,7 +11,7 @@ use Rattle.c_types_rules.specs.declared.function.FunctionType.{FunctionType}
 use Rattle.c_types_rules.specs.declared.layout.StructType.{StructType}
 use Rattle.c_types_rules.specs.declared.operand.Operand.{Operand}
 use Rattle.c_types_rules.specs.TypeTree as t
-use Rattle.c_types_rules.specs.Words.{TypeTree, same_type, assignable, fits_parameters, is_arithmetic, is_pointer, value_of, called, after_first, are_none}
+use Rattle.c_types_rules.specs.Words.{TypeTree, same_type, is_assignable, fits_parameters, is_arithmetic, is_pointer, value_of, typed_call, after_first, are_none}
 use Rattle.c_types_rules.specs.Words.{first_converts, fits_format, fits_letter}
 use Rattle.c_types_rules.specs.Conversions as rule
 use Rattle.c_meaning.specs.declared.value_type.ValueType.{ValueType}
@@ -34,7 +34,7 @@ parameters_fit structs [] [] h = tt
 parameters_fit structs [] (x ∷ xs) h = absurd (suc_not_zero (length xs) h)
 parameters_fit structs (p ∷ params) [] h = absurd (false≢true h)
 parameters_fit structs (p ∷ params) (x ∷ xs) h =
-    let parts : (assignable p x ≡ true) × (fits_parameters params xs ≡ true) = and_parts (assignable p x) (fits_parameters params xs) h in
+    let parts : (is_assignable p x ≡ true) × (fits_parameters params xs ≡ true) = and_parts (is_assignable p x) (fits_parameters params xs) h in
     (assignable_taken structs p x parts.0, parameters_fit structs params xs parts.1)
 
 called_by : (structs : List StructType) (f : FunctionType) (xs : List Operand) (z : Operand) (b : Bool) → fits_parameters f.params xs ≡ b
@@ -45,7 +45,7 @@ called_by structs f xs z true e h = given (λ z. AllTaken structs (map (computed
 called_by structs f xs z false e h = cc
 
 -- a call of a function
-pub called_fits : (structs : List StructType) (f : FunctionType) (xs : List Operand) (z : Operand) → Is (called f xs) z
+pub called_fits : (structs : List StructType) (f : FunctionType) (xs : List Operand) (z : Operand) → Is (typed_call f xs) z
     → AllTaken structs (map (computed_type structs) f.params) xs × (z.ctype ≡ f.gives)
 called_fits structs f xs z h = called_by structs f xs z (fits_parameters f.params xs) refl h
 

@@ -14,8 +14,8 @@ use Rattle.c_types_rules.specs.declared.fault.FaultKind.TheVariants as fault
 use Rattle.c_types_rules.specs.declared.layout.StructType.{StructType}
 use Rattle.c_types_rules.specs.declared.operand.Operand.{Operand}
 use Rattle.c_types_rules.specs.TypeTree as t
-use Rattle.c_types_rules.specs.Words.{TypeTree, assignable, assigned, is_left_side, pointers_join, pointers_meet, is_arithmetic, is_array, is_pointer, of_kind}
-use Rattle.c_types_rules.specs.Words.{value_of, Looked, ◌>>=◌, both_arithmetic, combined, equated, gives, is_movable, common_kind, promoted_kind}
+use Rattle.c_types_rules.specs.Words.{TypeTree, is_assignable, typed_simple_assignment, is_left_side, pointers_join, pointers_meet, is_arithmetic, is_array, is_pointer}
+use Rattle.c_types_rules.specs.Words.{value_of, OperandOrFault, ◌>>=◌, both_arithmetic, typed_binary_operation, typed_equality, value_if_operands_fit, is_movable, common_kind, promoted_kind}
 use Rattle.c_types_rules.specs.Conversions as rule
 use Rattle.c_meaning.specs.declared.operation.Operation.{Operation}
 use Rattle.c_meaning.specs.declared.operation.Operation.TheVariants.{Numbers, MoveLeft, MoveRight, Span, Ordered, Wrong}
@@ -29,20 +29,20 @@ use Rattle.c_meaning_laws.proofs.Ruled.{kind_plain, known, numbers_compared, num
 
 -- operators on numbers alone
 calculated_fits : (structs : List StructType) (o : Binary) → ((k l : Kind) → kind_given o (left_kind o k l) ≡ common_kind k l) → (x y : TypeTree) (z : Operand)
-    → Is (gives (both_arithmetic (rule.decayed x) (rule.decayed y)) (rule.common (rule.decayed x) (rule.decayed y))) z → Computed structs o x y z
+    → Is (value_if_operands_fit (both_arithmetic (rule.decayed_type x) (rule.decayed_type y)) (rule.common_type (rule.decayed_type x) (rule.decayed_type y))) z → Computed structs o x y z
 calculated_fits structs o e x y z h =
-    gives_by (Computed structs o x y) (both_arithmetic (rule.decayed x) (rule.decayed y)) (rule.common (rule.decayed x) (rule.decayed y)) z
-    (λ m. numbers_operate structs o x y (rule.common (rule.decayed x) (rule.decayed y)) (and_parts (is_arithmetic (rule.decayed x))
-    (is_arithmetic (rule.decayed y)) m).0
-    (and_parts (is_arithmetic (rule.decayed x)) (is_arithmetic (rule.decayed y)) m).1
+    gives_by (Computed structs o x y) (both_arithmetic (rule.decayed_type x) (rule.decayed_type y)) (rule.common_type (rule.decayed_type x) (rule.decayed_type y)) z
+    (λ m. numbers_operate structs o x y (rule.common_type (rule.decayed_type x) (rule.decayed_type y)) (and_parts (is_arithmetic (rule.decayed_type x))
+    (is_arithmetic (rule.decayed_type y)) m).0
+    (and_parts (is_arithmetic (rule.decayed_type x)) (is_arithmetic (rule.decayed_type y)) m).1
     (λ k l i j. rw i (rw j (rw (kind_plain k) (rw (kind_plain l) (common_known structs k l ∙ ap (λ a. type.Number a) (sym (e k l)))))))) h
 
 shifted_fits : (structs : List StructType) (o : Binary) → ((k l : Kind) → kind_given o (left_kind o k l) ≡ promoted_kind k) → (x y : TypeTree) (z : Operand)
-    → Is (gives (both_arithmetic (rule.decayed x) (rule.decayed y)) (rule.promoted (rule.decayed x))) z → Computed structs o x y z
+    → Is (value_if_operands_fit (both_arithmetic (rule.decayed_type x) (rule.decayed_type y)) (rule.promoted_type (rule.decayed_type x))) z → Computed structs o x y z
 shifted_fits structs o e x y z h =
-    gives_by (Computed structs o x y) (both_arithmetic (rule.decayed x) (rule.decayed y)) (rule.promoted (rule.decayed x)) z
-    (λ m. numbers_operate structs o x y (rule.promoted (rule.decayed x)) (and_parts (is_arithmetic (rule.decayed x)) (is_arithmetic (rule.decayed y)) m).0
-    (and_parts (is_arithmetic (rule.decayed x)) (is_arithmetic (rule.decayed y)) m).1
+    gives_by (Computed structs o x y) (both_arithmetic (rule.decayed_type x) (rule.decayed_type y)) (rule.promoted_type (rule.decayed_type x)) z
+    (λ m. numbers_operate structs o x y (rule.promoted_type (rule.decayed_type x)) (and_parts (is_arithmetic (rule.decayed_type x)) (is_arithmetic (rule.decayed_type y)) m).0
+    (and_parts (is_arithmetic (rule.decayed_type x)) (is_arithmetic (rule.decayed_type y)) m).1
     (λ k l i j. rw i (rw (kind_plain k) (promoted_known structs k ∙ ap (λ a. type.Number a) (sym (e k l)))))) h
 
 -- no equality
@@ -53,11 +53,11 @@ IsNoEquality o = Unit {0}
 
 -- the pointers among the operands can be moved where their types are complete
 abbrev pub StepsKnown : List StructType → TypeTree → Type 0
-StepsKnown structs x = is_movable structs (rule.decayed x) ≡ true → HasStep (known structs x)
+StepsKnown structs x = is_movable structs (rule.decayed_type x) ≡ true → HasStep (known structs x)
 
 -- an operator that is no equality, of a chain or of a compound assignment
 pub combined_fits : (structs : List StructType) (o : Binary) → IsNoEquality o → (x y z : Operand) → StepsKnown structs x.ctype → StepsKnown structs y.ctype
-    → Is (combined structs o x y) z → Computed structs o x.ctype y.ctype z
+    → Is (typed_binary_operation structs o x y) z → Computed structs o x.ctype y.ctype z
 combined_fits structs op.Add n x y z s r h = added_fits structs x.ctype y.ctype z s r h
 combined_fits structs op.Sub n x y z s r h = subtracted_fits structs x.ctype y.ctype z s h
 combined_fits structs op.Shl n x y z s r h = shifted_fits structs op.Shl (λ k l. refl) x.ctype y.ctype z h
@@ -144,7 +144,7 @@ Equated structs o x y z =
 
 pub equated_fits : (structs : List StructType) (o : Binary) (r : Order) → ((size : ℕ) → on_pointers o size ≡ Ordered r)
     → ((k : Kind) → kind_given o k ≡ kind.Int) → (x y z : Operand)
-    → Is (equated x y) z → Equated structs o x y z
+    → Is (typed_equality x y) z → Equated structs o x y z
 equated_fits structs o r e f x y z h =
     gives_by (Equated structs o x y) (both_arithmetic (rule.value_type x) (rule.value_type y) || pointers_join x y) t.Int z
     (λ m. either (both_arithmetic (rule.value_type x) (rule.value_type y)) refl m) h
@@ -163,18 +163,18 @@ equated_fits structs o r e f x y z h =
         pointers_compared o r e _ _ p.0 p.1
 
 -- assignments
-pub bind_by : (P : Operand → Type 0) (r : Looked) (next : Operand → Looked) (z : Operand) → ((a : Operand) → Is r a → Is (next a) z → P z) → Is (r >>= next) z
+pub bind_by : (P : Operand → Type 0) (r : OperandOrFault) (next : Operand → OperandOrFault) (z : Operand) → ((a : Operand) → Is r a → Is (next a) z → P z) → Is (r >>= next) z
     → P z
 bind_by P (Ok a) next z k h = k a refl h
 bind_by P (Err f) next z k h = cc
 
 -- what an assignment asks of its left side, and gives
 pub record Assigned (target x z : Operand) : Type 0 where
-  pub fits : assignable (rule.value_type target) x ≡ true
+  pub fits : is_assignable (rule.value_type target) x ≡ true
   pub side : is_left_side target ≡ true
   pub gives : z ≡ value_of (rule.value_type target)
 
-assigned_by : (target x z : Operand) (a b : Bool) → assignable (rule.value_type target) x ≡ a → is_left_side target ≡ b
+assigned_by : (target x z : Operand) (a b : Bool) → is_assignable (rule.value_type target) x ≡ a → is_left_side target ≡ b
     → Is (if a then if b then Ok (value_of (rule.value_type target)) else Err fault.NoPlace else Err fault.Operands) z → Assigned target x z
 assigned_by target x z true true e f h = given (λ y. Assigned target x y) (value_of (rule.value_type target)) z (record {
   fits = e;
@@ -185,11 +185,11 @@ assigned_by target x z true true e f h = given (λ y. Assigned target x y) (valu
 assigned_by target x z true false e f h = cc
 assigned_by target x z false b e f h = cc
 
-pub assigned_is : (target x z : Operand) → Is (assigned target x) z → Assigned target x z
-assigned_is target x z h = assigned_by target x z (assignable (rule.value_type target) x) (is_left_side target) refl refl h
+pub assigned_is : (target x z : Operand) → Is (typed_simple_assignment target x) z → Assigned target x z
+assigned_is target x z h = assigned_by target x z (is_assignable (rule.value_type target) x) (is_left_side target) refl refl h
 
 -- a left side is no array, so its value has its own type
-left_type : (of : TypeTree) → is_array of ≡ false → rule.decayed of ≡ of
+left_type : (of : TypeTree) → is_array of ≡ false → rule.decayed_type of ≡ of
 left_type (t.Array element size) h = absurd (true≢false h)
 left_type of h = refl
 
@@ -197,7 +197,7 @@ pub side_type : (target : Operand) → is_left_side target ≡ true → rule.val
 side_type target h = left_type target.ctype (not-true (is_array target.ctype) (and_parts target.place (not (is_array target.ctype)) h).1)
 
 -- `=`
-pub assignment_fits : (structs : List StructType) (target x z : Operand) → Is (assigned target x) z
+pub assignment_fits : (structs : List StructType) (target x z : Operand) → Is (typed_simple_assignment target x) z
     → (target.place ≡ true) × (z.ctype ≡ target.ctype) × TakesOrNull (mean.is_pointer_value (known structs target.ctype) && x.null) (known structs target.ctype)
     (known structs x.ctype)
 assignment_fits structs target x z h =

@@ -10,12 +10,12 @@ use Rattle.c_types_rules.specs.declared.fault.FaultKind.TheVariants as fault
 use Rattle.c_types_rules.specs.declared.layout.StructType.{StructType}
 use Rattle.c_types_rules.specs.declared.operand.Operand.{Operand}
 use Rattle.c_types_rules.specs.TypeTree as t
-use Rattle.c_types_rules.specs.Words.{TypeTree, same_type, assignable, assigned, is_left_side, pointers_join, pointers_meet, is_arithmetic, is_array}
-use Rattle.c_types_rules.specs.Words.{is_pointer, is_void, is_void_pointer, place_of, value_of, added, both_arithmetic, cast_to, combined, compounded, gives}
-use Rattle.c_types_rules.specs.Words.{is_movable, is_scalar_value, signed, stepped, chosen, either, indexed, joined_pointer, pointed, pointed_type}
+use Rattle.c_types_rules.specs.Words.{TypeTree, same_type, is_assignable, typed_simple_assignment, is_left_side, pointers_join, pointers_meet, is_arithmetic, is_array}
+use Rattle.c_types_rules.specs.Words.{is_pointer, is_void, is_void_pointer, place_of, value_of, typed_sum, both_arithmetic, cast_to, typed_binary_operation, typed_compound_assignment, value_if_operands_fit}
+use Rattle.c_types_rules.specs.Words.{is_movable, is_scalar_value, typed_unary_arithmetic, typed_increment, typed_conditional, typed_alternatives, typed_subscript, joined_pointer, typed_indirection, pointed_type}
 use Rattle.c_types_rules.specs.Conversions as rule
 use Rattle.c_meaning.specs.declared.operation.Operation.{Operation}
-use Rattle.c_meaning.specs.declared.operation.Operation.TheVariants.{Numbers, MoveLeft, MoveRight, Span, Ordered, Wrong}
+use Rattle.c_meaning.specs.declared.operation.Operation.TheVariants.{MoveLeft, MoveRight, Wrong}
 use Rattle.c_meaning.specs.declared.value_type.ValueType.{ValueType}
 use Rattle.c_meaning.specs.declared.value_type.ValueType.TheVariants as type
 use Rattle.c_meaning.specs.Conversions as mean
@@ -26,15 +26,15 @@ use Rattle.c_meaning_laws.proofs.Ruled.{gives_by, known, number_takes, pointer_p
 use Rattle.c_meaning_laws.proofs.RuledOperators.{IsNoEquality, StepsKnown, assignment_fits, bind_by, changes, combined_fits, side_type}
 
 -- what an operator gives is no null constant
-given_plain : (fits : Bool) (of : TypeTree) (z : Operand) → Is (gives fits of) z → z.null ≡ false
+given_plain : (fits : Bool) (of : TypeTree) (z : Operand) → Is (value_if_operands_fit fits of) z → z.null ≡ false
 given_plain fits of z h = gives_by (λ y. y.null ≡ false) fits of z (λ _. refl) h
 
-one_of_plain : (b c f g : Bool) (u v w : TypeTree) (z : Operand) → Is (if b then Ok (value_of u) else if c then gives f v else gives g w) z → z.null ≡ false
+one_of_plain : (b c f g : Bool) (u v w : TypeTree) (z : Operand) → Is (if b then Ok (value_of u) else if c then value_if_operands_fit f v else value_if_operands_fit g w) z → z.null ≡ false
 one_of_plain true c f g u v w z h = given (λ y. y.null ≡ false) (value_of u) z refl h
 one_of_plain false true f g u v w z h = given_plain f v z h
 one_of_plain false false f g u v w z h = given_plain g w z h
 
-combined_plain : (structs : List StructType) (o : Binary) (x y z : Operand) → Is (combined structs o x y) z → z.null ≡ false
+combined_plain : (structs : List StructType) (o : Binary) (x y z : Operand) → Is (typed_binary_operation structs o x y) z → z.null ≡ false
 combined_plain structs op.Add x y z h = one_of_plain (both_arithmetic (rule.value_type x) (rule.value_type y)) (is_arithmetic
     (rule.value_type y)) _ _ _ _ _ z h
 combined_plain structs op.Sub x y z h = one_of_plain (both_arithmetic (rule.value_type x) (rule.value_type y)) (is_arithmetic
@@ -49,13 +49,13 @@ taken_plain true true u v e h = absurd (true≢false e)
 -- a compound assignment
 pub compounded_fits : (structs : List StructType) (o : Binary) → IsNoEquality o → (target x z : Operand) → StepsKnown structs target.ctype
     → StepsKnown structs x.ctype
-    → Is (compounded structs o target x) z
+    → Is (typed_compound_assignment structs o target x) z
     → (target.place ≡ true) × (z.ctype ≡ target.ctype) × Changes (operation o (known structs target.ctype) (known structs x.ctype))
     (known structs target.ctype) (known structs x.ctype)
 compounded_fits structs o n target x z s r h =
     bind_by (λ z. (target.place ≡ true) × (z.ctype ≡ target.ctype) × Changes (operation o (known structs target.ctype) (known structs x.ctype))
     (known structs target.ctype) (known structs x.ctype))
-    (combined structs o target x) (assigned target) z
+    (typed_binary_operation structs o target x) (typed_simple_assignment target) z
     (λ a c d. let left : (target.place ≡ true) × (z.ctype ≡ target.ctype) × TakesOrNull (mean.is_pointer_value (known structs target.ctype) && a.null)
     (known structs target.ctype) (known structs a.ctype) =
     assignment_fits structs target a z d in (
@@ -106,26 +106,26 @@ stepped_by structs is_up x z s true b false e f g h = cc
 stepped_by structs is_up x z s false true false e f g h = cc
 stepped_by structs is_up x z s false false c e f g h = cc
 
-pub stepped_fits : (structs : List StructType) (is_up : Bool) (x z : Operand) → StepsKnown structs x.ctype → Is (stepped structs x) z
+pub stepped_fits : (structs : List StructType) (is_up : Bool) (x z : Operand) → StepsKnown structs x.ctype → Is (typed_increment structs x) z
     → Stepped structs is_up x z
 stepped_fits structs is_up x z s h =
     stepped_by structs is_up x z s (is_arithmetic (rule.value_type x)) (is_movable structs (rule.value_type x)) (is_left_side x) refl refl refl h
 
 -- unary `+`, `-` and `~`
-promoted_known : (structs : List StructType) (of : TypeTree) → is_arithmetic of ≡ true → IsPromoted (known structs (rule.promoted of))
+promoted_known : (structs : List StructType) (of : TypeTree) → is_arithmetic of ≡ true → IsPromoted (known structs (rule.promoted_type of))
 promoted_known structs t.Char h = tt
 promoted_known structs t.Int h = tt
 promoted_known structs t.Unsigned h = tt
 promoted_known structs of h = absurd (false≢true h)
 
-pub signed_fits : (structs : List StructType) (x z : Operand) → Is (signed x) z → IsNumberType (known structs x.ctype) × IsPromoted (known structs z.ctype)
+pub signed_fits : (structs : List StructType) (x z : Operand) → Is (typed_unary_arithmetic x) z → IsNumberType (known structs x.ctype) × IsPromoted (known structs z.ctype)
 signed_fits structs x z h =
     gives_by (λ z. IsNumberType (known structs x.ctype) × IsPromoted (known structs z.ctype)) (is_arithmetic (rule.value_type x))
-    (rule.promoted (rule.value_type x)) z
+    (rule.promoted_type (rule.value_type x)) z
     (λ m. (arithmetic_number structs x.ctype m, promoted_known structs (rule.value_type x) m)) h
 
 -- casts
-cast_taken : (structs : List StructType) (of : TypeTree) (x : Operand) → (is_void of || assignable of x) ≡ true
+cast_taken : (structs : List StructType) (of : TypeTree) (x : Operand) → (is_void of || is_assignable of x) ≡ true
     → Casts (mean.is_pointer_value (known structs of) && x.null) (known structs of) (known structs x.ctype)
 cast_taken structs t.Void x h = tt
 cast_taken structs of x h = assignable_taken structs of x h
@@ -134,7 +134,7 @@ pub cast_fits : (structs : List StructType) (of : TypeTree) (x z : Operand) → 
     → (z.ctype ≡ of) × Casts (mean.is_pointer_value (known structs of) && x.null) (known structs of) (known structs x.ctype)
 cast_fits structs of x z h =
     gives_by (λ z. (z.ctype ≡ of) × Casts (mean.is_pointer_value (known structs of) && x.null) (known structs of) (known structs x.ctype))
-    (is_void of || assignable of x) of z
+    (is_void of || is_assignable of x) of z
     (λ m. (refl, cast_taken structs of x m)) h
 
 -- places that pointers lead to
@@ -154,7 +154,7 @@ pointed_known structs (t.Pointer to) z h =
     (refl, p.0, p.1)
 pointed_known structs of z h = cc
 
-pub pointed_fits : (structs : List StructType) (x z : Operand) → Is (pointed x) z → IsPointing (known structs x.ctype) × (z.place ≡ true)
+pub pointed_fits : (structs : List StructType) (x z : Operand) → Is (typed_indirection x) z → IsPointing (known structs x.ctype) × (z.place ≡ true)
     × IsObject (known structs z.ctype)
 pointed_fits structs x z h =
     let p : (is_pointer (rule.value_type x) ≡ true) × (z.place ≡ true) × IsObject (known structs z.ctype) = pointed_known structs (rule.value_type x) z h in
@@ -170,13 +170,13 @@ moves_of Wrong u v w h p = absurd h
 moves_of o u v w h p = absurd (number_no_place w _ h.2 p)
 
 -- `e[i]`
-pub indexed_fits : (structs : List StructType) (x y z : Operand) → StepsKnown structs x.ctype → StepsKnown structs y.ctype → Is (indexed structs x y) z
+pub indexed_fits : (structs : List StructType) (x y z : Operand) → StepsKnown structs x.ctype → StepsKnown structs y.ctype → Is (typed_subscript structs x y) z
     → Moves (operation op.Add (known structs x.ctype) (known structs y.ctype)) (known structs x.ctype) (known structs y.ctype) × (z.place ≡ true)
     × IsObject (known structs z.ctype)
 indexed_fits structs x y z s r h =
     bind_by (λ z. Moves (operation op.Add (known structs x.ctype) (known structs y.ctype)) (known structs x.ctype) (known structs y.ctype) × (z.place ≡ true)
     × IsObject (known structs z.ctype))
-    (added structs (rule.value_type x) (rule.value_type y)) pointed z
+    (typed_sum structs (rule.value_type x) (rule.value_type y)) typed_indirection z
     (λ a c d. let p : IsPointing (known structs a.ctype) × (z.place ≡ true) × IsObject (known structs z.ctype) = pointed_fits structs a z d in (
       moves_of (operation op.Add (known structs x.ctype) (known structs y.ctype)) (known structs x.ctype) (known structs y.ctype) (known structs a.ctype)
           (added_fits structs x.ctype y.ctype a s r c) p.0,
@@ -270,11 +270,11 @@ abbrev Arms : List StructType → Operand → Operand → Operand → Type 0
 Arms structs x y z = TakesArm structs z.ctype x × TakesArm structs z.ctype y
 
 either_by : (structs : List StructType) (x y z : Operand) (a v : Bool) → both_arithmetic (rule.value_type x) (rule.value_type y) ≡ a
-    → Is (if a then Ok (value_of (rule.common (rule.value_type x) (rule.value_type y))) else if v then Ok (value_of t.Void)
-    else gives (pointers_join x y) (joined_pointer x y)) z
+    → Is (if a then Ok (value_of (rule.common_type (rule.value_type x) (rule.value_type y))) else if v then Ok (value_of t.Void)
+    else value_if_operands_fit (pointers_join x y) (joined_pointer x y)) z
     → Arms structs x y z
 either_by structs x y z true v e h =
-    given (Arms structs x y) (value_of (rule.common (rule.value_type x) (rule.value_type y))) z (
+    given (Arms structs x y) (value_of (rule.common_type (rule.value_type x) (rule.value_type y))) z (
       common_arm structs (rule.is_unsigned (rule.value_type x) || rule.is_unsigned (rule.value_type y)) x
           (and_parts (is_arithmetic (rule.value_type x)) (is_arithmetic (rule.value_type y)) e).0,
       common_arm structs (rule.is_unsigned (rule.value_type x) || rule.is_unsigned (rule.value_type y)) y
@@ -289,7 +289,7 @@ either_by structs x y z false false e h =
       inr (pointer_arm (known structs (joined_pointer x y)) (known structs y.ctype) y.null whole parts.1),
     )) h
 
-chosen_by : (structs : List StructType) (c x y z : Operand) (b : Bool) → is_scalar_value c ≡ b → Is (if b then either x y else Err fault.Operands) z
+chosen_by : (structs : List StructType) (c x y z : Operand) (b : Bool) → is_scalar_value c ≡ b → Is (if b then typed_alternatives x y else Err fault.Operands) z
     → IsValue (known structs c.ctype) × TakesArm structs z.ctype x × TakesArm structs z.ctype y
 chosen_by structs c x y z true e h =
     let arms : Arms structs x y z =
@@ -298,6 +298,6 @@ chosen_by structs c x y z true e h =
 chosen_by structs c x y z false e h = cc
 
 -- `? :`
-pub chosen_fits : (structs : List StructType) (c x y z : Operand) → Is (chosen c x y) z → IsValue (known structs c.ctype) × TakesArm structs z.ctype x
+pub chosen_fits : (structs : List StructType) (c x y z : Operand) → Is (typed_conditional c x y) z → IsValue (known structs c.ctype) × TakesArm structs z.ctype x
     × TakesArm structs z.ctype y
 chosen_fits structs c x y z h = chosen_by structs c x y z (is_scalar_value c) refl h

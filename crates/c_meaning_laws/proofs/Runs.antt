@@ -1,7 +1,6 @@
 -- Calls and whole runs of a text whose types fit.
-use Rattle.std.proofs.Common.{◌≡◌, ℕ, zero, suc, refl, ap, subst, sym, ◌∙◌, arith, List, [], Some, None, Bool, true, false, length}
+use Rattle.std.proofs.Common.{◌≡◌, ℕ, zero, suc, refl, ap, subst, sym, ◌∙◌, List, [], Some, None, Bool, true, false, length}
 use Rattle.std.proofs.lemmas.Bool.{false≢true, true≢false}
-use Rattle.std.proofs.lemmas.Bool.Decides.{nat_tests}
 use Rattle.std.specs.Prelude.{Option, ℤ, pos, ◌==◌, nat_lt, reverse, IsSome, if◌then◌else◌}
 use Rattle.std.specs.List.{list_all}
 use Rattle.cbi_base.specs.Words.{is_defined_value, active_limit, all_made, first_cells, Locals, each_made, Object, Objects, no_objects}
@@ -15,8 +14,8 @@ use Rattle.cbi_base.specs.declared.trap.Trap.TheVariants as trap
 use Rattle.c_syntax.specs.StatementTree.{EntryList}
 use Rattle.c_meaning.specs.declared.value_type.ValueType.{ValueType}
 use Rattle.c_meaning.specs.declared.value_type.ValueType.TheVariants as type
-use Rattle.c_meaning.specs.Words.{Signature, Source, behaves, call_at, enter_function, enter_with, first_world, inside, left_function, locals_at, meaning}
-use Rattle.c_meaning.specs.Words.{run_body, run_from, run_main, setting_of, status, value_left, has_value, World, Out, Go, Stop, Caller, Flow, Next, Broken}
+use Rattle.c_meaning.specs.Words.{Signature, Source, run_behaviour, call_at, enter_function, enter_with, first_world, body_world, left_function, locals_at, meaning}
+use Rattle.c_meaning.specs.Words.{run_body, run_from, run_main, setting_of, exit_behaviour, value_left, has_value, World, Out, Go, Stop, Caller, Flow, Next, Broken}
 use Rattle.c_meaning.specs.Words.{Continued, Returned, bind}
 use Rattle.c_meaning_laws.specs.TypedSource.{GivesInt, SourceFits, TypedBody, without_sites}
 use Rattle.c_meaning_laws.proofs.Safe.{Ending, IsPlainEnd, Safe, gives, plain, seq, spends, unseen}
@@ -74,7 +73,7 @@ module _ (src : Source) (fits : SourceFits src) where
         let body : Safe (FlowFits f.result false) (run_body src call n f (locals_at f w) (src.body number))
         (run_body (without_sites src) call0 n f (locals_at f w) (src.body number)) =
         body_safe f (locals_at f w) (src.body number) refl (fits.bodies number f e)
-        in (body.at (inside objects w), body.same (inside objects w))
+        in (body.at (body_world objects w), body.same (body_world objects w))
 
     enter_end : (number : ℕ) (f : Signature) → src.facts.signature number ≡ Some f → (w : World) (b : Bool) (o : Option Objects)
         → Ending (FlowFits f.result false) (if b then enter_with src call n number f w o else Stop (Trapped trap.StackOverflow) w)
@@ -158,17 +157,17 @@ module _ (src : Source) (fits : SourceFits src) where
   objects_end input turns (Some objects) h = run_end input turns (each_made objects no_objects)
 
 -- how a run ends, and what it wrote
-ended : (k : Kind) (n : ℤ) (w : World) → k ≡ Int → IsPlainEnd (status (Number k n) w).outcome
+ended : (k : Kind) (n : ℤ) (w : World) → k ≡ Int → IsPlainEnd (exit_behaviour (Number k n) w).outcome
 ended k n w e = rw e tt
 
-behaves_plain : (m : Out Scalar) → Ending (Given (Some (type.Number Int))) m → IsPlainEnd (behaves m).outcome
+behaves_plain : (m : Out Scalar) → Ending (Given (Some (type.Number Int))) m → IsPlainEnd (run_behaviour m).outcome
 behaves_plain (Stop outcome w) h = h
 behaves_plain (Go (Number k n) w) h = ended k n w (sym h.0)
 behaves_plain (Go Undefined w) h = absurd (false≢true h.1)
 behaves_plain (Go Null w) h = absurd h.0
 behaves_plain (Go (Place a i) w) h = absurd h.0
 
-outcome_unseen : (m : Out Scalar) → (behaves (unseen m)).outcome ≡ (behaves m).outcome
+outcome_unseen : (m : Out Scalar) → (run_behaviour (unseen m)).outcome ≡ (run_behaviour m).outcome
 outcome_unseen (Stop outcome w) = refl
 outcome_unseen (Go (Number Int n) w) = refl
 outcome_unseen (Go (Number Char n) w) = refl
@@ -177,7 +176,7 @@ outcome_unseen (Go Undefined w) = refl
 outcome_unseen (Go Null w) = refl
 outcome_unseen (Go (Place a i) w) = refl
 
-output_unseen : (m : Out Scalar) → (behaves (unseen m)).output ≡ (behaves m).output
+output_unseen : (m : Out Scalar) → (run_behaviour (unseen m)).output ≡ (run_behaviour m).output
 output_unseen (Stop outcome w) = refl
 output_unseen (Go (Number Int n) w) = refl
 output_unseen (Go (Number Char n) w) = refl
@@ -195,10 +194,10 @@ pub same_outcome : (src : Source) (input : List ℕ) (turns : ℕ) → SourceFit
     ≡ (meaning (without_sites src) input turns).outcome
 unfolding meaning
 same_outcome src input turns fits =
-    sym (outcome_unseen (run_main src input turns src.objects)) ∙ ap (λ m. (behaves m).outcome) (objects_end src fits input turns src.objects fits.objects).1
+    sym (outcome_unseen (run_main src input turns src.objects)) ∙ ap (λ m. (run_behaviour m).outcome) (objects_end src fits input turns src.objects fits.objects).1
 
 pub same_output : (src : Source) (input : List ℕ) (turns : ℕ) → SourceFits src → (meaning src input turns).output
     ≡ (meaning (without_sites src) input turns).output
 unfolding meaning
 same_output src input turns fits =
-    sym (output_unseen (run_main src input turns src.objects)) ∙ ap (λ m. (behaves m).output) (objects_end src fits input turns src.objects fits.objects).1
+    sym (output_unseen (run_main src input turns src.objects)) ∙ ap (λ m. (run_behaviour m).output) (objects_end src fits input turns src.objects fits.objects).1

@@ -7,7 +7,7 @@ use Rattle.cbi_base.specs.declared.outcome.Outcome.TheVariants.{Trapped}
 use Rattle.cbi_base.specs.declared.trap.Trap.{Trap}
 use Rattle.cbi_base.specs.declared.trap.Trap.TheVariants as trap
 use Rattle.cbi_base.specs.Objects.{◌>>=◌}
-use Rattle.c_meaning.specs.World.{World, Out, Go, Stop, bind, answered, choose, done, spend}
+use Rattle.c_meaning.specs.World.{World, Out, Go, Stop, bind, answer_or_trap, chosen_part, value_discarded, one_turn_spent}
 
 -- any trap but Internal
 abbrev pub IsPlain : Trap → Type 0
@@ -62,20 +62,20 @@ seq {P = P} {Q = Q} {m = m} {f = f} {f0 = f0} h k = record {
   same = λ w. same_bind P Q (m w) f f0 (h.at w) k ∙ ap (λ o. bind o f0) (h.same w);
 }
 
-ends_answered : {A : Type 0} (P : A → Type 0) (r : Result A Trap) (w : World) → Calm P r → Ending P (answered r w)
+ends_answered : {A : Type 0} (P : A → Type 0) (r : Result A Trap) (w : World) → Calm P r → Ending P (answer_or_trap r w)
 ends_answered P (Ok x) w h = h
 ends_answered P (Err t) w h = h
 
-same_answered : {A : Type 0} (r : Result A Trap) (w : World) → unseen (answered r w) ≡ answered r (plain w)
+same_answered : {A : Type 0} (r : Result A Trap) (w : World) → unseen (answer_or_trap r w) ≡ answer_or_trap r (plain w)
 same_answered (Ok x) w = refl
 same_answered (Err t) w = refl
 
 -- the answer of an operation on what no site sees
 pub answers : {A : Type 0} {P : A → Type 0} (r : World → Result A Trap) → ((w : World) → r w ≡ r (plain w)) → ((w : World) → Calm P (r w))
-    → Safe P (λ w. answered (r w) w) (λ w. answered (r w) w)
+    → Safe P (λ w. answer_or_trap (r w) w) (λ w. answer_or_trap (r w) w)
 answers {P = P} r e h = record {
   at = λ w. ends_answered P (r w) w (h w);
-  same = λ w. same_answered (r w) w ∙ ap (λ q. answered q (plain w)) (e w);
+  same = λ w. same_answered (r w) w ∙ ap (λ q. answer_or_trap q (plain w)) (e w);
 }
 
 pub gives : {A : Type 0} {P : A → Type 0} (x : A) → P x → Safe P (λ w. Go x w) (λ w. Go x w)
@@ -85,12 +85,12 @@ gives x h = record { at = λ w. h; same = λ w. refl }
 pub stops : {A : Type 0} {P : A → Type 0} (o : Outcome) → IsPlainEnd o → Safe P (λ w. Stop o w) (λ w. Stop o w)
 stops o h = record { at = λ w. h; same = λ w. refl }
 
-pub chosen : {A : Type 0} {P : A → Type 0} {f f0 g g0 : World → Out A} (b : Bool) → Safe P f f0 → Safe P g g0 → Safe P (choose b f g) (choose b f0 g0)
+pub chosen : {A : Type 0} {P : A → Type 0} {f f0 g g0 : World → Out A} (b : Bool) → Safe P f f0 → Safe P g g0 → Safe P (chosen_part b f g) (chosen_part b f0 g0)
 chosen true h k = h
 chosen false h k = k
 
 pub chosen_true : {A : Type 0} {P : A → Type 0} {f f0 : World → Out A} (g g0 : World → Out A) (b : Bool) → b ≡ true → Safe P f f0
-    → Safe P (choose b f g) (choose b f0 g0)
+    → Safe P (chosen_part b f g) (chosen_part b f0 g0)
 chosen_true g g0 true e h = h
 chosen_true g g0 false e h = absurd (false≢true e)
 
@@ -101,7 +101,7 @@ ends_map P Q (Stop o w) f h = h
 pub weaker : {A : Type 0} {P Q : A → Type 0} {m m0 : World → Out A} → ((x : A) → P x → Q x) → Safe P m m0 → Safe Q m m0
 weaker {P = P} {Q = Q} {m = m} f h = record { at = λ w. ends_map P Q (m w) f (h.at w); same = h.same }
 
-pub done_safe : {A : Type 0} {P : A → Type 0} {m m0 : World → Out A} → Safe P m m0 → Safe Any (λ w. done (m w)) (λ w. done (m0 w))
+pub done_safe : {A : Type 0} {P : A → Type 0} {m m0 : World → Out A} → Safe P m m0 → Safe Any (λ w. value_discarded (m w)) (λ w. value_discarded (m0 w))
 done_safe h = seq h (λ x p. gives tt tt)
 
 -- results
@@ -119,10 +119,10 @@ calm_map P Q (Ok x) f h = f x h
 calm_map P Q (Err t) f h = h
 
 spent : {A : Type 0} (P : A → Type 0) (turns : ℕ) (u : World) (go go0 : World → Out A) → Safe P go go0
-    → Ending P (spend turns u go) × (unseen (spend turns u go) ≡ spend turns (plain u) go0)
+    → Ending P (one_turn_spent turns u go) × (unseen (one_turn_spent turns u go) ≡ one_turn_spent turns (plain u) go0)
 spent P zero u go go0 h = (tt, refl)
 spent P (suc turns) u go go0 h = (h.at (record u { turns = turns }), h.same (record u { turns = turns }))
 
 -- a part behind a turn that is spent
-pub spends : {A : Type 0} {P : A → Type 0} (go go0 : World → Out A) → Safe P go go0 → Safe P (λ w. spend w.turns w go) (λ w. spend w.turns w go0)
+pub spends : {A : Type 0} {P : A → Type 0} (go go0 : World → Out A) → Safe P go go0 → Safe P (λ w. one_turn_spent w.turns w go) (λ w. one_turn_spent w.turns w go0)
 spends {P = P} go go0 h = record { at = λ w. (spent P w.turns w go go0 h).0; same = λ w. (spent P w.turns w go go0 h).1 }

@@ -16,10 +16,10 @@ use Rattle.flow.specs.declared.site.Slot.{Slot}
 use Rattle.c_meaning.specs.declared.operation.Operation.{Operation}
 use Rattle.c_meaning.specs.declared.value_type.ValueType.{ValueType}
 use Rattle.c_meaning.specs.declared.value_type.ValueType.TheVariants as type
-use Rattle.c_meaning.specs.Words.{is_null_as, load_at, Sense, valued, placed, effected, is_struct_value, null_or, arm_value, arm_effect, handed_value, cast}
-use Rattle.c_meaning.specs.Words.{as_flag, size_value, one_operand, linked, assign, conditional, prefixed_sense, Facts, Setting, flag_value, operation}
-use Rattle.c_meaning.specs.Words.{type_given, changed, pointed_place, stepped_behind, stepped_value, Assignment, Plain, By, Joint, Both, Either, Computes}
-use Rattle.c_meaning.specs.Words.{Unjoined, is_place, one_kind, operand_type, step_of, token_of, type_of, World, Out, OutDone, Caller, choose, done, nothing}
+use Rattle.c_meaning.specs.Words.{is_null_as, load_at, Sense, sense_of_value, sense_of_place, sense_of_effect, is_struct_value, null_or, arm_value, arm_effect, handed_value, cast_sense}
+use Rattle.c_meaning.specs.Words.{as_flag, size_value, one_operand, value_after_link, assigned_value, conditional, prefixed_sense, Facts, Setting, flag_value, operation}
+use Rattle.c_meaning.specs.Words.{type_given, compound_result_stored, pointed_place, stepped_behind, stepped_value, Assignment, Plain, By, Joint, Both, Either, Computes}
+use Rattle.c_meaning.specs.Words.{Unjoined, is_place, one_kind, operand_type, step_of, token_of, type_of, World, Out, OutDone, Caller, chosen_part, value_discarded, no_effect}
 use Rattle.c_meaning_laws.specs.Rules.{Arm, Assigns, Casts, Changes, IsNumberType, IsObject, IsPromoted, IsValue, Joins, TakesOrNull}
 use Rattle.c_meaning_laws.specs.Typed.{PairsFit, Prefixes, Steps, variable_named}
 use Rattle.c_meaning_laws.specs.TypedSource.{SitesFit}
@@ -37,22 +37,22 @@ pub record SenseSafe (locals : Locals) (t : Option ValueType) (known : Bool) (sl
   pub effect : Safe Any m.effect m0.effect
 
 pub valued_safe : {locals : Locals} {t : Option ValueType} {slot : Option Slot} {m m0 : World → Out Scalar} → Safe (Fits t) m m0
-    → SenseSafe locals t false slot (valued m) (valued m0)
+    → SenseSafe locals t false slot (sense_of_value m) (sense_of_value m0)
 valued_safe h = record { value = λ _. h; place = λ i. absurd (false≢true i); effect = done_safe h }
 
 pub effected_safe : {locals : Locals} {slot : Option Slot} {m m0 : World → OutDone} (t : Option ValueType) → (IsValue t → ⊥) → Safe Any m m0
-    → SenseSafe locals t false slot (effected m) (effected m0)
+    → SenseSafe locals t false slot (sense_of_effect m) (sense_of_effect m0)
 effected_safe t n h = record { value = λ l. absurd (n l); place = λ i. absurd (false≢true i); effect = h }
 
 object_effect : (t : Option ValueType) (v : Scalar) → IsObject t → IsAt v
-    → Safe Any (choose (is_struct_value t) nothing (λ u. done (load_at t v u))) (choose (is_struct_value t) nothing (λ u. done (load_at t v u)))
+    → Safe Any (chosen_part (is_struct_value t) no_effect (λ u. value_discarded (load_at t v u))) (chosen_part (is_struct_value t) no_effect (λ u. value_discarded (load_at t v u)))
 object_effect (Some type.Struct) v h a = record { at = λ w. tt; same = λ w. refl }
 object_effect (Some type.Void) v h a = absurd h
 object_effect None v h a = absurd h
 object_effect t v h a = done_safe (load_safe t v tt a)
 
 pub placed_safe : {locals : Locals} {slot : Option Slot} {p p0 : World → Out Scalar} (t : Option ValueType) → IsObject t → Safe (Spot locals slot) p p0
-    → SenseSafe locals t true slot (placed t p) (placed t p0)
+    → SenseSafe locals t true slot (sense_of_place t p) (sense_of_place t p0)
 placed_safe {locals = locals} {slot = slot} t h found = record {
   value = λ l. seq found (λ p spot. load_safe t p l (spot_at locals slot p spot));
   place = λ i. found;
@@ -61,12 +61,12 @@ placed_safe {locals = locals} {slot = slot} t h found = record {
 
 cast_value : (locals : Locals) (slot : Option Slot) (is_null : Bool) (t u : Option ValueType) (m m0 : Sense) → (IsValue u → Safe (Fits u) m.value m0.value)
     → TakesOrNull is_null t u
-    → SenseSafe locals t false slot (valued (handed_value is_null t m)) (valued (handed_value is_null t m0))
+    → SenseSafe locals t false slot (sense_of_value (handed_value is_null t m)) (sense_of_value (handed_value is_null t m0))
 cast_value locals slot is_null t u m m0 a h = valued_safe (weaker (λ v g. g.0) (handed_value_safe is_null t u m m0 h a))
 
 pub cast_safe : (locals : Locals) (known : Bool) (slot other : Option Slot) (is_null : Bool) (t u : Option ValueType) (m m0 : Sense)
     → SenseSafe locals u known slot m m0 → Casts is_null t u
-    → SenseSafe locals t false other (cast is_null t m) (cast is_null t m0)
+    → SenseSafe locals t false other (cast_sense is_null t m) (cast_sense is_null t m0)
 cast_safe locals known slot other is_null (Some type.Void) u m m0 a h = effected_safe (Some type.Void) (λ v. v) a.effect
 cast_safe locals known slot other is_null t u m m0 a h = cast_value locals other is_null t u m m0 a.value h
 
@@ -113,7 +113,7 @@ module _ (s : Setting) (call0 : Caller) (fit : SitesFit s.sites) where
   -- a place that is changed
   changed_safe : (token : ℕ) (slot : Option Slot) (t right : Option ValueType) (o : Operation) (p v : Scalar) → Changes o t right
       → PairsFit s.sites slot t (s.sites.pairs_at token)
-      → Spot s.locals slot p → Fits right v → Safe (Fits t) (changed s token t o p v) (changed (bare s call0) token t o p v)
+      → Spot s.locals slot p → Fits right v → Safe (Fits t) (compound_result_stored s token t o p v) (compound_result_stored (bare s call0) token t o p v)
   changed_safe token slot t right o p v h k spot f =
       seq (load_safe t p (scalar_value t h.0) (spot_at s.locals slot p spot)) (λ old g.
       seq (operate_safe o t right (type_given o t) old v h.1 g f) (λ x q.
@@ -138,7 +138,7 @@ module _ (s : Setting) (call0 : Caller) (fit : SitesFit s.sites) where
   pub assign_safe : (token : ℕ) (a : Assignment) (slot : Option Slot) (t : Option ValueType) (x : ExprTree) (goal goal0 m m0 : Sense)
       → Safe (Spot s.locals slot) goal.place goal0.place → (IsValue (type_of s.facts x) → Safe (Fits (type_of s.facts x)) m.value m0.value)
       → Assigns s.facts a t x → PairsFit s.sites slot t (s.sites.pairs_at token)
-      → Safe (Fits t) (assign s token a (is_null_as t x) t (type_of s.facts x) goal m) (assign (bare s call0) token a (is_null_as t x) t
+      → Safe (Fits t) (assigned_value s token a (is_null_as t x) t (type_of s.facts x) goal m) (assigned_value (bare s call0) token a (is_null_as t x) t
       (type_of s.facts x) goal0 m0)
   assign_safe token Plain slot t x goal goal0 m m0 a b h k =
       seq a (λ p spot. seq (wanted_value_safe (is_null_as t x) t (type_of s.facts x) m m0 h b) (λ v f. assigned_safe s call0 token slot t p v k spot f))
@@ -149,7 +149,7 @@ module _ (s : Setting) (call0 : Caller) (fit : SitesFit s.sites) where
 
   pub linked_safe : (j : Joint) (token : ℕ) (left right t : Option ValueType) (m m0 : World → Out Scalar) (v : Scalar) → Joins j left right t
       → Safe (Fits right) m m0 → Fits left v
-      → Safe (Fits t) (linked s j token left right m v) (linked (bare s call0) j token left right m0 v)
+      → Safe (Fits t) (value_after_link s j token left right m v) (value_after_link (bare s call0) j token left right m0 v)
   linked_safe Both token left right t m m0 v h a f = rw h (seq (decided_safe s call0 fit token v)
       (λ b _. chosen b (flag_safe right m m0 a) (gives (flag_value false) refl)))
   linked_safe Either token left right t m m0 v h a f = rw h (seq (decided_safe s call0 fit token v)

@@ -10,9 +10,9 @@ use Rattle.c_meaning.specs.declared.value_type.Called.{Called}
 use Rattle.c_meaning.specs.declared.value_type.Called.TheVariants as called
 use Rattle.c_meaning.specs.declared.value_type.ValueType.{ValueType}
 use Rattle.c_meaning.specs.declared.value_type.ValueType.TheVariants as type
-use Rattle.c_meaning.specs.Words.{Argument, Arguments, call_sense, is_null_as, Setting, arguments_value, expr, formatted, text_of_string, after_body}
-use Rattle.c_meaning.specs.Words.{after_entry, do_round, exec, exec_all, for_round, for_started, optional_condition, optional_effect, rounds, while_round}
-use Rattle.c_meaning.specs.Words.{count, called_as, has_value, type_of, World, Out, Stop, OutDone, Caller, Flow, Next, Broken, Continued, Returned, spend}
+use Rattle.c_meaning.specs.Words.{Argument, Arguments, call_sense, is_null_as, Setting, arguments_value, expr, arguments_printed, text_of_string, after_body}
+use Rattle.c_meaning.specs.Words.{after_entry, do_round, exec, exec_all, for_round, for_started, optional_condition, optional_effect, loop_rounds, while_round}
+use Rattle.c_meaning.specs.Words.{expression_count, called_as, has_value, type_of, World, Out, Stop, OutDone, Caller, Flow, Next, Broken, Continued, Returned, one_turn_spent}
 use Rattle.c_meaning_laws.specs.Rules.{TakesOrNull}
 use Rattle.c_meaning_laws.specs.Typed.{TypedArguments}
 use Rattle.c_meaning_laws.specs.TypedSource.{SitesFit}
@@ -40,10 +40,10 @@ takes_value b result t h = refl
 -- rounds of loops
 pub rounds_safe : {P : Flow → Type 0} (n : ℕ) (round round0 : (World → Out Flow) → World → Out Flow)
     → ((next next0 : World → Out Flow) → Safe P next next0 → Safe P (round next) (round0 next0))
-    → Safe P (rounds n round) (rounds n round0)
+    → Safe P (loop_rounds n round) (loop_rounds n round0)
 rounds_safe zero round round0 h = h (Stop CutTurns) (Stop CutTurns) (record { at = λ w. tt; same = λ w. refl })
 rounds_safe (suc n) round round0 h =
-    h (λ u. spend u.turns u (rounds n round)) (λ u. spend u.turns u (rounds n round0)) (spends (rounds n round) (rounds n round0)
+    h (λ u. one_turn_spent u.turns u (loop_rounds n round)) (λ u. one_turn_spent u.turns u (loop_rounds n round0)) (spends (loop_rounds n round) (loop_rounds n round0)
     (rounds_safe n round round0 h))
 
 module _ (result : ValueType) (looping : Bool) where
@@ -77,18 +77,18 @@ module _ (result : ValueType) (looping : Bool) where
   after_entry_safe rest rest0 flow h f = gives flow f
 
 module _ (s : Setting) (call0 : Caller) (fit : SitesFit s.sites) (calls : CallsSafe s.facts s.call call0) where
-  formatted_safe : (xs : ExprList) → TypedFormat s.facts s.sites s.locals.count xs → Safe Any (formatted s xs) (formatted (bare s call0) xs)
+  formatted_safe : (xs : ExprList) → TypedFormat s.facts s.sites s.locals.count xs → Safe Any (arguments_printed s xs) (arguments_printed (bare s call0) xs)
   formatted_safe e.no_exprs h = absurd h
   formatted_safe (e.more_exprs x rest) h =
-      print_by_safe (text_of_string s.facts x) (count rest) (λ types. arguments_value s types rest []) (λ types. arguments_value (bare s call0) types rest [])
+      print_by_safe (text_of_string s.facts x) (expression_count rest) (λ types. arguments_value s types rest []) (λ types. arguments_value (bare s call0) types rest [])
       (λ types. TypedArguments s.facts s.sites s.locals.count types rest) (λ types a. weaker (λ vs o. backwards types vs o)
       (arguments_safe s call0 fit calls rest types [] a))
       (λ types a. count_is s call0 fit calls types rest a) h
 
   prints_safe : (c : Called) (token n : ℕ) (xs : ExprList) (arguments arguments0 : Arguments) (lone lone0 : Argument)
       → TypedPrint s.facts s.sites s.locals.count c xs
-      → Safe Any (call_sense s token c n arguments lone (formatted s xs)).effect (call_sense (bare s call0) token c n arguments0 lone0
-      (formatted (bare s call0) xs)).effect
+      → Safe Any (call_sense s token c n arguments lone (arguments_printed s xs)).effect (call_sense (bare s call0) token c n arguments0 lone0
+      (arguments_printed (bare s call0) xs)).effect
   prints_safe (called.Library library.Printf) token n xs arguments arguments0 lone lone0 h = formatted_safe xs h
   prints_safe c token n xs arguments arguments0 lone lone0 h = absurd h
 

@@ -10,11 +10,11 @@ use Rattle.cbi_base.specs.declared.scalar.Scalar.TheVariants.{Place, Undefined}
 use Rattle.cbi_base.specs.declared.scalar.Want.{Want}
 use Rattle.cbi_base.specs.declared.scalar.Want.TheVariants as want
 use Rattle.cbi_base.specs.declared.trap.Trap.TheVariants as trap
-use Rattle.cbi_base.specs.Objects.{Object, Objects, found_cell, loaded, undefined_in}
+use Rattle.cbi_base.specs.Objects.{Object, Objects, found_cell, loaded_value, undefined_in}
 use Rattle.c_syntax.specs.StatementTree.{InitialTree, StartTree}
 use Rattle.c_meaning.specs.declared.value_type.ValueType.{ValueType}
 use Rattle.c_meaning.specs.declared.value_type.ValueType.TheVariants as type
-use Rattle.c_meaning.specs.Words.{load_at, Setting, all_started, clear, declares, initialised, object_of, on_object, started, World, Stop, answered, bind}
+use Rattle.c_meaning.specs.Words.{load_at, Setting, all_started, variable_cleared, declaration_done, variable_initialised, object_of, on_object, variable_started, World, Stop, answer_or_trap, bind}
 use Rattle.c_meaning_laws.specs.Rules.{IsScalar}
 use Rattle.c_meaning_laws.specs.Declared.{AreBare, DeclaredHoldsNothing, HoldsNothing, ReadIsMet}
 use Rattle.c_meaning_laws.proofs.Objects.{cell_within, load_found, load_in, put_found}
@@ -78,45 +78,45 @@ module _ (s : Setting) (number : ℕ) where
   Blank x w = IsBlank (get w.objects.live number)
 
   bare_started : (x : StartTree) (w : World) → x.initial ≡ None
-      → started s x w ≡ on_object (object_of s (s.facts.slot_at x.declarator.name_token)) clear w
+      → variable_started s x w ≡ on_object (object_of s (s.facts.slot_at x.declarator.name_token)) variable_cleared w
   bare_started x w bare =
-      ap (λ (i : Option InitialTree). bind (on_object (object_of s (s.facts.slot_at x.declarator.name_token)) clear w)
-      (λ _. initialised s x.declarator.name_token i)) bare
-      ∙ bind_go (on_object (object_of s (s.facts.slot_at x.declarator.name_token)) clear w)
+      ap (λ (i : Option InitialTree). bind (on_object (object_of s (s.facts.slot_at x.declarator.name_token)) variable_cleared w)
+      (λ _. variable_initialised s x.declarator.name_token i)) bare
+      ∙ bind_go (on_object (object_of s (s.facts.slot_at x.declarator.name_token)) variable_cleared w)
 
-  other_clear : (at : Option ℕ) (w : World) → IsBlank (get w.objects.live number) → Ends Blank (on_object at clear w)
+  other_clear : (at : Option ℕ) (w : World) → IsBlank (get w.objects.live number) → Ends Blank (on_object at variable_cleared w)
   other_clear None w h = tt
   other_clear (Some other) w h = stays_blank w.objects number other (get w.objects.live other) h
 
-  own_clear : (at : Option ℕ) (w : World) → at ≡ Some number → Ends Blank (on_object at clear w)
-  own_clear at w e = subst (λ (o : Option ℕ). Ends Blank (on_object o clear w)) (sym e) (clear_blank w.objects number (get w.objects.live number) refl)
+  own_clear : (at : Option ℕ) (w : World) → at ≡ Some number → Ends Blank (on_object at variable_cleared w)
+  own_clear at w e = subst (λ (o : Option ℕ). Ends Blank (on_object o variable_cleared w)) (sym e) (clear_blank w.objects number (get w.objects.live number) refl)
 
   bare_rest : (xs : List StartTree) (w : World) → AreBare xs → IsBlank (get w.objects.live number) → Ends Blank (all_started s xs w)
   bare_rest [] w bare h = h
   bare_rest (x ∷ xs) w bare h =
-      ends_bind Blank Blank (started s x w) (λ _. all_started s xs)
+      ends_bind Blank Blank (variable_started s x w) (λ _. all_started s xs)
       (subst (Ends Blank) (sym (bare_started x w bare.0)) (other_clear (object_of s (s.facts.slot_at x.declarator.name_token)) w h))
       (λ _ u k. bare_rest xs u bare.1 k)
 
   any_before : (before after : List StartTree) (x : StartTree) (w : World) → AreBare (x ∷ after)
       → object_of s (s.facts.slot_at x.declarator.name_token) ≡ Some number → Ends Blank (all_started s (before ++ x ∷ after) w)
   any_before [] after x w bare own =
-      ends_bind Blank Blank (started s x w) (λ _. all_started s after)
+      ends_bind Blank Blank (variable_started s x w) (λ _. all_started s after)
       (subst (Ends Blank) (sym (bare_started x w bare.0)) (own_clear (object_of s (s.facts.slot_at x.declarator.name_token)) w own))
       (λ _ u k. bare_rest after u bare.1 k)
   any_before (y ∷ before) after x w bare own =
-      ends_bind (λ _ _. Unit {0}) Blank (started s y w) (λ _. all_started s (before ++ x ∷ after)) (anything (started s y w))
+      ends_bind (λ _ _. Unit {0}) Blank (variable_started s y w) (λ _. all_started s (before ++ x ∷ after)) (anything (variable_started s y w))
       (λ _ u _. any_before before after x u bare own)
 
 pub declared_holds_nothing : DeclaredHoldsNothing
 declared_holds_nothing s d before after x number w u starts bare own e =
-    blank_holds number u.objects (ends_go (Blank s number) (declares s d w) tt u
+    blank_holds number u.objects (ends_go (Blank s number) (declaration_done s d w) tt u
     (subst (λ (xs : List StartTree). Ends (Blank s number) (all_started s xs w)) (sym starts) (any_before s number before after x w bare own)) e)
 
-load_met : (of : Option ValueType) (p : Scalar) (w : World) → IsScalar of → ((wanted : Want) → loaded wanted p w.objects ≡ Err trap.Undefined)
+load_met : (of : Option ValueType) (p : Scalar) (w : World) → IsScalar of → ((wanted : Want) → loaded_value wanted p w.objects ≡ Err trap.Undefined)
     → load_at of p w ≡ Stop (Trapped trap.Undefined) w
-load_met (Some (type.Number kind)) p w h met = ap (λ r. answered r w) (met (want.Number kind))
-load_met (Some (type.Pointer size)) p w h met = ap (λ r. answered r w) (met want.Pointer)
+load_met (Some (type.Number kind)) p w h met = ap (λ r. answer_or_trap r w) (met (want.Number kind))
+load_met (Some (type.Pointer size)) p w h met = ap (λ r. answer_or_trap r w) (met want.Pointer)
 load_met of p w h met = absurd h
 
 pub read_is_met : ReadIsMet

@@ -12,13 +12,13 @@ use Rattle.cbi_base.specs.declared.scalar.Scalar.TheVariants.{Number, Place, Nul
 use Rattle.cbi_base.specs.declared.operators.Binary.{Binary}
 use Rattle.cbi_base.specs.declared.operators.Binary.TheVariants as op
 use Rattle.cbi_base.specs.declared.operators.Unary.TheVariants as unary
-use Rattle.cbi_base.specs.Words.{fitted, left_shift, binary_value, kind_given, is_zero, is_count, two_to, wrapped, lies_in, truth_of, applied, applied_to_one}
-use Rattle.cbi_base.specs.Words.{converted, as_number, takes, is_defined_value}
+use Rattle.cbi_base.specs.Words.{fitted_value, left_shift, binary_value, kind_given, is_zero, is_count, two_to, wrapped_value, lies_in, truth_of, operator_applied, applied_to_one}
+use Rattle.cbi_base.specs.Words.{converted_number, as_number, has_operand_kinds, is_defined_value}
 use Rattle.c_types_rules.specs.Laws.{common_kind, promoted_kind}
 use Rattle.c_meaning.specs.declared.value_type.ValueType.{ValueType}
 use Rattle.c_meaning.specs.declared.value_type.ValueType.TheVariants as type
-use Rattle.c_meaning.specs.Words.{as_wanted, between, conversion, converts, as_used, defined, handed, Sense, arm_as, arm_value, handed_value, is_other_pointer}
-use Rattle.c_meaning.specs.Words.{wanted_value, left_kind, right_kind, truth}
+use Rattle.c_meaning.specs.Words.{as_wanted, kind_conversion, conversion, conversion_result, as_used, defined_scalar, handed_scalar, Sense, arm_as, arm_value, handed_value, is_other_pointer}
+use Rattle.c_meaning.specs.Words.{wanted_value, left_kind, right_kind, truth_value}
 use Rattle.c_meaning_laws.specs.Rules.{IsNumberType, IsPointer, IsPointing, IsPromoted, IsScalar, IsValue, TakesOrNull, TakesType}
 use Rattle.c_meaning_laws.proofs.Safe.{Any, Calm, Safe, answers, calm_if, gives, seq, weaker}
 
@@ -97,15 +97,15 @@ decayed_value None h = h
 decayed_value t h = tt
 
 -- conversions
-converted_calm : (have wanted : Kind) (v : Scalar) → Fits (Some (type.Number have)) v → Calm (Fits (Some (type.Number wanted))) (converted wanted v)
-unfolding converted
+converted_calm : (have wanted : Kind) (v : Scalar) → Fits (Some (type.Number have)) v → Calm (Fits (Some (type.Number wanted))) (converted_number wanted v)
+unfolding converted_number
 converted_calm have wanted Undefined f = tt
 converted_calm have wanted (Number k n) f = refl
 converted_calm have wanted Null f = absurd f
 converted_calm have wanted (Place a i) f = absurd f
 
 pub between_calm : (have wanted : Kind) (v : Scalar) → Fits (Some (type.Number have)) v → Calm (Fits (Some (type.Number wanted)))
-    (converts (between have wanted) v)
+    (conversion_result (kind_conversion have wanted) v)
 between_calm Char Char v f = f
 between_calm Int Int v f = f
 between_calm Unsigned Unsigned v f = f
@@ -116,7 +116,7 @@ between_calm Int Unsigned v f = converted_calm Int Unsigned v f
 between_calm Unsigned Char v f = converted_calm Unsigned Char v f
 between_calm Unsigned Int v f = converted_calm Unsigned Int v f
 
-taken_calm : (t u : Option ValueType) (v : Scalar) → TakesType t u → Fits u v → Calm (Fits t) (converts (conversion u t) v)
+taken_calm : (t u : Option ValueType) (v : Scalar) → TakesType t u → Fits u v → Calm (Fits t) (conversion_result (conversion u t) v)
 taken_calm (Some (type.Number kind)) (Some (type.Number other)) v h f = between_calm other kind v f
 taken_calm (Some (type.Pointer size)) (Some (type.Pointer other)) v h f = pointer_fits size (Some (type.Pointer other)) v tt f
 taken_calm (Some (type.Pointer size)) (Some (type.Array other)) v h f = pointer_fits size (Some (type.Array other)) v tt f
@@ -124,29 +124,29 @@ taken_calm t u v h f = absurd h
 
 -- a value where one of another type is wanted
 pub wanted_safe : (t u : Option ValueType) (v : Scalar) → TakesType t u → Fits u v → Safe (Fits t) (as_wanted (conversion u t) v) (as_wanted (conversion u t) v)
-wanted_safe t u v h f = answers (λ w. converts (conversion u t) v) (λ w. refl) (λ w. taken_calm t u v h f)
+wanted_safe t u v h f = answers (λ w. conversion_result (conversion u t) v) (λ w. refl) (λ w. taken_calm t u v h f)
 
 -- a value that is handed over is defined
 abbrev pub Given : Option ValueType → Scalar → Type 0
 Given t v = Fits t v × (is_defined_value v ≡ true)
 
-defined_calm : (t : Option ValueType) (v : Scalar) → Fits t v → Calm (Given t) (defined v)
+defined_calm : (t : Option ValueType) (v : Scalar) → Fits t v → Calm (Given t) (defined_scalar v)
 defined_calm t Undefined f = tt
 defined_calm t v f = (f, refl)
 
-handed_number : (have wanted : Kind) (v : Scalar) → Fits (Some (type.Number have)) v → Calm (Given (Some (type.Number wanted))) (converted wanted v)
-unfolding converted
+handed_number : (have wanted : Kind) (v : Scalar) → Fits (Some (type.Number have)) v → Calm (Given (Some (type.Number wanted))) (converted_number wanted v)
+unfolding converted_number
 handed_number have wanted Undefined f = tt
 handed_number have wanted (Number k n) f = (refl, refl)
 handed_number have wanted Null f = absurd f
 handed_number have wanted (Place a i) f = absurd f
 
-pub handed_safe : (t u : Option ValueType) (v : Scalar) → TakesType t u → Fits u v → Safe (Given t) (handed t v) (handed t v)
-handed_safe (Some (type.Number kind)) (Some (type.Number other)) v h f = answers (λ w. converted kind v) (λ w. refl) (λ w. handed_number other kind v f)
+pub handed_safe : (t u : Option ValueType) (v : Scalar) → TakesType t u → Fits u v → Safe (Given t) (handed_scalar t v) (handed_scalar t v)
+handed_safe (Some (type.Number kind)) (Some (type.Number other)) v h f = answers (λ w. converted_number kind v) (λ w. refl) (λ w. handed_number other kind v f)
 handed_safe (Some (type.Pointer size)) (Some (type.Pointer other)) v h f =
-    answers (λ w. defined v) (λ w. refl) (λ w. defined_calm (Some (type.Pointer size)) v (pointer_fits size (Some (type.Pointer other)) v tt f))
+    answers (λ w. defined_scalar v) (λ w. refl) (λ w. defined_calm (Some (type.Pointer size)) v (pointer_fits size (Some (type.Pointer other)) v tt f))
 handed_safe (Some (type.Pointer size)) (Some (type.Array other)) v h f =
-    answers (λ w. defined v) (λ w. refl) (λ w. defined_calm (Some (type.Pointer size)) v (pointer_fits size (Some (type.Array other)) v tt f))
+    answers (λ w. defined_scalar v) (λ w. refl) (λ w. defined_calm (Some (type.Pointer size)) v (pointer_fits size (Some (type.Array other)) v tt f))
 handed_safe t u v h f = absurd h
 
 -- an expression's value where one of another type, or a null pointer, is wanted
@@ -177,17 +177,17 @@ truth_calm (Place a i) = tt
 truth_calm Null = tt
 truth_calm Undefined = tt
 
-pub truth_safe : (v : Scalar) → Safe Any (truth v) (truth v)
+pub truth_safe : (v : Scalar) → Safe Any (truth_value v) (truth_value v)
 truth_safe v = answers (λ w. truth_of v) (λ w. refl) (λ w. truth_calm v)
 
 -- numbers
-fitted_calm : (kind : Kind) (n : ℤ) → Calm Any (fitted kind n)
+fitted_calm : (kind : Kind) (n : ℤ) → Calm Any (fitted_value kind n)
 fitted_calm Unsigned n = tt
 fitted_calm Char n = calm_if Any (lies_in Char n) (Ok n) (Err trap.Overflow) tt tt
 fitted_calm Int n = calm_if Any (lies_in Int n) (Ok n) (Err trap.Overflow) tt tt
 
 left_shift_calm : (kind : Kind) (x y : ℤ) → Calm Any (left_shift kind x y)
-left_shift_calm Unsigned x y = calm_if Any (is_count y) (Ok (wrapped Unsigned (x *ℤ two_to y))) (Err trap.Shift) tt tt
+left_shift_calm Unsigned x y = calm_if Any (is_count y) (Ok (wrapped_value Unsigned (x *ℤ two_to y))) (Err trap.Shift) tt tt
 left_shift_calm Char x y =
     calm_if Any (is_count y && (int_le (pos 0) x && lies_in Char (x *ℤ two_to y))) (Ok (x *ℤ two_to y)) (Err trap.Shift) tt tt
 left_shift_calm Int x y =
@@ -197,7 +197,7 @@ binary_calm : (o : Binary) (kind : Kind) (x y : ℤ) → Calm Any (binary_value 
 binary_calm op.Add kind x y = fitted_calm kind (x +ℤ y)
 binary_calm op.Sub kind x y = fitted_calm kind (x -ℤ y)
 binary_calm op.Mul kind x y = fitted_calm kind (x *ℤ y)
-binary_calm op.Div kind x y = calm_if Any (is_zero y) (Err trap.Divide) (fitted kind (int_div x y)) tt (fitted_calm kind (int_div x y))
+binary_calm op.Div kind x y = calm_if Any (is_zero y) (Err trap.Divide) (fitted_value kind (int_div x y)) tt (fitted_calm kind (int_div x y))
 binary_calm op.Rem kind x y =
     calm_if Any (is_zero y) (Err trap.Divide) (if lies_in kind (int_div x y) then Ok (int_rem x y) else Err trap.Overflow) tt
     (calm_if Any (lies_in kind (int_div x y)) (Ok (int_rem x y)) (Err trap.Overflow) tt tt)
@@ -209,13 +209,13 @@ number_calm : (kind : Kind) (r : Result ℤ Trap) → Calm Any r → Calm (Fits 
 number_calm kind (Ok n) h = refl
 number_calm kind (Err t) h = h
 
-pub applied_calm : (o : Binary) (k l : Kind) (x y : Scalar) → takes o k l ≡ true → Fits (Some (type.Number k)) x → Fits (Some (type.Number l)) y
-    → Calm (Fits (Some (type.Number (kind_given o k)))) (applied o x y)
-unfolding applied
+pub applied_calm : (o : Binary) (k l : Kind) (x y : Scalar) → has_operand_kinds o k l ≡ true → Fits (Some (type.Number k)) x → Fits (Some (type.Number l)) y
+    → Calm (Fits (Some (type.Number (kind_given o k)))) (operator_applied o x y)
+unfolding operator_applied
 applied_calm o k l (Number i m) (Number j n) t f g =
-    subst (λ a. Calm (Fits (Some (type.Number (kind_given o k)))) (applied o (Number a m) (Number j n))) f
-    (subst (λ a. Calm (Fits (Some (type.Number (kind_given o k)))) (applied o (Number k m) (Number a n))) g
-    (taken (takes o k l) t))
+    subst (λ a. Calm (Fits (Some (type.Number (kind_given o k)))) (operator_applied o (Number a m) (Number j n))) f
+    (subst (λ a. Calm (Fits (Some (type.Number (kind_given o k)))) (operator_applied o (Number k m) (Number a n))) g
+    (taken (has_operand_kinds o k l) t))
   where
     taken : (b : Bool) → b ≡ true → Calm (Fits (Some (type.Number (kind_given o k)))) (if b then as_number (kind_given o k)
         (binary_value o k m n) else Err trap.Internal)
@@ -246,12 +246,12 @@ of_promoted P i u Int = i
 of_promoted P i u Unsigned = u
 
 -- an operation takes what its operands were converted to
-pub takes_converted : (o : Binary) (left right : Kind) → takes o (left_kind o left right) (right_kind o left right) ≡ true
-takes_converted op.Shl l r = of_promoted (λ k. takes op.Shl k (promoted_kind r) ≡ true)
-    (of_promoted (λ k. takes op.Shl Int k ≡ true) refl refl r) (of_promoted (λ k. takes op.Shl Unsigned k ≡ true) refl refl r) l
-takes_converted op.Shr l r = of_promoted (λ k. takes op.Shr k (promoted_kind r) ≡ true)
-    (of_promoted (λ k. takes op.Shr Int k ≡ true) refl refl r) (of_promoted (λ k. takes op.Shr Unsigned k ≡ true) refl refl r) l
-takes_converted o l r = of_common (λ k. takes o k k ≡ true) refl refl l r
+pub takes_converted : (o : Binary) (left right : Kind) → has_operand_kinds o (left_kind o left right) (right_kind o left right) ≡ true
+takes_converted op.Shl l r = of_promoted (λ k. has_operand_kinds op.Shl k (promoted_kind r) ≡ true)
+    (of_promoted (λ k. has_operand_kinds op.Shl Int k ≡ true) refl refl r) (of_promoted (λ k. has_operand_kinds op.Shl Unsigned k ≡ true) refl refl r) l
+takes_converted op.Shr l r = of_promoted (λ k. has_operand_kinds op.Shr k (promoted_kind r) ≡ true)
+    (of_promoted (λ k. has_operand_kinds op.Shr Int k ≡ true) refl refl r) (of_promoted (λ k. has_operand_kinds op.Shr Unsigned k ≡ true) refl refl r) l
+takes_converted o l r = of_common (λ k. has_operand_kinds o k k ≡ true) refl refl l r
 
 -- unary operators
 pub not_calm : (v : Scalar) → Calm (Fits (Some (type.Number Int))) (applied_to_one unary.Not v)
@@ -262,8 +262,8 @@ not_calm v = refl
 neg_of : (k : Kind) (n : ℤ) → IsPromoted (Some (type.Number k)) → Calm (Fits (Some (type.Number k))) (applied_to_one unary.Neg (Number k n))
 unfolding applied_to_one
 neg_of Char n h = absurd h
-neg_of Int n h = number_calm Int (fitted Int (neg_ℤ n)) (fitted_calm Int (neg_ℤ n))
-neg_of Unsigned n h = number_calm Unsigned (fitted Unsigned (neg_ℤ n)) (fitted_calm Unsigned (neg_ℤ n))
+neg_of Int n h = number_calm Int (fitted_value Int (neg_ℤ n)) (fitted_calm Int (neg_ℤ n))
+neg_of Unsigned n h = number_calm Unsigned (fitted_value Unsigned (neg_ℤ n)) (fitted_calm Unsigned (neg_ℤ n))
 
 pub neg_calm : (t : Option ValueType) (v : Scalar) → IsPromoted t → Fits t v → Calm (Fits t) (applied_to_one unary.Neg v)
 unfolding applied_to_one

@@ -16,8 +16,8 @@ abbrev pub assigned_operation : ℕ → ℕ → ℕ → Sign → ExprTree → Ex
 assigned_operation token level operator plain x value = e.Assign token sign.Equal x (e.Chain level x (e.more_links operator plain value e.no_links))
 
 -- the two signs are of this operator, as `+=` and `+` are
-abbrev pub AreOf : Binary → Sign → Sign → Type 0
-AreOf o compound plain = (compound_of compound ≡ Some o) × (binary_of plain ≡ Some o)
+abbrev pub AreSignsOfOperator : Binary → Sign → Sign → Type 0
+AreSignsOfOperator o compound plain = (compound_of compound ≡ Some o) × (binary_of plain ≡ Some o)
 
 -- the value evaluates to `v` in this state, and changes nothing there; and `x op value` has the type that its operands give it
 pub record IsOperand (s : Setting) (o : Binary) (operator : ℕ) (x value : ExprTree) (v : Scalar) (w : World) : Type 0 where
@@ -33,7 +33,7 @@ Stays w (Stop outcome u) = Unit {0}
 abbrev pub CompoundIsOperation : Type 0
 CompoundIsOperation =
     (s : Setting) (token level operator : ℕ) (o : Binary) (compound plain : Sign) (x value right : ExprTree) (v : Scalar) (w : World) →
-    AreOf o compound plain → is_place x ≡ true → KeepsType s.facts x → Stays w ((expr s x).place w) → IsOperand s o operator x value v w →
+    AreSignsOfOperator o compound plain → is_place x ≡ true → KeepsType s.facts x → Stays w ((expr s x).place w) → IsOperand s o operator x value v w →
     IsWritten s.facts value right →
     (expr s (e.Assign token compound x value)).value w ≡ (expr s (assigned_operation token level operator plain x right)).value w
 
@@ -41,7 +41,7 @@ CompoundIsOperation =
 abbrev pub CompoundOfVariable : Type 0
 CompoundOfVariable =
     (s : Setting) (token level operator at : ℕ) (name : List ℕ) (o : Binary) (compound plain : Sign) (value right : ExprTree) (v : Scalar) (w : World) →
-    AreOf o compound plain → IsOperand s o operator (e.Name at name) value v w → IsWritten s.facts value right →
+    AreSignsOfOperator o compound plain → IsOperand s o operator (e.Name at name) value v w → IsWritten s.facts value right →
     (expr s (e.Assign token compound (e.Name at name) value)).value w
     ≡ (expr s (assigned_operation token level operator plain (e.Name at name) right)).value w
 

@@ -6,17 +6,17 @@ use Rattle.cbi_base.specs.declared.scalar.Scalar.{Scalar}
 use Rattle.cbi_base.specs.declared.scalar.Scalar.TheVariants.{Place}
 use Rattle.cbi_base.specs.declared.scalar.Want.{Want}
 use Rattle.cbi_base.specs.declared.trap.Trap.TheVariants as trap
-use Rattle.cbi_base.specs.Objects.{Object, Objects, loaded}
+use Rattle.cbi_base.specs.Objects.{Object, Objects, loaded_value}
 use Rattle.c_syntax.specs.ExprTree as e
 use Rattle.c_syntax.specs.StatementTree.{DeclarationTree, StartTree}
-use Rattle.c_meaning.specs.Words.{Setting, declares, object_of, expr, World, Go, Stop}
+use Rattle.c_meaning.specs.Words.{Setting, declaration_done, object_of, expr, World, Go, Stop}
 use Rattle.c_meaning_laws.specs.Rules.{IsScalar}
 
 -- an object that holds nothing: no load from it gives a value, and a load from one of its cells meets an undefined one
 pub record HoldsNothing (number : ℕ) (o : Objects) : Type 0 where
-  pub gives_none : (wanted : Want) (place : ℕ) (v : Scalar) → loaded wanted (Place number place) o ≢ Ok v
+  pub gives_none : (wanted : Want) (place : ℕ) (v : Scalar) → loaded_value wanted (Place number place) o ≢ Ok v
   pub traps : (wanted : Want) (place : ℕ) (object : Object) → get o.live number ≡ Some object → place < length object.cells →
-      loaded wanted (Place number place) o ≡ Err trap.Undefined
+      loaded_value wanted (Place number place) o ≡ Err trap.Undefined
 
 -- declared names without initialisers
 abbrev pub AreBare : List StartTree → Type 0
@@ -28,7 +28,7 @@ AreBare (x ∷ xs) = (x.initial ≡ None) × AreBare xs
 abbrev pub DeclaredHoldsNothing : Type 0
 DeclaredHoldsNothing =
     (s : Setting) (d : DeclarationTree) (before after : List StartTree) (x : StartTree) (number : ℕ) (w u : World) → d.starts ≡ before ++ x ∷ after →
-    AreBare (x ∷ after) → object_of s (s.facts.slot_at x.declarator.name_token) ≡ Some number → declares s d w ≡ Go tt u → HoldsNothing number u.objects
+    AreBare (x ∷ after) → object_of s (s.facts.slot_at x.declarator.name_token) ≡ Some number → declaration_done s d w ≡ Go tt u → HoldsNothing number u.objects
 
 -- The value of a variable that holds nothing is met as an undefined one (C99 6.3.2.1p2, J.2).
 abbrev pub ReadIsMet : Type 0

@@ -48,5 +48,5 @@ example_body =
     (tree.stated (tree.If 11 (e.Name 13 (codes "x")) (tree.Return 15 (Some (e.Call 16 (codes "getchar") e.no_exprs))))
     (tree.stated (tree.Return 20 (Some (e.Name 21 (codes "x")))) tree.no_entries))
 
-abbrev pub example : Source
-example = record { facts = example_facts; sites = sites_by_table example_table; body = λ number. Some example_body; main = 0; objects = Some [] }
+abbrev pub example_source : Source
+example_source = record { facts = example_facts; sites = sites_by_table example_table; body = λ number. Some example_body; main = 0; objects = Some [] }

@@ -7,11 +7,12 @@ use Rattle.c_syntax.specs.ExprTree as e
 use Rattle.c_syntax.specs.Words.{ExprTree, StatementTree, EntryList}
 use Rattle.c_syntax.specs.StatementTree as tree
 use Rattle.c_meaning.specs.declared.value_type.ValueType.TheVariants as type
-use Rattle.c_meaning.specs.Words.{Facts, Signature, Behaviour, Source, behaves, call_at, first_world, inside, locals_at, meaning, setting_of, value_left}
+use Rattle.c_meaning.specs.Words.{Facts, Signature, Behaviour, Source, run_behaviour, call_at, first_world, body_world, locals_at, meaning, setting_of}
+use Rattle.c_meaning.specs.Words.{value_left}
 use Rattle.c_meaning.specs.Words.{exec_all, type_of, World, Out, Go, Flow, Returned, bind}
 use Rattle.c_meaning_laws.specs.Rules.{IsNumberType}
 use Rattle.c_meaning_laws.specs.TypedSource.{SourceFits}
-use Rattle.c_meaning_laws.specs.Negation.{IsOf}
+use Rattle.c_meaning_laws.specs.Negation.{IsValueOfType}
 
 -- `exit(v)`
 abbrev pub exit_with : ℕ → ExprTree → ExprTree
@@ -43,11 +44,12 @@ main_body src turns locals body w = exec_all (setting_of src (call_at src turns)
 
 -- how the run ends with it, and what it wrote and saw
 abbrev pub main_run : Source → ℕ → Locals → EntryList → World → Behaviour
-main_run src turns locals body w = behaves (bind (main_body src turns locals body w) (value_left true true))
+main_run src turns locals body w = run_behaviour (bind (main_body src turns locals body w) (value_left true true))
 
 -- what the body returns, where it does, is an `int`
 abbrev pub ReturnsInt : Source → ℕ → Locals → EntryList → World → Type 0
-ReturnsInt src turns locals body w = (v : Scalar) (u : World) → main_body src turns locals body w ≡ Go (Returned (Some v)) u → IsOf (Some (type.Number Int)) v
+ReturnsInt src turns locals body w =
+    (v : Scalar) (u : World) → main_body src turns locals body w ≡ Go (Returned (Some v)) u → IsValueOfType (Some (type.Number Int)) v
 
 -- Wherever `return v;` stands in the body of the first `main`, and however often it is passed: with `exit(v);` in its place the run ends the same, and
 -- wrote and saw the same.
@@ -63,7 +65,7 @@ RunIsOfMain =
     src.facts.signature src.main ≡ Some f → f.result ≡ type.Number Int → src.body src.main ≡ Some body → src.objects ≡ Some made →
     each_made made no_objects ≡ Some objects → all_made (first_cells [] f.locals) objects ≡ Some entered →
     let w : World = first_world objects input turns in
-    meaning src input turns ≡ main_run src turns (locals_at f w) body (inside entered w)
+    meaning src input turns ≡ main_run src turns (locals_at f w) body (body_world entered w)
 
 -- In a text whose types fit, what the body of `main` returns is an `int`, if a number that it returns lies in its kind's range.
 abbrev pub TypedMainMeets : Type 0

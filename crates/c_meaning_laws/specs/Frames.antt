@@ -5,7 +5,7 @@ use Rattle.cbi_base.specs.Words.{active_limit, all_made, first_cells, local_at, 
 use Rattle.cbi_base.specs.declared.scalar.Class.TheVariants.{Local}
 use Rattle.cbi_base.specs.declared.scalar.Scalar.{Scalar}
 use Rattle.cbi_base.specs.declared.scalar.Scalar.TheVariants.{Undefined}
-use Rattle.c_meaning.specs.Words.{Signature, Source, call_at, enter_function, inside, locals_at, run_body, World, Caller, Go}
+use Rattle.c_meaning.specs.Words.{Signature, Source, call_at, enter_function, body_world, locals_at, run_body, World, Caller, Go}
 
 -- The variables of a function that is entered with these arguments are objects made now, in their order: a parameter holds its argument, and the others
 -- hold nothing. Each object that was made before is what it was.
@@ -22,7 +22,7 @@ abbrev pub BodyBeginsAfresh : Type 0
 BodyBeginsAfresh =
     (src : Source) (call : Caller) (turns number : ℕ) (f : Signature) (arguments : List Scalar) (w : World) (objects : Objects) → w.active < active_limit →
     all_made (first_cells arguments f.locals) w.objects ≡ Some objects →
-    (enter_function src call turns number (Some f) arguments w ≡ run_body src call turns f (locals_at f w) (src.body number) (inside objects w))
+    (enter_function src call turns number (Some f) arguments w ≡ run_body src call turns f (locals_at f w) (src.body number) (body_world objects w))
     × HasOwnVariables f arguments w.objects objects
     × ((index : ℕ) → index < length f.locals → local_at index (locals_at f w) ≡ Some (w.objects.made + index))
 

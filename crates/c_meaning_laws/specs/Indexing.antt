@@ -18,13 +18,13 @@ then_more (e.increment token rest) more = e.increment token (then_more rest more
 then_more (e.decrement token rest) more = e.decrement token (then_more rest more)
 
 -- an expression with postfix operators behind it: where it ends with such, these are behind them
-abbrev pub followed : ExprTree → PostfixList → ExprTree
-followed (e.Postfix primary operators) more = e.Postfix primary (then_more operators more)
-followed x more = e.Postfix x more
+abbrev pub with_postfix_operators : ExprTree → PostfixList → ExprTree
+with_postfix_operators (e.Postfix primary operators) more = e.Postfix primary (then_more operators more)
+with_postfix_operators x more = e.Postfix x more
 
 -- `a[i]`
 abbrev pub indexed_tree : ExprTree → ℕ → ExprTree → ExprTree
-indexed_tree a bracket i = followed a (e.index bracket i e.no_postfix)
+indexed_tree a bracket i = with_postfix_operators a (e.index bracket i e.no_postfix)
 
 -- `*(a + i)`
 abbrev pub at_sum : ℕ → ℕ → ℕ → ExprTree → ExprTree → ExprTree
@@ -52,10 +52,10 @@ abbrev pub FollowedIndexMeansSum : Type 0
 FollowedIndexMeansSum =
     (s : Setting) (bracket outer star paren plus : ℕ) (a i left right : ExprTree) (more : PostfixList) → KeepsType s.facts a → HasPointer s.facts a i →
     IsWritten s.facts a left → IsWritten s.facts i right → s.facts.type_at bracket ≡ s.facts.type_at outer →
-    expr s (followed a (e.index bracket i more)) ≡ expr s (e.Postfix (e.Paren outer (at_sum star paren plus left right)) more)
+    expr s (with_postfix_operators a (e.index bracket i more)) ≡ expr s (e.Postfix (e.Paren outer (at_sum star paren plus left right)) more)
 
 -- An index whose types fit meets the premises of these laws.
 abbrev pub TypedIndexMeets : Type 0
 TypedIndexMeets =
-    (s : Setting) (count bracket : ℕ) (a i : ExprTree) (more : PostfixList) → Typed s.facts s.sites count (followed a (e.index bracket i more)) →
+    (s : Setting) (count bracket : ℕ) (a i : ExprTree) (more : PostfixList) → Typed s.facts s.sites count (with_postfix_operators a (e.index bracket i more)) →
     KeepsType s.facts a × HasPointer s.facts a i

@@ -9,12 +9,12 @@ use Rattle.c_meaning.specs.Words.{Setting, equals_token, exec_all, World}
 use Rattle.c_meaning_laws.specs.Rules.{IsScalar}
 
 -- a declaration of these alone
-abbrev pub declaring : DeclarationTree → List StartTree → DeclarationTree
-declaring d starts = record d { starts = starts }
+abbrev pub declaration_of_starts : DeclarationTree → List StartTree → DeclarationTree
+declaration_of_starts d starts = record d { starts = starts }
 
 -- a declared name without an initialiser, and with this one
-abbrev pub bare : StartTree → StartTree
-bare x = record x { initial = None }
+abbrev pub without_initialiser : StartTree → StartTree
+without_initialiser x = record x { initial = None }
 
 abbrev pub with_value : StartTree → ExprTree → StartTree
 with_value x value = record x { initial = Some (tree.Value value) }
@@ -34,12 +34,12 @@ abbrev pub InitialiserIsAssignment : Type 0
 InitialiserIsAssignment =
     (s : Setting) (n : ℕ) (result : ValueType) (d : DeclarationTree) (x : StartTree) (value : ExprTree) (statement equals at : ℕ) (name : List ℕ)
     (rest : EntryList) (w : World) → NamesDeclared s x.declarator.name_token at equals → IsScalar (s.facts.declared_at x.declarator.name_token) →
-    exec_all s n result (tree.declared (declaring d (with_value x value ∷ [])) rest) w
-    ≡ exec_all s n result (tree.declared (declaring d (bare x ∷ [])) (tree.stated (set_to statement equals at name value) rest)) w
+    exec_all s n result (tree.declared (declaration_of_starts d (with_value x value ∷ [])) rest) w
+    ≡ exec_all s n result (tree.declared (declaration_of_starts d (without_initialiser x ∷ [])) (tree.stated (set_to statement equals at name value) rest)) w
 
 -- `int x = a, y = b;` does what `int x = a; int y = b;` does.
 abbrev pub DeclarationIsOneOfEach : Type 0
 DeclarationIsOneOfEach =
     (s : Setting) (n : ℕ) (result : ValueType) (d : DeclarationTree) (before after : List StartTree) (rest : EntryList) (w : World) →
-    exec_all s n result (tree.declared (declaring d (before ++ after)) rest) w
-    ≡ exec_all s n result (tree.declared (declaring d before) (tree.declared (declaring d after) rest)) w
+    exec_all s n result (tree.declared (declaration_of_starts d (before ++ after)) rest) w
+    ≡ exec_all s n result (tree.declared (declaration_of_starts d before) (tree.declared (declaration_of_starts d after) rest)) w

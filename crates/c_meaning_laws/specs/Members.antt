@@ -5,7 +5,7 @@ use Rattle.c_syntax.specs.ExprTree as e
 use Rattle.c_syntax.specs.ExprTree.{ExprTree, PostfixList}
 use Rattle.c_meaning.specs.Words.{Setting, expr}
 use Rattle.c_meaning_laws.specs.Typed.{Typed}
-use Rattle.c_meaning_laws.specs.Indexing.{followed}
+use Rattle.c_meaning_laws.specs.Indexing.{with_postfix_operators}
 use Rattle.c_meaning_laws.specs.Parentheses.{IsWritten, KeepsType}
 
 -- `(*p).m`, with any postfix operators behind it
@@ -18,10 +18,11 @@ abbrev pub ArrowIsMember : Type 0
 ArrowIsMember =
     (s : Setting) (arrow paren star : ℕ) (name : List ℕ) (p left : ExprTree) (more : PostfixList) → KeepsType s.facts p →
     IsSome (s.facts.offset_at arrow) → IsWritten s.facts p left →
-    expr s (followed p (e.arrow arrow name more)) ≡ expr s (member_tree paren star left arrow name more)
+    expr s (with_postfix_operators p (e.arrow arrow name more)) ≡ expr s (member_tree paren star left arrow name more)
 
 -- An arrow whose types fit meets the premises of this law.
 abbrev pub TypedArrowMeets : Type 0
 TypedArrowMeets =
-    (s : Setting) (count arrow : ℕ) (name : List ℕ) (p : ExprTree) (more : PostfixList) → Typed s.facts s.sites count (followed p (e.arrow arrow name more)) →
+    (s : Setting) (count arrow : ℕ) (name : List ℕ) (p : ExprTree) (more : PostfixList)
+    → Typed s.facts s.sites count (with_postfix_operators p (e.arrow arrow name more)) →
     KeepsType s.facts p × IsSome (s.facts.offset_at arrow)

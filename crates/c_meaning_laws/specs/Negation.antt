@@ -17,19 +17,19 @@ use Rattle.c_meaning_laws.specs.Constants.{IsInt, zero_at}
 use Rattle.c_meaning_laws.specs.Parentheses.{IsWritten}
 
 -- a value of a type: a number of its kind, within the kind's range, a pointer, or one that is undefined
-abbrev pub IsOf : Option ValueType → Scalar → Type 0
-IsOf (Some (type.Number kind)) (Number other value) = (other ≡ kind) × LiesIn kind value
-IsOf (Some (type.Number kind)) Undefined = Unit {0}
-IsOf (Some (type.Pointer size)) (Place number offset) = Unit {0}
-IsOf (Some (type.Pointer size)) Null = Unit {0}
-IsOf (Some (type.Pointer size)) Undefined = Unit {0}
-IsOf (Some (type.Array size)) (Place number offset) = Unit {0}
-IsOf (Some (type.Array size)) Undefined = Unit {0}
-IsOf of v = ⊥
+abbrev pub IsValueOfType : Option ValueType → Scalar → Type 0
+IsValueOfType (Some (type.Number kind)) (Number other value) = (other ≡ kind) × LiesIn kind value
+IsValueOfType (Some (type.Number kind)) Undefined = Unit {0}
+IsValueOfType (Some (type.Pointer size)) (Place number offset) = Unit {0}
+IsValueOfType (Some (type.Pointer size)) Null = Unit {0}
+IsValueOfType (Some (type.Pointer size)) Undefined = Unit {0}
+IsValueOfType (Some (type.Array size)) (Place number offset) = Unit {0}
+IsValueOfType (Some (type.Array size)) Undefined = Unit {0}
+IsValueOfType of v = ⊥
 
 -- where the expression gives a value in this state, it is one of its type
 abbrev pub GivesItsType : Setting → ExprTree → World → Type 0
-GivesItsType s x w = (v : Scalar) (u : World) → (expr s x).value w ≡ Go v u → IsOf (type_of s.facts x) v
+GivesItsType s x w = (v : Scalar) (u : World) → (expr s x).value w ≡ Go v u → IsValueOfType (type_of s.facts x) v
 
 -- `0 == x`
 abbrev pub zero_equals : ℕ → ℕ → ℕ → ExprTree → ExprTree

@@ -7,13 +7,14 @@ use Rattle.c_syntax.specs.ExprTree as e
 use Rattle.c_syntax.specs.ExprTree.{ExprTree, ExprList}
 use Rattle.c_syntax.specs.StatementTree as tree
 use Rattle.c_meaning.specs.declared.value_type.ValueType.{ValueType}
-use Rattle.c_meaning.specs.Words.{with_result, is_null_as, Sense, cast, Setting, Signature, expr, Source, call_at, inside, left_function, locals_at, run_body}
+use Rattle.c_meaning.specs.Words.{with_result, is_null_as, Sense, cast_sense, Setting, Signature, expr, Source, call_at, body_world, left_function, locals_at}
+use Rattle.c_meaning.specs.Words.{run_body}
 use Rattle.c_meaning.specs.Words.{setting_of, value_left, exec, has_value, World, Out, Go, Returned, bind}
 use Rattle.c_meaning_laws.specs.Frames.{HasOwnVariables}
 
 -- what a cast to the type means of the expression (C99 6.5.4)
 abbrev pub argument_as : Setting → ValueType → ExprTree → Sense
-argument_as s type x = cast (is_null_as (Some type) x) (Some type) (expr s x)
+argument_as s type x = cast_sense (is_null_as (Some type) x) (Some type) (expr s x)
 
 -- The arguments are evaluated one after another, and each gives what a cast to the type of its parameter gives: these values, the first one first.
 abbrev pub ArePassed : Setting → List ValueType → ExprList → World → List Scalar → World → Type 0
@@ -25,7 +26,7 @@ ArePassed s types passed w vs u = ⊥
 -- the body of the function, with its variables in these objects, and its end; what it calls are functions of the text
 abbrev pub body_of : Source → ℕ → ℕ → Signature → Objects → World → Out Scalar
 body_of src turns number f objects w =
-    bind (run_body src (call_at src turns) turns f (locals_at f w) (src.body number) (inside objects w)) (λ flow y.
+    bind (run_body src (call_at src turns) turns f (locals_at f w) (src.body number) (body_world objects w)) (λ flow y.
     bind (value_left (number == src.main) (has_value f.result) flow y) (left_function (locals_at f w)))
 
 -- in this state the first means what the second means

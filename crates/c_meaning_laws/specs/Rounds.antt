@@ -6,12 +6,12 @@ use Rattle.c_syntax.specs.Words.{ExprTree, ForStartTree, StatementTree, EntryLis
 use Rattle.c_syntax.specs.StatementTree as tree
 use Rattle.c_meaning.specs.declared.value_type.ValueType.{ValueType}
 use Rattle.c_meaning.specs.Words.{Setting, condition, Source, call_at, setting_of, after_body, exec, exec_all, World, Out, Go, Flow, Next, Continued, bind}
-use Rattle.c_meaning.specs.Words.{choose, spend}
+use Rattle.c_meaning.specs.Words.{chosen_part, one_turn_spent}
 use Rattle.c_meaning_laws.specs.Constants.{one_at}
 
 -- the loop again, behind the turn that each round but the first one spends
-abbrev pub again : Setting → ℕ → ValueType → StatementTree → World → Out Flow
-again s n result loop w = spend w.turns w (exec s n result loop)
+abbrev pub loop_again : Setting → ℕ → ValueType → StatementTree → World → Out Flow
+loop_again s n result loop w = one_turn_spent w.turns w (exec s n result loop)
 
 -- In a function of a text, where at most n turns are left: `while (c) body` is `if (c)` the body, and then the loop again where the body was left at its
 -- end or by `continue`; `break` ends it.
@@ -20,8 +20,8 @@ WhileIsFirstRound =
     (src : Source) (calls n : ℕ) (locals : Locals) (result : ValueType) (token : ℕ) (c : ExprTree) (body : StatementTree) (w : World) → w.turns ≤ n →
     let s : Setting = setting_of src (call_at src calls) locals in
     exec s n result (tree.While token c body) w
-    ≡ bind (condition s token c w) (λ holds. choose holds
-    (λ u. bind (exec s n result body u) (after_body (again s n result (tree.While token c body)))) (Go Next))
+    ≡ bind (condition s token c w) (λ holds. chosen_part holds
+    (λ u. bind (exec s n result body u) (after_body (loop_again s n result (tree.While token c body)))) (Go Next))
 
 -- In the same, `do body while (c);` is the body, and then where `c` is true the loop again.
 abbrev pub DoIsFirstRound : Type 0
@@ -30,7 +30,7 @@ DoIsFirstRound =
     let s : Setting = setting_of src (call_at src calls) locals in
     exec s n result (tree.Do token body c) w
     ≡ bind (exec s n result body w) (after_body (λ u.
-    bind (condition s token c u) (λ holds. choose holds (again s n result (tree.Do token body c)) (Go Next))))
+    bind (condition s token c u) (λ holds. chosen_part holds (loop_again s n result (tree.Do token body c)) (Go Next))))
 
 -- `{ body step; }`
 abbrev pub with_step : ℕ → StatementTree → ExprTree → StatementTree

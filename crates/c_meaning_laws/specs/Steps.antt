@@ -6,7 +6,7 @@ use Rattle.c_syntax.specs.ExprTree as e
 use Rattle.c_syntax.specs.ExprTree.{ExprTree}
 use Rattle.c_meaning.specs.Words.{Setting, expr, is_place, World}
 use Rattle.c_meaning_laws.specs.Constants.{IsInt, one_at}
-use Rattle.c_meaning_laws.specs.Indexing.{followed}
+use Rattle.c_meaning_laws.specs.Indexing.{with_postfix_operators}
 
 -- `++x` means what `x += 1` means: as a value, and for what it does alone.
 abbrev pub IncrementIsSum : Type 0
@@ -24,5 +24,5 @@ DecrementIsDifference =
 abbrev pub StepBehindIsStep : Type 0
 StepBehindIsStep =
     (s : Setting) (token : ℕ) (x : ExprTree) (w : World) → is_place x ≡ true →
-    ((expr s (followed x (e.increment token e.no_postfix))).effect w ≡ (expr s (e.Prefix token prefix.Increment x)).effect w)
-    × ((expr s (followed x (e.decrement token e.no_postfix))).effect w ≡ (expr s (e.Prefix token prefix.Decrement x)).effect w)
+    ((expr s (with_postfix_operators x (e.increment token e.no_postfix))).effect w ≡ (expr s (e.Prefix token prefix.Increment x)).effect w)
+    × ((expr s (with_postfix_operators x (e.decrement token e.no_postfix))).effect w ≡ (expr s (e.Prefix token prefix.Decrement x)).effect w)

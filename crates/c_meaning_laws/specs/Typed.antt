@@ -19,7 +19,8 @@ use Rattle.c_meaning.specs.declared.value_type.Called.{Called}
 use Rattle.c_meaning.specs.declared.value_type.Called.TheVariants as called
 use Rattle.c_meaning.specs.declared.value_type.ValueType.{ValueType}
 use Rattle.c_meaning.specs.declared.value_type.ValueType.TheVariants as type
-use Rattle.c_meaning.specs.Words.{as_used, is_null_as, Facts, Signature, Sites, operation, assignment, begins_null, called_as, is_place, joint, one_kind}
+use Rattle.c_meaning.specs.Words.{as_used, is_null_as, Facts, Signature, Sites, operation, assignment_of_sign, begins_null, called_as, is_place, joint_of_sign}
+use Rattle.c_meaning.specs.Words.{one_kind}
 use Rattle.c_meaning.specs.Words.{operand_type, step_of, token_of, type_of}
 use Rattle.c_meaning_laws.specs.Rules.{Accepts, Arm, Assigns, Casts, Changes, IsNumberType, OperatorsEnd}
 use Rattle.c_meaning_laws.specs.Rules.{IsObject, IsPointer, IsPointing, IsPromoted, IsValue, Joins, Moves, type_beside}
@@ -100,7 +101,7 @@ module _ (facts : Facts) (sites : Sites) (count : ℕ) where
     pub Typed : ExprTree → Type 0
     Typed (e.Comma token operands) = TypedLast (facts.type_at token) operands
     Typed (e.Assign token sign target value) = Typed target × Typed value × IsTrue (is_place target)
-        × Assigns facts (assignment sign) (type_of facts target) value × (facts.type_at token ≡ type_of facts target)
+        × Assigns facts (assignment_of_sign sign) (type_of facts target) value × (facts.type_at token ≡ type_of facts target)
         × PairsFit sites (variable_named facts target) (type_of facts target) (sites.pairs_at token)
     Typed (e.Conditional token condition first second) = Typed condition × Typed first × Typed second
         × IsValue (type_of facts condition) × Arm facts (facts.type_at token) first × Arm facts (facts.type_at token) second
@@ -129,7 +130,7 @@ module _ (facts : Facts) (sites : Sites) (count : ℕ) where
     pub TypedLinks : Option ValueType → LinkList → Type 0
     TypedLinks left e.no_links = Unit {0}
     TypedLinks left (e.more_links token sign operand rest) = Typed operand × IsValue (type_of facts operand)
-        × Joins (joint sign) left (type_beside facts (binary_of sign) left operand) (facts.type_at token) × TypedLinks (facts.type_at token) rest
+        × Joins (joint_of_sign sign) left (type_beside facts (binary_of sign) left operand) (facts.type_at token) × TypedLinks (facts.type_at token) rest
 
     -- operators behind a place, or a value, of this type, which may be a variable
     pub TypedPostfix : Bool → Option Slot → Option ValueType → PostfixList → Type 0

@@ -14,7 +14,7 @@ use Rattle.c_types.specs.Answers.{declared_at}
 use Rattle.flow.specs.declared.site.Site.{Site}
 use Rattle.c_meaning.specs.declared.value_type.ValueType.{ValueType}
 use Rattle.c_meaning.specs.declared.value_type.ValueType.TheVariants as type
-use Rattle.c_meaning.specs.Words.{Facts, Signature, starts_of, bodies, computed_type, element_type, facts_of, text_of_string, main_of, sites_by_table}
+use Rattle.c_meaning.specs.Words.{Facts, Signature, starts_of, function_bodies, computed_type, element_type, facts_of, text_of_string, main_of, sites_by_table}
 use Rattle.c_meaning_laws.specs.Rules.{Accepts, IsPointer, IsPointing}
 use Rattle.c_meaning_laws.specs.TypedSource.{GivesInt, TypedBody}
 
@@ -55,6 +55,6 @@ TypedGlobals facts w (x ∷ xs) = TypedGlobal facts w x (declared_at w x.declara
 -- Each defined function has a body whose types fit and at which this table's sites may stand, `main` gives an `int`, and each global a constant.
 pub record TypedText (t : SourceTree) (w : Walk) (table : List Site) : Type 0 where
   pub functions : (number : ℕ) (f : Signature) → (facts_of t w).signature number ≡ Some f → TypedBody (facts_of t w) (sites_by_table table) f
-      (slice_get (bodies t) number)
+      (slice_get (function_bodies t) number)
   pub main : GivesInt ((facts_of t w).signature (main_of w))
   pub globals : TypedGlobals (facts_of t w) w (flat_map starts_of t.items)

@@ -5,7 +5,7 @@ ghost use Rattle.c_syntax.specs.ItemTree.{SourceTree};
 ghost use Rattle.c_types_expressions.specs.declared.walk.Walk.{Walk};
 ghost use Rattle.flow.specs.declared.site.Site.{Site};
 ghost use Rattle.c_meaning.specs.Words.{Source, meaning, text_meaning};
-ghost use Rattle.c_meaning_laws.specs.Example.{example};
+ghost use Rattle.c_meaning_laws.specs.Example.{example_source};
 ghost use Rattle.c_meaning_laws.specs.TypedSource.{SourceFits, without_sites};
 ghost use Rattle.c_meaning_laws.specs.TypedText.{TypedText};
 
@@ -15,7 +15,7 @@ pub fn a_typed_text_never_faults()
     ensures never { (src : Source) (input : List ℕ) (turns : ℕ) → SourceFits src → (meaning src input turns).outcome ≢ Trapped Internal }
     ensures text { (tree : SourceTree) (walk : Walk) (table : List Site) (input : List ℕ) (turns : ℕ) → TypedText tree walk table
         → (text_meaning tree walk table input turns).outcome ≢ Trapped Internal }
-    ensures example { SourceFits example }
+    ensures example { SourceFits example_source }
 {}
 
 /// Sites change nothing of a run but what is seen: a text whose types fit ends and writes the same without them (PLDI 2003 section 2).

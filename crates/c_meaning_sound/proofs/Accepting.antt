@@ -10,14 +10,14 @@ use Rattle.c_syntax.specs.declared.token.Sign.TheVariants as sign
 use Rattle.c_syntax.specs.declared.parts.Base.{Base}
 use Rattle.c_syntax.specs.declared.parts.Params.{Params}
 use Rattle.c_syntax.specs.Words.{DeclarationTree, EntryList, StartTree, ItemTree, SourceTree, DeclarationAt, EachAt, ItemAt, ShapedDeclaration, ShapedItem}
-use Rattle.c_syntax.specs.Words.{a_name, a_sign, body_kinds, declaration_kinds, entry_kinds, item_kinds, parenthesized, params_kinds, type_kinds}
+use Rattle.c_syntax.specs.Words.{a_name, a_sign, body_kinds, declaration_kinds, entry_kinds, item_kinds, parenthesized_kinds, params_kinds, type_kinds}
 use Rattle.c_syntax.specs.ItemTree as item
 use Rattle.c_types_rules.specs.TypeTree.{TypeTree}
 use Rattle.c_types_rules.specs.declared.function.FunctionType.{FunctionType}
 use Rattle.c_types_expressions.specs.declared.walk.Walk.{Walk}
-use Rattle.c_types.specs.Answers.{noted}
-use Rattle.c_types_expressions.specs.Words.{with_stars, beginning, found, Done, Fine}
-use Rattle.c_types_walk.specs.ItemWalk.{clashes, known_as, types_of, walk_item, walk_items, with_function}
+use Rattle.c_types.specs.Answers.{note_at}
+use Rattle.c_types_expressions.specs.Words.{with_stars, empty_walk, declared_meaning, Done, Fine}
+use Rattle.c_types_walk.specs.ItemWalk.{is_clashing_name, known_as, types_of, walk_item, walk_items, with_function}
 use Rattle.c_types_walk.specs.StatementWalk.{walk_declaration}
 use Rattle.c_meaning.specs.Words.{Signature, starts_of, body_of_item, facts_of, signature_of, strings_declared, strings_of_item}
 use Rattle.c_meaning_laws.specs.TypedSource.{TypedBody}
@@ -62,8 +62,8 @@ module _ (tree : SourceTree) (z : Walk) where
       let e = entry_kinds body in
       omega (
         arith,
-        length-append (t ++ a_name name ++ parenthesized p) (body_kinds (Some body)),
-        length-append (t ++ a_name name) (parenthesized p),
+        length-append (t ++ a_name name ++ parenthesized_kinds p) (body_kinds (Some body)),
+        length-append (t ++ a_name name) (parenthesized_kinds p),
         length-append t (a_name name),
         length-append (a_sign sign.LeftParen ++ p) (a_sign sign.RightParen),
         length-append (a_sign sign.LeftParen) p,
@@ -84,10 +84,10 @@ module _ (tree : SourceTree) (z : Walk) where
         (at + length (type_kinds b stars) + 2 + length (params_kinds ps)) w a v p.2
         (omega arith) e in
         let f : FunctionType = record { gives = with_stars stars k.of; params = types_of k.own } in
-        let known : Option ℕ = known_as f (found name w.names) w in
+        let known : Option ℕ = known_as f (declared_meaning name w.names) w in
         record {
           item = bodiless_item tree z token b stars name ps f known count at hi xs w v st g
-              (declares_is token (clashes name known w) f.gives (with_function name f known w) v a k.rest).same (omega (arith, h));
+              (declares_is token (is_clashing_name name known w) f.gives (with_function name f known w) v a k.rest).same (omega (arith, h));
           globals = λ later. tt;
         }
     item_good (item.Function token b stars name ps (Some body)) count at hi xs w v a o p l q s st g gr h c e =
@@ -95,7 +95,7 @@ module _ (tree : SourceTree) (z : Walk) where
         let mid : ℕ = at + length (type_kinds b stars) + 2 + length (params_kinds ps) in
         let k = function_is token b stars name ps (Some body) lo mid w a v p.2 (omega arith) e in
         let f : FunctionType = record { gives = with_stars stars k.of; params = types_of k.own } in
-        let known : Option ℕ = known_as f (found name w.names) w in
+        let known : Option ℕ = known_as f (declared_meaning name w.names) w in
         let d : Defines token f name k.own body known w v = body_defines token f name k.own body known w v a k.rest in
         let grown : Grown (with_function name f known w) z = grown_then (with_function name f known w) v z
         (defines_onward token f name k.own body known w v d) gr in
@@ -105,7 +105,7 @@ module _ (tree : SourceTree) (z : Walk) where
               hi xs w v (standing_function tree z count at name f known w st) (tagged_function tree z xs name f known w g)
               (same_function_notes tree z name f known w)
               (same_types_declared tree z name f known w) (same_variables tree z name f known w)
-              (function_found tree z name f known w (λ index i. known_has tree z f (found name w.names) w index i)
+              (function_found tree z name f known w (λ index i. known_has tree z f (declared_meaning name w.names) w index i)
               (begun_stays (with_function name f known w).functions z.functions grown.functions)) d grown gr (defines_one token f name k.own body known w v d)
               (omega arith) (omega arith) (omega arith) (omega (arith, h, body_long b stars name ps token body)) c k.are o.1 p.3 l;
           globals = λ later. tt;
@@ -193,12 +193,12 @@ module _ (tree : SourceTree) (z : Walk) where
         }
 
   -- before the first item
-  nothing_at : {A : Type 0} (n k : ℕ) → noted (replicate {A = Option A} n None) k ≡ None
+  nothing_at : {A : Type 0} (n k : ℕ) → note_at (replicate {A = Option A} n None) k ≡ None
   nothing_at zero k = refl
   nothing_at (suc n) zero = refl
   nothing_at {A = A} (suc n) (suc k) = nothing_at {A = A} n k
 
-  pub begins_standing : (n : ℕ) → Standing tree z n 0 (beginning n)
+  pub begins_standing : (n : ℕ) → Standing tree z n 0 (empty_walk n)
   begins_standing n = record {
     types = omega (arith, length-replicate {A = Option TypeTree} n None);
     variables_at = omega (arith, length-replicate {A = Option ℕ} n None);
@@ -212,5 +212,5 @@ module _ (tree : SourceTree) (z : Walk) where
     tags = λ tag index e. cc;
   }
 
-  pub begins_tagged : (n : ℕ) → Tagged tree z tree.items (beginning n)
+  pub begins_tagged : (n : ℕ) → Tagged tree z tree.items (empty_walk n)
   begins_tagged n tag h = refl

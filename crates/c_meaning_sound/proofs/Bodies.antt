@@ -4,10 +4,10 @@ use Rattle.std.specs.Prelude.{sum_by, slice_get}
 use Rattle.std.specs.List.{AllByRecursion, flat_map}
 use Rattle.c_syntax.specs.Words.{SourceTree, tree_kinds, kind_text_len, IsShaped}
 use Rattle.c_types_expressions.specs.declared.walk.Walk.{Walk}
-use Rattle.c_types_expressions.specs.Words.{beginning, Fine}
+use Rattle.c_types_expressions.specs.Words.{empty_walk, Fine}
 use Rattle.c_types.specs.Fault.{walk_tree}
 use Rattle.c_types.proofs.NotedItems.{text_notes}
-use Rattle.c_meaning.specs.Words.{Signature, starts_of, bodies, facts_of, signature_of}
+use Rattle.c_meaning.specs.Words.{Signature, starts_of, function_bodies, facts_of, signature_of}
 use Rattle.c_meaning_laws.specs.TypedSource.{TypedBody}
 use Rattle.c_meaning_laws.specs.TypedText.{TypedGlobals}
 use Rattle.c_meaning_sound.specs.Accepted.{IsNegatable}
@@ -22,7 +22,7 @@ use Rattle.c_meaning_sound.proofs.Stating.{body_good}
 
 -- what holds of an accepted text before any site is looked at
 pub record Accepted (tree : SourceTree) (z : Walk) : Type 0 where
-  pub bodies : (number : ℕ) (f : Signature) → (facts_of tree z).signature number ≡ Some f → TypedBody (facts tree z) none f (slice_get (bodies tree) number)
+  pub bodies : (number : ℕ) (f : Signature) → (facts_of tree z).signature number ≡ Some f → TypedBody (facts tree z) none f (slice_get (function_bodies tree) number)
   pub globals : TypedGlobals (facts_of tree z) z (flat_map starts_of tree.items)
 
 pub tree_accepted : (tree : SourceTree) (z : Walk) → IsShaped tree → walk_tree tree ≡ Fine tt z → sum_by kind_text_len (tree_kinds tree) ≤ 1048575
@@ -32,7 +32,7 @@ tree_accepted tree z s h l n =
     let sums : Sums z = tree_sums tree z s h in
     let long : length z.declared_types ≡ length z.variables = (text_notes tree z h).1.0 in
     let fitted = items_good tree z sums (body_good tree z ends) (global_good tree z ends) long tree.items (length tree.lines) 0
-    (beginning (length tree.lines)) tt
+    (empty_walk (length tree.lines)) tt
     s.items s.placed (all_spelled tree s.items s.placed (strings_short tree 1048575 l)) n (record { structs = tt; functions = tt })
     (begins_standing tree z (length tree.lines)) (begins_tagged tree z (length tree.lines)) (omega (arith, s.lines)) (tree_is tree z h).items in
     record {

@@ -17,11 +17,11 @@ use Rattle.c_syntax.specs.ExprTree as e
 use Rattle.c_syntax.specs.StatementTree as s
 use Rattle.c_types_rules.specs.declared.operand.Operand.{Operand}
 use Rattle.c_types_rules.specs.TypeTree as t
-use Rattle.c_types_rules.specs.Words.{TypeTree, assignable, is_scalar}
+use Rattle.c_types_rules.specs.Words.{TypeTree, is_assignable, is_scalar}
 use Rattle.c_types_expressions.specs.declared.walk.Walk.{Walk}
-use Rattle.c_types.specs.Answers.{declared_at, noted}
+use Rattle.c_types.specs.Answers.{declared_at, note_at}
 use Rattle.c_types_expressions.specs.Words.{walk_expr, walk_exprs, Walked, Fine, Faulty}
-use Rattle.c_types_walk.specs.Initialisers.{all_initialise, cells_of_string, initialises, is_constant, listed_type, valued, walk_initial, with_length}
+use Rattle.c_types_walk.specs.Initialisers.{all_initialise, cells_of_string, is_scalar_initialiser, is_constant, listed_type, type_by_expression, walk_initial, with_length}
 use Rattle.c_meaning.specs.declared.value_type.ValueType.{ValueType}
 use Rattle.c_meaning.specs.Words.{computed_type, element_type, facts_of, strings_in, strings_initial, strings_of_all, token_of}
 use Rattle.c_meaning_laws.specs.Rules.{Accepts}
@@ -61,9 +61,9 @@ third_true true true r h = h
 third_true true false r h = cc
 third_true false q r h = cc
 
-valued_constant : (value : ExprTree) (of u : TypeTree) (a : Operand) → valued true of value a (cells_of_string value) ≡ Some u → is_constant value ≡ true
+valued_constant : (value : ExprTree) (of u : TypeTree) (a : Operand) → type_by_expression true of value a (cells_of_string value) ≡ Some u → is_constant value ≡ true
 valued_constant (e.Strings token parts) of u a h = refl
-valued_constant x of u a h = third_of (is_scalar of) (assignable of a) _ of u h
+valued_constant x of u a h = third_of (is_scalar of) (is_assignable of a) _ of u h
 
 abbrev pub AllConstant : ExprList → Type 0
 AllConstant e.no_exprs = Unit {0}
@@ -73,9 +73,9 @@ pub all_constant : (element : TypeTree) (items : ExprList) (own : List Operand) 
 all_constant element e.no_exprs own h = tt
 all_constant element (e.more_exprs x rest) [] h = absurd (false≢true h)
 all_constant element (e.more_exprs x rest) (a ∷ own) h =
-    let parts : (initialises true element x a ≡ true) × (all_initialise true element rest own ≡ true) =
-    and_parts (initialises true element x a) (all_initialise true element rest own) h in
-    (third_true (is_scalar element) (assignable element a) (is_constant x) parts.0, all_constant element rest own parts.1)
+    let parts : (is_scalar_initialiser true element x a ≡ true) × (all_initialise true element rest own ≡ true) =
+    and_parts (is_scalar_initialiser true element x a) (all_initialise true element rest own) h in
+    (third_true (is_scalar element) (is_assignable element a) (is_constant x) parts.0, all_constant element rest own parts.1)
 
 rest_kinds : (rest : ExprList) → AllByRecursion IsNegatable (more_exprs_kinds rest) → AllByRecursion IsNegatable (exprs_kinds rest)
 rest_kinds e.no_exprs h = tt
@@ -85,7 +85,7 @@ module _ (tree : SourceTree) (z : Walk) where
   -- a constant, through which the walk leaves the names as they are
   pub record Constantly (x : ExprTree) (w : Walk) (a : Operand) (v : Walk) : Type 0 where
     pub still : Still w v
-    pub is : (c : ℕ) → Fits tree z c x → noted z.types (token_of x) ≡ Some a.ctype → IsConstant (facts_of tree z) x
+    pub is : (c : ℕ) → Fits tree z c x → note_at z.types (token_of x) ≡ Some a.ctype → IsConstant (facts_of tree z) x
 
   constant_good : (x : ExprTree) (w : Walk) → AllByRecursion IsNegatable (expr_kinds x)
       → Gives (walk_expr x w) (λ a v. is_constant x ≡ true → Constantly x w a v)
@@ -192,7 +192,7 @@ module _ (tree : SourceTree) (z : Walk) (ends : Ended tree z) where
       let long : length (equals_kinds (Some (s.Value value))) ≡ 1 + length (expr_kinds value) = omega arith in
       and_then (gives_both (walk_good tree z ends value (at + 1) w q.1 p (spelled_lies tree z ends (strings_in value) l)
       (ready_in r (at + 1) (at + 1 + length (expr_kinds value)) (omega arith) (omega (arith, long)))) (constant_good tree z value w i.1)) (λ a v g.
-      completed (first_token value) (valued true of value a (cells_of_string value)) v (λ u h.
+      completed (first_token value) (type_by_expression true of value a (cells_of_string value)) v (λ u h.
       let k : Constantly tree z value w a v = g.1 (valued_constant value of u a h) in
       record {
         long = valued_length true (cells_of_string value) of u value a h;

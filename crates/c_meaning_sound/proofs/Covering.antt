@@ -19,13 +19,13 @@ use Rattle.flow.specs.declared.site.Slot.TheVariants as slot
 use Rattle.c_meaning.specs.declared.value_type.ValueType.{ValueType}
 use Rattle.c_meaning.specs.declared.value_type.ValueType.TheVariants as type
 use Rattle.c_meaning.specs.Words.{is_null_as, Sites, computed_type, facts_of, Assignment, Plain, By, type_of}
-use Rattle.c_meaning_laws.specs.Rules.{Assigns, IsNumberType, IsScalar, TakesOrNull}
+use Rattle.c_meaning_laws.specs.Rules.{Assigns, IsNumberType, IsScalar}
 use Rattle.c_meaning_laws.specs.Typed.{AllLookAt, HasSlot, LooksAt, PairsFit, Typed, variable_named}
 use Rattle.c_meaning_laws.specs.TypedStatements.{IsLocal}
 use Rattle.c_meaning_sound.proofs.Noting.{facts, is_of, is_same, none, slot_named}
 use Rattle.sites.specs.declared.spots.Spot.{Spot}
 use Rattle.sites.specs.declared.spots.Spot.TheVariants as spot
-use Rattle.sites.specs.Spots.{changed, named_token}
+use Rattle.sites.specs.Spots.{change_spots, named_token}
 use Rattle.sites.proofs.Rises.{Rises}
 
 -- a variable that gets a new value at the token, and of whose name's token this holds
@@ -176,7 +176,7 @@ module _ (tree : SourceTree) (z : Walk) (s : Sites) where
 
     -- the sites at a new value of what an expression names
     pub target_fits : (x : ExprTree) (token : ℕ) (ns : List ℕ) → Typed (facts tree z) none c x → IsScalar (type_of (facts_of tree z) x)
-        → AllByRecursion (λ n. Has (λ target. Shows target n) token (changed token (named_token x))) ns
+        → AllByRecursion (λ n. Has (λ target. Shows target n) token (change_spots token (named_token x))) ns
         → PairsFit s (variable_named (facts_of tree z) x) (type_of (facts_of tree z) x) ns
     target_fits (e.Name own name) token ns h k q = pairs_named own token token (type_of (facts_of tree z) (e.Name own name)) ns
         (λ u d a. name_number own (type_at z own) _ k h.1 u d a) q

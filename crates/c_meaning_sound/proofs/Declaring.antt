@@ -5,7 +5,6 @@ use Rattle.std.specs.Prelude.{Option, slice_get, slice_set, nat_lt, is_some, ◌
 use Rattle.std.specs.List.{AllByRecursion, flat_map}
 use Rattle.std.specs.Option.{option_map, option_and_then}
 use Rattle.std.proofs.lemmas.Bool.{false≢true, true≢false, and_parts}
-use Rattle.std.proofs.lemmas.List.{length-replicate}
 use Rattle.std.proofs.lemmas.Option.{slice_get_within, same_Some}
 use Rattle.c_types_expressions.proofs.Given.{Gives, and_then, weaker}
 use Rattle.c_types.proofs.Replaced.{noted_other, noted_same, replaced_other, replaced_same}
@@ -13,9 +12,8 @@ use Rattle.sites.proofs.RisesBodies.{declarator-length}
 use Rattle.c_types.proofs.Noted.{length_replaced}
 use Rattle.base_lists.proofs.Lists.{get_last, Stays}
 use Rattle.base_lists.proofs.Every.{all_first, all_second}
-use Rattle.c_syntax.specs.Words.{SourceTree, StartTree, DeclarationTree, DeclarationAt, EachAt, StartAt, ShapedDeclaration, ShapedStart, a_name, a_sign}
-use Rattle.c_syntax.specs.Words.{after_commas, base_kinds, bound_kinds, declaration_kinds, declarator_kinds, star_kinds, start_kinds, with_commas}
-use Rattle.c_syntax.specs.declared.parts.Declarator.{Declarator}
+use Rattle.c_syntax.specs.Words.{SourceTree, StartTree, DeclarationTree, DeclarationAt, EachAt, StartAt, ShapedDeclaration, ShapedStart, a_sign}
+use Rattle.c_syntax.specs.Words.{after_commas, base_kinds, declaration_kinds, declarator_kinds, start_kinds, with_commas}
 use Rattle.c_syntax.specs.declared.token.Sign.TheVariants as sign
 use Rattle.c_syntax.specs.declared.token.TokenKind.TheVariants as kind
 use Rattle.c_types_rules.specs.declared.fault.FaultKind.{FaultKind}
@@ -24,16 +22,16 @@ use Rattle.c_types_rules.specs.TypeTree as t
 use Rattle.c_types_rules.specs.Words.{TypeTree, is_complete, is_object}
 use Rattle.c_types_expressions.specs.declared.names.Meaning.TheVariants as meaning
 use Rattle.c_types_expressions.specs.declared.names.ScopeEntry.{ScopeEntry}
-use Rattle.c_types_expressions.specs.declared.names.ScopeEntry.TheVariants.{Opens, Declares}
+use Rattle.c_types_expressions.specs.declared.names.ScopeEntry.TheVariants.{Declares}
 use Rattle.c_types_expressions.specs.declared.walk.Variable.{Variable}
 use Rattle.c_types_expressions.specs.declared.walk.Variable.TheVariants as variable
 use Rattle.c_types_expressions.specs.declared.walk.VariableEntry.{VariableEntry}
 use Rattle.c_types_expressions.specs.declared.walk.Walk.{Walk}
-use Rattle.c_types.specs.Answers.{declared_at, noted, variable_of}
+use Rattle.c_types.specs.Answers.{declared_at, note_at, variable_of}
 use Rattle.c_types_walk.specs.Declarators.{declared_type, is_open}
-use Rattle.c_types_expressions.specs.Words.{with_stars, is_name_taken, Walked, Done, Fine, Faulty, ◌>>=◌, replaced, with_variable}
+use Rattle.c_types_expressions.specs.Words.{with_stars, is_name_taken, Walked, Done, Fine, Faulty, ◌>>=◌, item_replaced, with_variable}
 use Rattle.c_types_walk.specs.Initialisers.{length_of, walk_initial, with_length}
-use Rattle.c_types_walk.specs.StatementWalk.{sized, walk_closed, walk_declaration, walk_open, walk_start, walk_starts, walk_typed, with_declared_type}
+use Rattle.c_types_walk.specs.StatementWalk.{object_type_checked, walk_closed, walk_declaration, walk_open, walk_start, walk_starts, walk_typed, with_declared_type}
 use Rattle.c_meaning.specs.Words.{slot_of, strings_declared, strings_initial}
 use Rattle.c_meaning_laws.specs.TypedStatements.{IsLocal, TypedInitial, TypedStarts}
 use Rattle.c_meaning_sound.proofs.Expressions.{base_then, stars_deep}
@@ -82,7 +80,7 @@ sized_by true token w k h = h refl
 sized_by false token w k h = record { by = tt }
 
 sized_then : {A : Type 0} {Q : A → Walk → Type 0} (token : ℕ) (of : TypeTree) (w : Walk) (k : Done → Walk → Walked A)
-    → (is_object w.structs of ≡ true → Gives (k tt w) Q) → Gives (sized false token of w >>= k) Q
+    → (is_object w.structs of ≡ true → Gives (k tt w) Q) → Gives (object_type_checked false token of w >>= k) Q
 sized_then token of w k h = sized_by (is_object w.structs of) token w k h
 
 -- another length leaves the elements as they are
@@ -121,15 +119,15 @@ module _ (tree : SourceTree) (z : Walk) where
   if_whole true xs ys h k = h
   if_whole false xs ys h k = k
 
-  pub all_whole_replaced : (types : List TypeTree) (i : ℕ) (of : TypeTree) → AllWhole tree z types → Whole tree z of → AllWhole tree z (replaced types i of)
+  pub all_whole_replaced : (types : List TypeTree) (i : ℕ) (of : TypeTree) → AllWhole tree z types → Whole tree z of → AllWhole tree z (item_replaced types i of)
   all_whole_replaced types i of h k = if_whole (nat_lt i (length types)) (slice_set types i of) types (all_whole_set types i of h k) h
 
   -- a variable of the running function: its slot, its place among all variables, and its type where that is known whole
   abbrev pub IsDeclared : ℕ → ℕ → TypeTree → ℕ → Type 0
-  IsDeclared token index of c = IsLocal (facts tree z) none c ((facts tree z).slot_at token) × (noted z.variables_at token ≡ Some index)
+  IsDeclared token index of c = IsLocal (facts tree z) none c ((facts tree z).slot_at token) × (note_at z.variables_at token ≡ Some index)
       × (is_complete z.structs of ≡ true → slice_get z.declared_types index ≡ Some of)
 
-  local_is : (c index locals token : ℕ) (name : List ℕ) → locals + 1 ≤ c → noted z.types token ≡ None → noted z.variables_at token ≡ Some index
+  local_is : (c index locals token : ℕ) (name : List ℕ) → locals + 1 ≤ c → note_at z.types token ≡ None → note_at z.variables_at token ≡ Some index
       → slice_get z.variables index ≡ Some (record { name = name; variable = variable.Local locals; from = token })
       → IsLocal (facts tree z) none c ((facts tree z).slot_at token)
   local_is c index locals token name h n k e =
@@ -140,7 +138,7 @@ module _ (tree : SourceTree) (z : Walk) where
   abbrev entry_of : ℕ → List ℕ → Walk → VariableEntry
   entry_of token name w = record { name = name; variable = variable.Local w.locals; from = token }
 
-  pub variable_noted : (token : ℕ) (name : List ℕ) (of : TypeTree) (w : Walk) → token < length w.variables_at → noted w.types token ≡ None
+  pub variable_noted : (token : ℕ) (name : List ℕ) (of : TypeTree) (w : Walk) → token < length w.variables_at → note_at w.types token ≡ None
       → length w.declared_types ≡ length w.variables → Whole tree z of
       → Part tree z token (token + 1) w (with_variable false token name of w) (IsDeclared token (length w.variables) of)
   variable_noted token name of w h bare long whole = record {
@@ -169,7 +167,7 @@ module _ (tree : SourceTree) (z : Walk) where
     above = λ q l. apart q (λ x. omega (arith, x, l));
     holds = λ c g.
         let notes : Same (with_variable false token name of w) z token = g.notes token (omega arith) (omega arith) in
-        let at : noted z.variables_at token ≡ Some (length w.variables) = notes.variables ∙ noted_same w.variables_at token (length w.variables) h in (
+        let at : note_at z.variables_at token ≡ Some (length w.variables) = notes.variables ∙ noted_same w.variables_at token (length w.variables) h in (
           local_is c (length w.variables) w.locals token name g.locals (notes.types ∙ bare) at
               (g.variables (length w.variables) (entry_of token name w) (get_last w.variables (entry_of token name w))),
           at,
@@ -243,7 +241,7 @@ module _ (tree : SourceTree) (z : Walk) where
     marks = marks_then a.marks (marks_plain lo hi v (with_declared_type index of v) refl refl refl refl refl (λ n p q. q));
   }
 
-  pub declared_is : (token index : ℕ) (of : TypeTree) → noted z.variables_at token ≡ Some index → slice_get z.declared_types index ≡ Some of
+  pub declared_is : (token index : ℕ) (of : TypeTree) → note_at z.variables_at token ≡ Some index → slice_get z.declared_types index ≡ Some of
       → declared_at z token ≡ Some of
   declared_is token index of h k = ap (λ o. option_and_then (λ place. slice_get z.declared_types place) o) h ∙ k
 

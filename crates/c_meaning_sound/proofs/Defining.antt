@@ -17,8 +17,8 @@ use Rattle.c_types_rules.specs.Words.{TypeTree, is_scalar, cells_of}
 use Rattle.c_types_expressions.specs.declared.walk.Definition.{Definition}
 use Rattle.c_types_expressions.specs.declared.walk.Parameter.{Parameter}
 use Rattle.c_types_expressions.specs.declared.walk.Walk.{Walk}
-use Rattle.c_types_walk.specs.ItemWalk.{entered, with_definition, with_function, with_param, with_params}
-use Rattle.c_types_expressions.specs.Words.{closed, Fine, ended_scopes, opened}
+use Rattle.c_types_walk.specs.ItemWalk.{body_scope_opened, with_definition, with_function, with_param, with_params}
+use Rattle.c_types_expressions.specs.Words.{names_after_scope, Fine, ended_scopes, scope_opened}
 use Rattle.c_types_walk.specs.StatementWalk.{walk_entries}
 use Rattle.c_meaning.specs.Words.{Signature, computed_type, signature_of, signature_with, sizes_of, strings_entered}
 use Rattle.c_meaning_laws.specs.Rules.{IsObject}
@@ -98,7 +98,7 @@ module _ (tree : SourceTree) (z : Walk) (sums : Sums z) where
 
   -- before the parameters
   begin_ready : (count at lo hi : ℕ) (u : Walk) → Standing tree z count at u → Grown u z → at ≤ lo → hi ≤ count
-      → Ready tree z lo hi (opened (record u { locals = 0 }))
+      → Ready tree z lo hi (scope_opened (record u { locals = 0 }))
   begin_ready count at lo hi u s g l h =
       let r : Ready tree z at hi u = ready_of tree z count at hi u s g h in
       record {
@@ -142,15 +142,15 @@ module _ (tree : SourceTree) (z : Walk) (sums : Sums z) where
   -- the walk through the body, and what stays behind it
   pub record Walked_body (lo mid at hi : ℕ) (gives : TypeTree) (body : EntryList) (u behind : Walk) : Type 0 where
     pub first : Walk
-    pub params : Notes lo mid (opened (record u { locals = 0 })) first
+    pub params : Notes lo mid (scope_opened (record u { locals = 0 })) first
     pub part : Part tree z at hi first behind (λ c. TypedEntries (facts tree z) none c (computed_type z.structs gives) false body)
 
   pub walked_body : BodiesFit tree z → (count start lo mid at : ℕ) (ps : List Parameter) (gives : TypeTree) (body : EntryList) (u behind : Walk)
       → Standing tree z count start u → Grown u z → start ≤ lo → lo ≤ mid → mid ≤ at → at + length (entry_kinds body) ≤ count
       → AllByRecursion (IsParam lo mid) ps → ShapedEntries body → EntriesAt at body → AllByRecursion (Spelled tree) (strings_entered body)
-      → walk_entries gives false body (entered ps u) ≡ Fine tt behind → Walked_body lo mid at (at + length (entry_kinds body)) gives body u behind
+      → walk_entries gives false body (body_scope_opened ps u) ≡ Fine tt behind → Walked_body lo mid at (at + length (entry_kinds body)) gives body u behind
   walked_body good count start lo mid at ps gives body u behind s g h l m c i q p x e =
-      let w : Walk = opened (record u { locals = 0 }) in
+      let w : Walk = scope_opened (record u { locals = 0 }) in
       let added : Added lo mid w (with_params ps w) =
       params_added lo mid ps w i (begin_ready count start lo mid u s g h (omega (arith, m, c))) in
       let ready : Ready tree z at (at + length (entry_kinds body)) (with_params ps w) =
@@ -180,8 +180,8 @@ module _ (tree : SourceTree) (z : Walk) (sums : Sums z) where
       let u : Walk = with_function name f known w in
       let k = walked_body good count start lo mid at own f.gives body u d.behind s grown h1 h2 h3
       (omega (arith, h4, h5)) params shaped placed spelled d.walked in
-      let keeps : Keeps tree z (opened (record u { locals = 0 })) d.behind = keeps_then k.params.keeps k.part.keeps in
-      let last : Walk = record d.behind { names = closed d.behind.names; ends = ended_scopes d.behind.latest d.behind.names d.behind.ends } in
+      let keeps : Keeps tree z (scope_opened (record u { locals = 0 })) d.behind = keeps_then k.params.keeps k.part.keeps in
+      let last : Walk = record d.behind { names = names_after_scope d.behind.names; ends = ended_scopes d.behind.latest d.behind.names d.behind.ends } in
       let e : last ≡ d.last = fine_known tt tt last d.last d.closes in
       let index : ℕ = unwrap_or known (length w.functions) in
       let is : v ≡ with_definition index (length w.variables) last = d.is ∙ ap (λ (r : Walk). with_definition index (length w.variables) r) (sym e) in
@@ -201,7 +201,7 @@ module _ (tree : SourceTree) (z : Walk) (sums : Sums z) where
           tags = rw keeps.tags s.tags;
         };
         tagged = rw keeps.tags (rw keeps.structs g);
-        below = λ q l. let a : Same (opened (record u { locals = 0 })) d.behind q = same_then (k.params.below q (omega (arith, h1, l)))
+        below = λ q l. let a : Same (scope_opened (record u { locals = 0 })) d.behind q = same_then (k.params.below q (omega (arith, h1, l)))
             (k.part.below q (omega (arith, h1, h2, h3, l))) in
             same_then (notes q) (record { types = a.types; variables = a.variables; offsets = a.offsets; functions = a.functions });
         declared = λ i of h m. keeps.declared i of (rw types h);

@@ -3,7 +3,6 @@ use Rattle.std.proofs.Common.{◌≡◌, ℕ, zero, suc, ◌≤◌, ◌<◌, ref
 use Rattle.std.specs.Prelude.{Option, min, nat_le, nat_lt, slice_get, is_some, ◌*◌, sum_by, if◌then◌else◌}
 use Rattle.std.specs.List.{AllByRecursion}
 use Rattle.std.proofs.lemmas.Bool.{false≢true, and_parts}
-use Rattle.std.proofs.lemmas.Bool.Decides.{nat_tests}
 use Rattle.std.proofs.lemmas.List.Sums.{sum_by-cons}
 use Rattle.std.specs.Str.{bytes_eq}
 use Rattle.std.proofs.lemmas.Option.{same_Some}
@@ -25,11 +24,11 @@ use Rattle.c_types_rules.specs.Words.{TypeTree, is_struct, member_named, cells_o
 use Rattle.c_types_expressions.specs.declared.walk.FunctionEntry.{FunctionEntry}
 use Rattle.c_types_expressions.specs.declared.walk.Parameter.{Parameter}
 use Rattle.c_types_expressions.specs.declared.walk.Walk.{Walk}
-use Rattle.c_types.specs.Answers.{noted}
+use Rattle.c_types.specs.Answers.{note_at}
 use Rattle.c_types_walk.specs.Declarators.{declared_type}
-use Rattle.c_types_expressions.specs.Words.{base_type, with_stars, beginning, found, is_here, Walked, Fine, Faulty, Done, ◌>>=◌}
+use Rattle.c_types_expressions.specs.Words.{base_type, with_stars, empty_walk, declared_meaning, is_here, Walked, Fine, Faulty, Done, ◌>>=◌}
 use Rattle.c_types.specs.Fault.{ends_with, first_undefined, has_main, lacks_definition, last_fault, undefined_at, walk_tree}
-use Rattle.c_types_walk.specs.ItemWalk.{clashes, known_as, typed_member, walk_declarators, walk_function, walk_item, walk_items, walk_member, walk_members}
+use Rattle.c_types_walk.specs.ItemWalk.{is_clashing_name, known_as, typed_member, walk_declarators, walk_function, walk_item, walk_items, walk_member, walk_members}
 use Rattle.c_types_walk.specs.ItemWalk.{walk_struct, with_function, with_tag}
 use Rattle.c_types.specs.Laid.{IsKnown, IsSummed, member_cells}
 use Rattle.c_types.proofs.Noted as record_of
@@ -193,7 +192,7 @@ function_sums name f None w h k s = record { structs = s.structs; functions = al
 typed_sums : (token : ℕ) (f : FunctionType) (name : List ℕ) (ps : List Parameter) (body : Option EntryList) (known : Option ℕ) (w v : Walk) (a : Done)
     → Flat f.gives → walk_function token f name ps body known w ≡ Fine a v → Sums w → Sums v
 typed_sums token f name ps None known w v a h k s =
-    let d = declares_is token (clashes name known w) f.gives (with_function name f known w) v a k in
+    let d = declares_is token (is_clashing_name name known w) f.gives (with_function name f known w) v a k in
     subst Sums (sym d.same) (function_sums name f known w h d.plain s)
 typed_sums token f name ps (Some body) known w v a h k s =
     let d = body_defines token f name ps body known w v a k in
@@ -209,7 +208,7 @@ typed_sums token f name ps (Some body) known w v a h k s =
 pub typed_grown : (token : ℕ) (f : FunctionType) (name : List ℕ) (ps : List Parameter) (body : Option EntryList) (known : Option ℕ) (w v : Walk)
     (a : Done) → walk_function token f name ps body known w ≡ Fine a v → Grown w v
 typed_grown token f name ps None known w v a k =
-    let d = declares_is token (clashes name known w) f.gives (with_function name f known w) v a k in
+    let d = declares_is token (is_clashing_name name known w) f.gives (with_function name f known w) v a k in
     subst (Grown w) (sym d.same) (function_grown name f known w)
 typed_grown token f name ps (Some body) known w v a k = defines_grown token f name ps body known w v (body_defines token f name ps body known w v a k)
 
@@ -234,8 +233,8 @@ item_follows (item.Function token b stars name ps body) at w v a o p s h =
     let k = function_is token b stars name ps body (at + length (type_kinds b stars) + 2)
     (at + length (type_kinds b stars) + 2 + length (params_kinds ps)) w a v p.2 (omega arith) h in
     record {
-      grown = typed_grown token _ name k.own body (known_as _ (found name w.names) w) w v a k.rest;
-      sums = typed_sums token _ name k.own body (known_as _ (found name w.names) w) w v a k.flat k.rest s;
+      grown = typed_grown token _ name k.own body (known_as _ (declared_meaning name w.names) w) w v a k.rest;
+      sums = typed_sums token _ name k.own body (known_as _ (declared_meaning name w.names) w) w v a k.flat k.rest s;
     }
 item_follows (item.Declaration d) at w v a o p s h =
     let step : Step (declaration_parts true d) (stage w) (stage v) = taken (λ _ u. Step (declaration_parts true d) (stage w) (stage u))
@@ -259,7 +258,7 @@ items_follow (x ∷ xs) at w z a o p s h =
 
 -- the walk through a whole tree, step by step
 pub record Whole_walk (tree : SourceTree) (z : Walk) : Type 0 where
-  pub items : walk_items tree.items (beginning (length tree.lines)) ≡ Fine tt z
+  pub items : walk_items tree.items (empty_walk (length tree.lines)) ≡ Fine tt z
   pub last : last_fault (length tree.lines) z ≡ None
 
 ended_by : (o : Option (FaultKind × ℕ)) (w z : Walk) → ends_with o w ≡ Fine tt z → (o ≡ None) × (w ≡ z)
@@ -268,7 +267,7 @@ ended_by (Some f) w z h = absurd (cc)
 
 pub tree_is : (tree : SourceTree) (z : Walk) → walk_tree tree ≡ Fine tt z → Whole_walk tree z
 tree_is tree z h =
-    let first = comes (walk_items tree.items (beginning (length tree.lines))) _ tt z h in
+    let first = comes (walk_items tree.items (empty_walk (length tree.lines))) _ tt z h in
     let k = ended_by (last_fault (length tree.lines) first.known) first.known z first.rest in
     record {
       items = first.first ∙ ap (λ v. Fine tt v) k.1;
@@ -319,11 +318,11 @@ is_defined_by None false e h = absurd (false≢true (sym h))
 is_defined_by (Some n) b e h = (n, refl)
 
 called_defined : (calls : List (Option ℕ)) (defined_as : List (Option ℕ)) (from token index : ℕ) → first_undefined from calls defined_as ≡ None
-    → noted calls token ≡ Some index → (number : ℕ) × (noted defined_as index ≡ Some number)
+    → note_at calls token ≡ Some index → (number : ℕ) × (note_at defined_as index ≡ Some number)
 called_defined [] defined_as from token index h e = absurd (cc)
 called_defined (call ∷ calls) defined_as from zero index h e =
     let k = not_lacking call calls from 0 defined_as (lacks_definition call defined_as) refl h in
-    is_defined_by (noted defined_as index) (is_some (noted defined_as index)) refl (subst (λ o. lacks_definition o defined_as ≡ false) e k.0)
+    is_defined_by (note_at defined_as index) (is_some (note_at defined_as index)) refl (subst (λ o. lacks_definition o defined_as ≡ false) e k.0)
 called_defined (call ∷ calls) defined_as from (suc token) index h e =
     called_defined calls defined_as (from + 1) token index (not_lacking call calls from 0 defined_as (lacks_definition call defined_as) refl h).1 e
 
@@ -340,11 +339,11 @@ last_by false count w h = absurd (cc)
 pub last_is : (count : ℕ) (w : Walk) → last_fault count w ≡ None → (has_main w ≡ true) × (first_undefined 0 w.functions_at w.defined_as ≡ None)
 last_is count w h = last_by (has_main w) count w h
 
-begins_sums : (n : ℕ) → Sums (beginning n)
+begins_sums : (n : ℕ) → Sums (empty_walk n)
 begins_sums n = record { structs = tt; functions = tt }
 
 pub tree_sums : (tree : SourceTree) (z : Walk) → IsShaped tree → walk_tree tree ≡ Fine tt z → Sums z
-tree_sums tree z s h = (items_follow tree.items 0 (beginning (length tree.lines)) z tt s.items s.placed (begins_sums (length tree.lines))
+tree_sums tree z s h = (items_follow tree.items 0 (empty_walk (length tree.lines)) z tt s.items s.placed (begins_sums (length tree.lines))
     (tree_is tree z h).items).sums
 
 pub small_structs : (tree : SourceTree) (z : Walk) → Sums z → (tag : ℕ) → Small tree z (t.Struct tag)

@@ -18,7 +18,7 @@ use Rattle.c_syntax.specs.declared.parts.Base.TheVariants as base
 use Rattle.c_syntax.specs.declared.expr.PrefixOperator.{PrefixOperator}
 use Rattle.c_syntax.specs.declared.expr.PrefixOperator.TheVariants as prefix
 use Rattle.c_syntax.specs.Words.{SourceTree, ExprTree, ExprList, LinkList, PostfixList, ExprAt, ExprsAt, LinksAt, PostfixAt, HasLink, HasPostfix, ShapedExpr}
-use Rattle.c_syntax.specs.Words.{ShapedExprs, ShapedLinks, ShapedPostfix, parenthesized, type_kinds, a_sign, expr_kinds, exprs_kinds, link_kinds}
+use Rattle.c_syntax.specs.Words.{ShapedExprs, ShapedLinks, ShapedPostfix, parenthesized_kinds, type_kinds, a_sign, expr_kinds, exprs_kinds, link_kinds}
 use Rattle.c_syntax.specs.Words.{more_exprs_kinds, postfix_kinds}
 use Rattle.c_syntax.specs.ExprTree as e
 use Rattle.c_types_rules.specs.declared.fault.FaultKind.{FaultKind}
@@ -26,28 +26,28 @@ use Rattle.c_types_rules.specs.declared.layout.Member.{Member}
 use Rattle.c_types_rules.specs.declared.layout.StructType.{StructType}
 use Rattle.c_types_rules.specs.declared.operand.Operand.{Operand}
 use Rattle.c_types_rules.specs.TypeTree as t
-use Rattle.c_types_rules.specs.Words.{TypeTree, constant_of, enclosed, is_pointer, is_struct, null_of, string_of, value_of, cast_to, measured, stepped, chosen}
-use Rattle.c_types_rules.specs.Words.{indexed, known_member, member_behind, member_in, member_named, member_of, sequenced, is_complete}
+use Rattle.c_types_rules.specs.Words.{TypeTree, constant_of, parenthesized_operand, is_pointer, is_struct, null_of, string_of, value_of, cast_to, typed_sizeof, typed_increment, typed_conditional}
+use Rattle.c_types_rules.specs.Words.{typed_subscript, known_member, member_behind, member_in, member_named, member_of, typed_comma, is_complete}
 use Rattle.c_types_rules.specs.Conversions as rule
 use Rattle.c_types_expressions.specs.declared.names.Meaning.{Meaning}
 use Rattle.c_types_expressions.specs.declared.names.Meaning.TheVariants as meaning
 use Rattle.c_types_expressions.specs.declared.walk.Walk.{Walk}
-use Rattle.c_types.specs.Answers.{noted}
-use Rattle.c_types_expressions.specs.Words.{assigning, base_type, binary_of, chained, compound_of, looked, prefixed, selected, string_cells, tagged_type}
-use Rattle.c_types_expressions.specs.Words.{with_stars, walk_expr, walk_exprs, walk_links, walk_postfix, found, meaning_of, Walked, ◌>>=◌}
+use Rattle.c_types.specs.Answers.{note_at}
+use Rattle.c_types_expressions.specs.Words.{typed_assignment, base_type, binary_of, typed_chain_operation, compound_of, operand_noted, typed_prefix_operation, selected_member, string_cells, tagged_type}
+use Rattle.c_types_expressions.specs.Words.{with_stars, walk_expr, walk_exprs, walk_links, walk_postfix, declared_meaning, meaning_of, Walked, ◌>>=◌}
 use Rattle.c_meaning.specs.declared.value_type.ValueType.{ValueType}
 use Rattle.c_meaning.specs.declared.value_type.ValueType.TheVariants as type
 use Rattle.c_meaning.specs.Conversions as mean
 use Rattle.c_meaning.specs.Words.{is_null_constant, Literal, strings_behind, strings_in, strings_of_all, strings_of_links, base_named, object_cells}
-use Rattle.c_meaning.specs.Words.{struct_number, operation, assigned_by, begins_null, ends_as_place, postfix_token, is_null_beside, joint, is_place, link_token}
+use Rattle.c_meaning.specs.Words.{struct_number, operation, assigned_by, begins_null, ends_as_place, postfix_token, is_null_beside, joint_of_sign, is_place, link_token}
 use Rattle.c_meaning.specs.Words.{operand_type, token_of, type_of}
-use Rattle.c_meaning_laws.specs.Rules.{Accepts, Arm, Assigns, Casts, Changes, OperatorsEnd, IsScalar, Moves, Joins, IsPointing, IsPointer, IsValue}
+use Rattle.c_meaning_laws.specs.Rules.{Accepts, Arm, Assigns, Casts, Changes, OperatorsEnd, Moves, Joins, IsPointing, IsPointer, IsValue}
 use Rattle.c_meaning_laws.specs.Typed.{Steps, TypedLinks, TypedPostfix, variable_named}
 use Rattle.flow.specs.declared.site.Slot.{Slot}
 use Rattle.c_meaning_laws.proofs.Ruled.{Is, gives_by, kind_known, known, pointer_pointing}
 use Rattle.c_meaning_laws.proofs.RuledOperators.{assignment_fits}
 use Rattle.c_meaning_laws.proofs.RuledPlaces.{TakesArm, cast_fits, chosen_fits, compounded_fits, indexed_fits, stepped_fits}
-use Rattle.c_meaning_sound.proofs.Calling.{around, call_good, name_good, sequence_good}
+use Rattle.c_meaning_sound.proofs.Calling.{call_good, name_good, sequence_good}
 use Rattle.c_meaning_sound.proofs.Forming.{Ended, Formed, Plain, assigned_formed, assigned_plain, cast_formed, chosen_formed, chosen_plain, combined_formed}
 use Rattle.c_meaning_sound.proofs.Forming.{combined_plain, compounded_formed, compounded_plain, constant_formed, enclosed_formed, gives_plain, indexed_formed}
 use Rattle.c_meaning_sound.proofs.Forming.{indexed_no_null, int_formed, joined_formed, null_formed, object_is, stepped_formed, stepped_plain, steps_known}
@@ -59,6 +59,8 @@ use Rattle.c_meaning_sound.proofs.Noting.{Deep, Part, Ready, Whole, facts, leftw
 use Rattle.c_meaning_sound.proofs.Noting.{rightwards, so, type_noted, wider}
 use Rattle.c_meaning_sound.proofs.Parting.{NoEquality, infix_long, no_equality, texts_long}
 use Rattle.c_meaning_sound.proofs.Operands.{Fits, Good, GoodList, PrefixGood, accepted, leaf_good, prefix_good, steps_fit, typed_as, unary_good}
+use Rattle.c_meaning_laws.proofs.Values.{scalar_value}
+use Rattle.sites.proofs.Rises.{paren-length}
 
 abbrev member_or : Member → Result Member FaultKind → Member
 member_or m (Ok k) = k
@@ -74,9 +76,9 @@ module _ (tree : SourceTree) (z : Walk) (ends : Ended tree z) where
   Lies s = IsSome ((facts tree z).text_at s.token) × (length s.bytes ≤ 1048575)
 
   -- assignments
-  assigned_fits : (o : Option Binary) (x y : ExprTree) (a b d : Operand) → NoEquality o → Is (assigning z.structs o a b) d → Formed tree z a
+  assigned_fits : (o : Option Binary) (x y : ExprTree) (a b d : Operand) → NoEquality o → Is (typed_assignment z.structs o a b) d → Formed tree z a
       → Formed tree z b → is_place x ≡ a.place → is_null_constant y ≡ b.null → Formed tree z d × Plain d × IsTrue (is_place x) × (d.ctype ≡ a.ctype)
-      × (noted z.types (token_of x) ≡ Some a.ctype → noted z.types (token_of y) ≡ Some b.ctype
+      × (note_at z.types (token_of x) ≡ Some a.ctype → note_at z.types (token_of y) ≡ Some b.ctype
       → Assigns (facts tree z) (assigned_by o) (type_of (facts tree z) x) y)
   assigned_fits None x y a b d q h f g p n =
       let k = assignment_fits z.structs a b d h in (
@@ -98,8 +100,8 @@ module _ (tree : SourceTree) (z : Walk) (ends : Ended tree z) where
             (subst (λ r. Changes (operation o (known z.structs a.ctype) r) (known z.structs a.ctype) r) (sym (typed_as tree z (token_of y) b.ctype v)) k.2),
       )
 
-  assigning_grows : (o : Option Binary) (w : Walk) (a b d : Operand) → Grows w.structs z.structs → Is (assigning w.structs o a b) d
-      → Is (assigning z.structs o a b) d
+  assigning_grows : (o : Option Binary) (w : Walk) (a b d : Operand) → Grows w.structs z.structs → Is (typed_assignment w.structs o a b) d
+      → Is (typed_assignment z.structs o a b) d
   assigning_grows None w a b d g h = h
   assigning_grows (Some o) w a b d g h = compounded_grows w.structs z.structs g o a b d h
 
@@ -108,7 +110,7 @@ module _ (tree : SourceTree) (z : Walk) (ends : Ended tree z) where
   arm_by t.Void x a h = tt
   arm_by of x a h = h
 
-  arm_fits : (of : TypeTree) (x : ExprTree) (a : Operand) → TakesArm z.structs of a → is_null_constant x ≡ a.null → noted z.types (token_of x) ≡ Some a.ctype
+  arm_fits : (of : TypeTree) (x : ExprTree) (a : Operand) → TakesArm z.structs of a → is_null_constant x ≡ a.null → note_at z.types (token_of x) ≡ Some a.ctype
       → Arm (facts tree z) (known z.structs of) x
   arm_fits of x a (inl v) n h = subst (λ u. Arm (facts tree z) (known z.structs u) x) (sym v) tt
   arm_fits of x a (inr k) n h = arm_by of x a (accepted tree z (known z.structs of) x a n h k)
@@ -137,24 +139,24 @@ module _ (tree : SourceTree) (z : Walk) (ends : Ended tree z) where
 
   -- the walk through the operators of a chain, behind this operand whose token is the first
   pub record GoodLinks (at first : ℕ) (links : LinkList) (a : Operand) (w : Walk) (b : Operand) (v : Walk) : Type 0 where
-    pub part : Part tree z at (at + length (link_kinds links)) w v (λ c. noted z.types first ≡ Some a.ctype
+    pub part : Part tree z at (at + length (link_kinds links)) w v (λ c. note_at z.types first ≡ Some a.ctype
         → TypedLinks (facts tree z) none c (operand_type (heads_null a.null links) (known z.structs a.ctype)) links
-        × (noted z.types (link_token first links) ≡ Some b.ctype))
+        × (note_at z.types (link_token first links) ≡ Some b.ctype))
     pub value : HasLink links → IsValue (known z.structs a.ctype)
     pub plain : EndsPlain links a b
     pub formed : Formed tree z b
 
   joins_by : (s : Sign) (u v ka kb kd : Option ValueType) (m n : Bool) (x : ExprTree) → u ≡ kb → v ≡ kd → is_null_constant x ≡ n
-      → Joins (joint s) (operand_type (null_beside (binary_of s) kb m) ka)
+      → Joins (joint_of_sign s) (operand_type (null_beside (binary_of s) kb m) ka)
       (operand_type (null_beside (binary_of s) (operand_type (null_beside (binary_of s) kb m) ka) n) kb) kd
-      → Joins (joint s) (operand_type (null_beside (binary_of s) u m) ka)
+      → Joins (joint_of_sign s) (operand_type (null_beside (binary_of s) u m) ka)
       (operand_type (is_null_beside (binary_of s) (operand_type (null_beside (binary_of s) u m) ka) x) u) v
   joins_by s u v ka kb kd m n x h k e j =
-      subst (λ b. Joins (joint s) (operand_type (null_beside (binary_of s) u m) ka) (operand_type b u) v)
+      subst (λ b. Joins (joint_of_sign s) (operand_type (null_beside (binary_of s) u m) ka) (operand_type b u) v)
       (sym (beside_is (binary_of s) (operand_type (null_beside (binary_of s) u m) ka) x n e))
-      (subst (λ r. Joins (joint s) (operand_type (null_beside (binary_of s) r m) ka)
+      (subst (λ r. Joins (joint_of_sign s) (operand_type (null_beside (binary_of s) r m) ka)
       (operand_type (null_beside (binary_of s) (operand_type (null_beside (binary_of s) r m) ka) n) r) v) (sym h)
-      (subst (λ r. Joins (joint s) (operand_type (null_beside (binary_of s) kb m) ka)
+      (subst (λ r. Joins (joint_of_sign s) (operand_type (null_beside (binary_of s) kb m) ka)
       (operand_type (null_beside (binary_of s) (operand_type (null_beside (binary_of s) kb m) ka) n) kb) r) (sym k) j))
 
   rest_typed : (c : ℕ) (u : Option ValueType) (d : Operand) (rest : LinkList) → u ≡ known z.structs d.ctype → d.null ≡ false
@@ -163,18 +165,18 @@ module _ (tree : SourceTree) (z : Walk) (ends : Ended tree z) where
       (subst (λ b. TypedLinks (facts tree z) none c (operand_type b (known z.structs d.ctype)) rest) (heads_false rest)
       (subst (λ b. TypedLinks (facts tree z) none c (operand_type (heads_null b rest) (known z.structs d.ctype)) rest) n k))
 
-  chained_formed : (o : Option Binary) (a b d : Operand) → Formed tree z a → Formed tree z b → Is (chained z.structs o a b) d → Formed tree z d × Plain d
+  chained_formed : (o : Option Binary) (a b d : Operand) → Formed tree z a → Formed tree z b → Is (typed_chain_operation z.structs o a b) d → Formed tree z d × Plain d
   chained_formed None a b d f g h = (joined_formed tree z a b d h, gives_plain _ _ d h)
   chained_formed (Some o) a b d f g h = (combined_formed tree z o a b d f g h, combined_plain z.structs o a b d h)
 
-  chained_grows : (o : Option Binary) (w : Walk) (a b d : Operand) → Grows w.structs z.structs → Is (chained w.structs o a b) d → Is (chained z.structs o a b) d
+  chained_grows : (o : Option Binary) (w : Walk) (a b d : Operand) → Grows w.structs z.structs → Is (typed_chain_operation w.structs o a b) d → Is (typed_chain_operation z.structs o a b) d
   chained_grows None w a b d g h = h
   chained_grows (Some o) w a b d g h = combined_grows w.structs z.structs g o a b d h
 
   string_fits : (parts : List (List ℕ)) → length (flat_map (λ bytes. bytes) parts) ≤ 1048575 → Formed tree z (string_of (string_cells parts))
   string_fits parts h = string_formed tree z (sum_by length parts) (omega (arith, h, bytes_long parts))
 
-  prefixed_grows : (o : PrefixOperator) (w : Walk) (a b : Operand) → Grows w.structs z.structs → Is (prefixed w.structs o a) b → Is (prefixed z.structs o a) b
+  prefixed_grows : (o : PrefixOperator) (w : Walk) (a b : Operand) → Grows w.structs z.structs → Is (typed_prefix_operation w.structs o a) b → Is (typed_prefix_operation z.structs o a) b
   prefixed_grows prefix.Increment w a b g h = stepped_grows w.structs z.structs g a b h
   prefixed_grows prefix.Decrement w a b g h = stepped_grows w.structs z.structs g a b h
   prefixed_grows prefix.SizeOf w a b g h = measured_grows w.structs z.structs g a.ctype b h
@@ -182,15 +184,15 @@ module _ (tree : SourceTree) (z : Walk) (ends : Ended tree z) where
 
   -- named types
   pub base_then : {A : Type 0} {Q : A → Walk → Type 0} (b : Base) (w : Walk) (k : TypeTree → Walk → Walked A)
-      → ((tag : List ℕ) (index : ℕ) → found tag w.tags ≡ Some (meaning.Struct index) → struct_number 0 tag tree.items ≡ Some index)
+      → ((tag : List ℕ) (index : ℕ) → declared_meaning tag w.tags ≡ Some (meaning.Struct index) → struct_number 0 tag tree.items ≡ Some index)
       → ((of : TypeTree) → Deep tree z of → base_named tree.items b ≡ Some of → Gives (k of w) Q) → Gives (base_type b w >>= k) Q
   base_then (base.Void token) w k tags h = h t.Void tt refl
   base_then (base.Char token) w k tags h = h t.Char tt refl
   base_then (base.Int token) w k tags h = h t.Int tt refl
   base_then (base.Unsigned token int) w k tags h = h t.Unsigned tt refl
-  base_then {Q = Q} (base.Struct token tag) w k tags h = tested (found tag w.tags) refl
+  base_then {Q = Q} (base.Struct token tag) w k tags h = tested (declared_meaning tag w.tags) refl
     where
-      tested : (m : Option Meaning) → found tag w.tags ≡ m → Gives (tagged_type token m w >>= k) Q
+      tested : (m : Option Meaning) → declared_meaning tag w.tags ≡ m → Gives (tagged_type token m w >>= k) Q
       tested None e = record { by = tt }
       tested (Some (meaning.Variable index)) e = record { by = tt }
       tested (Some (meaning.Function index)) e = record { by = tt }
@@ -209,7 +211,7 @@ module _ (tree : SourceTree) (z : Walk) (ends : Ended tree z) where
       (subst (λ r. Casts (mean.is_pointer_value (known z.structs of) && a.null) (known z.structs of) r) (sym k) i))
 
   measured_known : (b : Base) (n : ℕ) (of : TypeTree) (d : Operand) → Deep tree z of → base_named tree.items b ≡ Some of
-      → Is (measured z.structs (with_stars n of)) d
+      → Is (typed_sizeof z.structs (with_stars n of)) d
       → Formed tree z d × (d ≡ value_of t.Unsigned) × IsSome ((facts tree z).named_cells b n)
   measured_known b n of d k e h =
       gives_by (λ d. Formed tree z d × (d ≡ value_of t.Unsigned) × IsSome ((facts tree z).named_cells b n))
@@ -227,8 +229,8 @@ module _ (tree : SourceTree) (z : Walk) (ends : Ended tree z) where
 
   -- one operator of a chain
   pub record Linked (at token : ℕ) (s : Sign) (operand : ExprTree) (a b : Operand) (w : Walk) (d : Operand) (v : Walk) : Type 0 where
-    pub part : Part tree z at (at + 1 + length (expr_kinds operand)) w v (λ c. (Fits tree z c operand × (noted z.types (token_of operand) ≡ Some b.ctype))
-        × (noted z.types token ≡ Some d.ctype))
+    pub part : Part tree z at (at + 1 + length (expr_kinds operand)) w v (λ c. (Fits tree z c operand × (note_at z.types (token_of operand) ≡ Some b.ctype))
+        × (note_at z.types token ≡ Some d.ctype))
     pub formed : Formed tree z d
     pub plain : Plain d
     pub fits : LinkFits z.structs s a b d
@@ -256,22 +258,22 @@ module _ (tree : SourceTree) (z : Walk) (ends : Ended tree z) where
 
   -- the walk through the operators behind this operand, whose token is the first
   pub record GoodPostfix (at first : ℕ) (rest : PostfixList) (a : Operand) (w : Walk) (b : Operand) (v : Walk) : Type 0 where
-    pub part : Part tree z at (at + length (postfix_kinds rest)) w v (λ c. noted z.types first ≡ Some a.ctype
+    pub part : Part tree z at (at + length (postfix_kinds rest)) w v (λ c. note_at z.types first ≡ Some a.ctype
         → ((s : Option Slot) → TypedPostfix (facts tree z) none c a.place s (known z.structs a.ctype) rest)
-        × (noted z.types (postfix_token first rest) ≡ Some b.ctype))
+        × (note_at z.types (postfix_token first rest) ≡ Some b.ctype))
     pub place : ends_as_place a.place rest ≡ b.place
     pub null : HasPostfix rest ⊎ (a.null ≡ false) → b.null ≡ false
     pub formed : Formed tree z b
 
   -- one operator behind an operand: what it leads to, and whether that is a place
   pub record Followed (at token hi : ℕ) (is_place : Bool) (P : ℕ → Type 0) (w : Walk) (d : Operand) (v : Walk) : Type 0 where
-    pub part : Part tree z at hi w v (λ c. P c × (noted z.types token ≡ Some d.ctype))
+    pub part : Part tree z at hi w v (λ c. P c × (note_at z.types token ≡ Some d.ctype))
     pub place : d.place ≡ is_place
     pub null : d.null ≡ false
     pub formed : Formed tree z d
     pub last : OperatorsEnd is_place (known z.structs d.ctype)
 
-  follows : (c : ℕ) (is_place : Bool) (d : Operand) (token : ℕ) (rest : PostfixList) → d.place ≡ is_place → noted z.types token ≡ Some d.ctype
+  follows : (c : ℕ) (is_place : Bool) (d : Operand) (token : ℕ) (rest : PostfixList) → d.place ≡ is_place → note_at z.types token ≡ Some d.ctype
       → TypedPostfix (facts tree z) none c d.place None (known z.structs d.ctype) rest
       → TypedPostfix (facts tree z) none c is_place None ((facts tree z).type_at token) rest
   follows c is_place d token rest p h k = subst (λ u. TypedPostfix (facts tree z) none c is_place None u rest) (sym (typed_as tree z token d.ctype h))
@@ -300,7 +302,7 @@ module _ (tree : SourceTree) (z : Walk) (ends : Ended tree z) where
   selected_good : (at token : ℕ) (p : Bool) (r : Result Member FaultKind) (P : Type 0) (w : Walk) → token ≡ at →
       ((m : Member) → r ≡ Ok m → Whole tree z m.ctype × P)
       → ((m : Member) → r ≡ Ok m → p ≡ true) → at + 2 ≤ length w.types → at + 2 ≤ length w.offsets_at
-      → Gives (selected token p r w) (Followed at token (at + 2) true (λ c. P × IsTrue p × IsSome ((facts tree z).offset_at token)) w)
+      → Gives (selected_member token p r w) (Followed at token (at + 2) true (λ c. P × IsTrue p × IsSome ((facts tree z).offset_at token)) w)
   selected_good at token p (Err f) P w e h q k l = record { by = tt }
   selected_good at token p (Ok m) P w e h q k l =
       let whole : Whole tree z m.ctype × P = h m refl in
@@ -321,16 +323,11 @@ module _ (tree : SourceTree) (z : Walk) (ends : Ended tree z) where
       }
 
   -- `++` or `--` behind a place
-  scalar_value : (u : Option ValueType) → IsScalar u → IsValue u
-  scalar_value (Some (type.Number k)) h = tt
-  scalar_value (Some (type.Pointer size)) h = tt
-  scalar_value u h = absurd h
-
   stepped_behind : (is_up : Bool) (at token : ℕ) (a : Operand) (w : Walk) → token ≡ at → Formed tree z a → Grows w.structs z.structs → at + 1 ≤ length w.types
-      → Gives (looked token (stepped w.structs a) w) (Followed at token (at + 1) false
+      → Gives (operand_noted token (typed_increment w.structs a) w) (Followed at token (at + 1) false
       (λ c. IsTrue a.place × ((s : Option Slot) → Steps (facts tree z) none is_up token s (known z.structs a.ctype))) w)
-  stepped_behind is_up at token a w e f g h = looks token (stepped w.structs a) w (λ d i.
-      let j : Is (stepped z.structs a) d = stepped_grows w.structs z.structs g a d i in
+  stepped_behind is_up at token a w e f g h = looks token (typed_increment w.structs a) w (λ d i.
+      let j : Is (typed_increment z.structs a) d = stepped_grows w.structs z.structs g a d i in
       let k = stepped_fits z.structs is_up a d (steps_known tree z a.ctype f.deep) j in
       let plain : Plain d = stepped_plain z.structs a d j in
       record {
@@ -352,7 +349,7 @@ module _ (tree : SourceTree) (z : Walk) (ends : Ended tree z) where
   behind_good at mid hi first token p P all rest a d b w u v long short le same place typed q k = record {
     part = so (wider {lo = at} {hi = hi} (rightwards {lo = at} {mid = mid} q.part (wider k.part (omega arith) (omega (arith, short))) le (omega (arith, short)))
         (omega arith) (omega (arith, long)))
-        (λ c n h. (typed c n.0.0 (follows c p d token rest q.place n.0.1 ((n.1 n.0.1).0 None)), ap (λ y. noted z.types y) same ∙ (n.1 n.0.1).1));
+        (λ c n h. (typed c n.0.0 (follows c p d token rest q.place n.0.1 ((n.1 n.0.1).0 None)), ap (λ y. note_at z.types y) same ∙ (n.1 n.0.1).1));
     place = place ∙ ap (λ y. ends_as_place y rest) (sym q.place) ∙ k.place;
     null = λ h. k.null (inr q.null);
     formed = k.formed;
@@ -379,17 +376,17 @@ module _ (tree : SourceTree) (z : Walk) (ends : Ended tree z) where
       by = name_good tree z ends at token name w (meaning_of name w.names) p r (all_mean w.locals w.variables name w.names r.slots);
     }
     walk_good (e.Paren token inner) at w s p l r =
-        let long : length (expr_kinds (e.Paren token inner)) ≡ length (expr_kinds inner) + 2 = around (expr_kinds inner) in
+        let long : length (expr_kinds (e.Paren token inner)) ≡ length (expr_kinds inner) + 2 = paren-length (expr_kinds inner) in
         and_then (walk_good inner (at + 1) w s p.1 l (ready_in r (at + 1) (at + 1 + length (expr_kinds inner)) (omega arith) (omega (arith, long)))) (λ a v g.
         record {
-          by = unary_good tree z at token (at + 1) (e.Paren token inner) inner a (enclosed a) w v p.0 (omega arith) (omega (arith, long)) refl g.place refl
+          by = unary_good tree z at token (at + 1) (e.Paren token inner) inner a (parenthesized_operand a) w v p.0 (omega arith) (omega (arith, long)) refl g.place refl
               (enclosed_formed tree z a g.formed) g (rw g.part.keeps.types (omega (arith, p.0, long, r.types)))
               (λ c f u h. (f, typed_as tree z token a.ctype h ∙ sym (typed_as tree z (token_of inner) a.ctype u)));
         })
     walk_good (e.Prefix token o x) at w s p l r =
         let long : length (expr_kinds (e.Prefix token o x)) ≡ length (expr_kinds x) + 1 = omega arith in
         and_then (walk_good x (at + 1) w s.1 p.1 l (ready_in r (at + 1) (at + 1 + length (expr_kinds x)) (omega arith) (omega (arith, long)))) (λ a v g.
-        looks token (prefixed v.structs o a) v (λ b h.
+        looks token (typed_prefix_operation v.structs o a) v (λ b h.
         let k : PrefixGood tree z token o x a b =
         prefix_good tree z token o x a b (prefixed_grows o v a b (rw g.part.keeps.structs r.grows) h) g.formed g.place in
         unary_good tree z at token (at + 1) (e.Prefix token o x) x a b w v p.0 (omega arith) (omega (arith, long)) refl k.1 k.2 k.0 g
@@ -403,7 +400,7 @@ module _ (tree : SourceTree) (z : Walk) (ends : Ended tree z) where
         and_then (walk_good value (token + 1) v q.4 p.2 (all_second Lies (strings_in target) (strings_in value) l)
         (ready_after r g.part (omega arith) (omega (arith, p.0)) (omega (arith, p.0)) (token + 1 + length (expr_kinds value)) (omega (arith, p.0, long))))
         (λ b u k.
-        looks token (assigning u.structs (compound_of s) a b) u (λ d h.
+        looks token (typed_assignment u.structs (compound_of s) a b) u (λ d h.
         let grown : Grows u.structs z.structs = rw (k.part.keeps.structs ∙ g.part.keeps.structs) r.grows in
         let fits = assigned_fits (compound_of s) target value a b d (no_equality s)
         (assigning_grows (compound_of s) u a b d grown h) g.formed k.formed g.place k.null in
@@ -448,7 +445,7 @@ module _ (tree : SourceTree) (z : Walk) (ends : Ended tree z) where
         (all_second Lies (strings_in condition ++ strings_in first) (strings_in second) l)
         (ready_after r both (omega arith) (omega arith) (omega (arith, p.0)) (token + 1 + length (expr_kinds first) + 1 + length (expr_kinds second))
         (omega (arith, p.0, long)))) (λ d y m.
-        looks token (chosen a b d) y (λ f h.
+        looks token (typed_conditional a b d) y (λ f h.
         let fits = chosen_fits z.structs a b d f h in
         let plain : Plain f = chosen_plain a b d f h in
         record {
@@ -476,8 +473,8 @@ module _ (tree : SourceTree) (z : Walk) (ends : Ended tree z) where
         }))))
     walk_good (e.Cast token b stars operand) at w s p l r =
         let long : length (expr_kinds (e.Cast token b stars operand)) ≡ length (type_kinds b stars) + 2 + length (expr_kinds operand) =
-        omega (arith, length-append (parenthesized (type_kinds b stars)) (expr_kinds operand), around (type_kinds b stars)) in
-        base_then b w (λ named_type v. walk_expr operand v >>= λ x u. looked token (cast_to (with_stars stars named_type) x) u) r.tags (λ of d is.
+        omega (arith, length-append (parenthesized_kinds (type_kinds b stars)) (expr_kinds operand), paren-length (type_kinds b stars)) in
+        base_then b w (λ named_type v. walk_expr operand v >>= λ x u. operand_noted token (cast_to (with_stars stars named_type) x) u) r.tags (λ of d is.
         and_then (walk_good operand (at + 1 + length (type_kinds b stars) + 1) w s.1 p.2 l
         (ready_in r (at + 1 + length (type_kinds b stars) + 1) (at + 1 + length (type_kinds b stars) + 1 + length (expr_kinds operand)) (omega arith)
         (omega (arith, long)))) (λ a u g.
@@ -494,13 +491,13 @@ module _ (tree : SourceTree) (z : Walk) (ends : Ended tree z) where
               (typed_as tree z token f.ctype q ∙ ap (known z.structs) fits.0) (typed_as tree z (token_of operand) a.ctype i) g.null fits.1,
         )))))
     walk_good (e.SizeOfType token b stars) at w s p l r =
-        base_then b w (λ named_type v. looked token (measured v.structs (with_stars stars named_type)) v) r.tags (λ of d is.
-        looks token (measured w.structs (with_stars stars of)) w (λ f h.
+        base_then b w (λ named_type v. operand_noted token (typed_sizeof v.structs (with_stars stars named_type)) v) r.tags (λ of d is.
+        looks token (typed_sizeof w.structs (with_stars stars of)) w (λ f h.
         let k = measured_known b stars of f d is (measured_grows w.structs z.structs r.grows (with_stars stars of) f h) in
         leaf_good tree z at token (e.SizeOfType token b stars) f w p.0 (omega arith) refl (sym (ap (λ o. o.place) k.1)) (sym (ap (λ o. o.null) k.1)) k.0 r.types
         (λ c q. (k.2, q ∙ ap (λ o. known z.structs o.ctype) k.1))))
     walk_good (e.Call token name arguments) at w s p l r =
-        let long : length (expr_kinds (e.Call token name arguments)) ≡ 3 + length (exprs_kinds arguments) = omega (arith, around (exprs_kinds arguments)) in
+        let long : length (expr_kinds (e.Call token name arguments)) ≡ 3 + length (exprs_kinds arguments) = omega (arith, paren-length (exprs_kinds arguments)) in
         and_then (exprs_good arguments (at + 2) [] w s p.1 l
         (ready_in r (at + 2) (at + 2 + length (exprs_kinds arguments)) (omega arith) (omega (arith, long)))) (λ xs v g.
         record {
@@ -551,9 +548,9 @@ module _ (tree : SourceTree) (z : Walk) (ends : Ended tree z) where
         (omega (arith, long))))
         (λ all u k. record { operand = a; middle = v; one = g; others = k })) in
         and_then firsts (λ all u f.
-        looks token (sequenced t.Void all) u (λ b h.
+        looks token (typed_comma t.Void all) u (λ b h.
         let made = sequence_good tree z ends t.Void x (e.more_exprs y ys) f.operand f.others.own b (f.one.formed, f.others.formed)
-        (subst (λ xs. Is (sequenced t.Void xs) b) f.others.is h) in
+        (subst (λ xs. Is (typed_comma t.Void xs) b) f.others.is h) in
         record {
           part = so (wider {lo = at} {hi = at + length (expr_kinds x) + 1 + length (exprs_kinds (e.more_exprs y ys))}
               (rightwards {lo = at} {mid = token} (wider f.one.part (omega arith) (omega (arith, p.0)))
@@ -640,9 +637,9 @@ module _ (tree : SourceTree) (z : Walk) (ends : Ended tree z) where
         omega (arith, length-append (expr_kinds operand) (link_kinds rest)) in
         and_then (walk_good operand (at + 1) w s.2 p.1 (all_first Lies (strings_in operand) (strings_of_links rest) l)
         (ready_in r (at + 1) (at + 1 + length (expr_kinds operand)) (omega arith) (omega (arith, long)))) (λ b v g.
-        let step : Gives (looked token (chained v.structs (binary_of sign) a b) v) (Linked at token sign operand a b w) =
-        looks token (chained v.structs (binary_of sign) a b) v (λ d h.
-        let i : Is (chained z.structs (binary_of sign) a b) d = chained_grows (binary_of sign) v a b d (rw g.part.keeps.structs r.grows) h in
+        let step : Gives (operand_noted token (typed_chain_operation v.structs (binary_of sign) a b) v) (Linked at token sign operand a b w) =
+        looks token (typed_chain_operation v.structs (binary_of sign) a b) v (λ d h.
+        let i : Is (typed_chain_operation z.structs (binary_of sign) a b) d = chained_grows (binary_of sign) v a b d (rw g.part.keeps.structs r.grows) h in
         let made : Formed tree z d × Plain d = chained_formed (binary_of sign) a b d f g.formed i in
         record {
           part = leftwards {lo = at} {mid = at + 1} {hi = at + 1 + length (expr_kinds operand)} g.part (wider {lo = token} {hi = token + 1}
@@ -725,11 +722,11 @@ module _ (tree : SourceTree) (z : Walk) (ends : Ended tree z) where
         omega (arith, length-append (expr_kinds x ++ a_sign sign.RightBracket) (postfix_kinds rest), length-append (expr_kinds x) (a_sign sign.RightBracket)) in
         and_then (walk_good x (at + 1) w s.0 p.1 (all_first Lies (strings_in x) (strings_behind rest) l)
         (ready_in r (at + 1) (at + 1 + length (expr_kinds x)) (omega arith) (omega (arith, long)))) (λ b v g.
-        let step : Gives (looked token (indexed v.structs a b) v) (Followed at token (at + 1 + length (expr_kinds x) + 1) true
+        let step : Gives (operand_noted token (typed_subscript v.structs a b) v) (Followed at token (at + 1 + length (expr_kinds x) + 1) true
         (λ c. Fits tree z c x × Moves (operation op.Add (known z.structs a.ctype) (type_of (facts tree z) x)) (known z.structs a.ctype)
         (type_of (facts tree z) x)) w) =
-        looks token (indexed v.structs a b) v (λ d h.
-        let i : Is (indexed z.structs a b) d = indexed_grows v.structs z.structs (rw g.part.keeps.structs r.grows) a b d h in
+        looks token (typed_subscript v.structs a b) v (λ d h.
+        let i : Is (typed_subscript z.structs a b) d = indexed_grows v.structs z.structs (rw g.part.keeps.structs r.grows) a b d h in
         let fits = indexed_fits z.structs a b d (steps_known tree z a.ctype f.deep) (steps_known tree z b.ctype g.formed.deep) i in
         record {
           part = so (wider {lo = at} {hi = at + 1 + length (expr_kinds x)} (leftwards {lo = at} {mid = at + 1} g.part (wider {lo = token} {hi = token + 1}

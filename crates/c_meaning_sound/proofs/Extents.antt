@@ -9,13 +9,13 @@ use Rattle.c_syntax.specs.declared.token.Sign.TheVariants as sign
 use Rattle.c_syntax.specs.declared.parts.Base.{Base}
 use Rattle.c_syntax.specs.declared.parts.Params.{Params}
 use Rattle.c_syntax.specs.Words.{EntryList, ItemTree, SourceTree, EachAt, ItemAt, ShapedItem, a_name, a_sign, base_kinds, body_kinds, declaration_kinds}
-use Rattle.c_syntax.specs.Words.{entry_kinds, item_kinds, params_kinds, parenthesized, start_kinds, type_kinds, with_commas}
+use Rattle.c_syntax.specs.Words.{entry_kinds, item_kinds, params_kinds, parenthesized_kinds, start_kinds, type_kinds, with_commas}
 use Rattle.c_syntax.specs.ItemTree as item
 use Rattle.c_types_rules.specs.declared.function.FunctionType.{FunctionType}
 use Rattle.c_types_expressions.specs.declared.walk.Definition.{Definition}
 use Rattle.c_types_expressions.specs.declared.walk.Walk.{Walk}
-use Rattle.c_types_expressions.specs.Words.{with_stars, found, Done, Fine, opened}
-use Rattle.c_types_walk.specs.ItemWalk.{clashes, known_as, types_of, walk_item, walk_items, with_definition, with_function}
+use Rattle.c_types_expressions.specs.Words.{with_stars, declared_meaning, Done, Fine, scope_opened}
+use Rattle.c_types_walk.specs.ItemWalk.{is_clashing_name, known_as, types_of, walk_item, walk_items, with_definition, with_function}
 use Rattle.c_meaning.specs.declared.value_type.ValueType.{ValueType}
 use Rattle.c_meaning.specs.Words.{body_of_item, computed_type, facts_of, strings_of_item}
 use Rattle.c_meaning_laws.specs.TypedStatements.{TypedEntries}
@@ -76,8 +76,8 @@ some_tokens : (x : ItemTree) → 1 ≤ length (item_kinds x)
 some_tokens (item.Struct token tag members) = omega arith
 some_tokens (item.Function token b stars name ps body) = omega (
   arith,
-  length-append (type_kinds b stars ++ a_name name ++ parenthesized (params_kinds ps)) (body_kinds body),
-  length-append (type_kinds b stars ++ a_name name) (parenthesized (params_kinds ps)),
+  length-append (type_kinds b stars ++ a_name name ++ parenthesized_kinds (params_kinds ps)) (body_kinds body),
+  length-append (type_kinds b stars ++ a_name name) (parenthesized_kinds (params_kinds ps)),
   length-append (type_kinds b stars) (a_name name),
 )
 some_tokens (item.Declaration d) = omega (arith, length-append (base_kinds d.base ++ with_commas start_kinds d.starts) (a_sign sign.Semicolon))
@@ -112,7 +112,7 @@ module _ (tree : SourceTree) (z : Walk) (ends : Ended tree z) (sums : Sums z) (g
       let from : ℕ = at + length (type_kinds b stars) + 2 + length (params_kinds ps) + 2 in
       let k = function_is token b stars name ps (Some body) lo mid w a v p.2 (omega arith) e in
       let f : FunctionType = record { gives = with_stars stars k.of; params = types_of k.own } in
-      let known : Option ℕ = known_as f (found name w.names) w in
+      let known : Option ℕ = known_as f (declared_meaning name w.names) w in
       let u : Walk = with_function name f known w in
       let d : Defines token f name k.own body known w v = body_defines token f name k.own body known w v a k.rest in
       let grown : Grown u z = grown_then u v z (defines_onward token f name k.own body known w v d) gr in
@@ -120,7 +120,7 @@ module _ (tree : SourceTree) (z : Walk) (ends : Ended tree z) (sums : Sums z) (g
       let q : Walked_body tree z sums lo mid from (from + length (entry_kinds body)) f.gives body u d.behind =
       walked_body tree z sums good count at lo mid from k.own f.gives body u d.behind (standing_function tree z count at name f known w st) grown (omega arith)
       (omega arith) (omega arith) (omega (arith, long, c)) k.are o.1 p.3 l d.walked in
-      let m : Marks at hi (opened (record u { locals = 0 })) d.behind = marks_then (marks_wider at hi q.params.marks (omega arith) (omega (arith, long)))
+      let m : Marks at hi (scope_opened (record u { locals = 0 })) d.behind = marks_then (marks_wider at hi q.params.marks (omega arith) (omega (arith, long)))
       (marks_wider at hi q.part.marks (omega arith) (omega (arith, long))) in
       let index : ℕ = unwrap_or known (length w.functions) in
       let closes : after_scope d.behind ≡ d.last = fine_known tt tt (after_scope d.behind) d.last d.closes in
@@ -167,9 +167,9 @@ module _ (tree : SourceTree) (z : Walk) (ends : Ended tree z) (sums : Sums z) (g
       (at + length (type_kinds b stars) + 2 + length (params_kinds ps)) w a v p.2
       (omega arith) e in
       let f : FunctionType = record { gives = with_stars stars k.of; params = types_of k.own } in
-      let known : Option ℕ = known_as f (found name w.names) w in
+      let known : Option ℕ = known_as f (declared_meaning name w.names) w in
       record {
-        steps = subst (Steps at hi w) (sym (declares_is token (clashes name known w) f.gives (with_function name f known w) v a k.rest).same)
+        steps = subst (Steps at hi w) (sym (declares_is token (is_clashing_name name known w) f.gives (with_function name f known w) v a k.rest).same)
             (steps_declared at hi name f known w);
         own = λ spans before behind later. tt;
       }

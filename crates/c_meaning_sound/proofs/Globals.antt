@@ -19,12 +19,12 @@ use Rattle.c_types_rules.specs.Words.{TypeTree, cells_of, is_complete, is_object
 use Rattle.c_types_expressions.specs.declared.walk.Variable.TheVariants as variable
 use Rattle.c_types_expressions.specs.declared.walk.VariableEntry.{VariableEntry}
 use Rattle.c_types_expressions.specs.declared.walk.Walk.{Walk}
-use Rattle.c_types.specs.Answers.{declared_at, noted}
+use Rattle.c_types.specs.Answers.{declared_at, note_at}
 use Rattle.c_types_walk.specs.Declarators.{declared_type, is_open}
 use Rattle.c_types_expressions.specs.Words.{with_stars, is_name_taken, Walked, Done, Fine, Faulty, ◌>>=◌, with_variable}
 use Rattle.c_types_walk.specs.Initialisers.{length_of, walk_initial, with_length}
 use Rattle.c_types.specs.Parts.{declaration_parts}
-use Rattle.c_types_walk.specs.StatementWalk.{sized, walk_closed, walk_declaration, walk_open, walk_start, walk_starts, walk_typed, with_declared_type}
+use Rattle.c_types_walk.specs.StatementWalk.{object_type_checked, walk_closed, walk_declaration, walk_open, walk_start, walk_starts, walk_typed, with_declared_type}
 use Rattle.c_types.proofs.Noted.{Step, stage, length_replaced}
 use Rattle.c_types.proofs.NotedStatements.{declaration_notes}
 use Rattle.c_meaning.specs.Words.{facts_of, strings_declared, strings_initial}
@@ -233,14 +233,14 @@ counted_by false c token n w k h = record { by = tt }
 
 sized_outside : {A : Type 0} {Q : A → Walk → Type 0} (token : ℕ) (of : TypeTree) (w : Walk) (k : Done → Walk → Walked A)
     → (is_object w.structs of ≡ true → Gives (k tt (record w { global_cells = w.global_cells + cells_of w.structs of })) Q) → Gives
-    (sized true token of w >>= k) Q
+    (object_type_checked true token of w >>= k) Q
 sized_outside token of w k h =
     counted_by (is_object w.structs of) (nat_le (w.global_cells + cells_of w.structs of) 1048576) token (w.global_cells + cells_of w.structs of) w k h
 
 module _ (tree : SourceTree) (z : Walk) where
   -- a global: its place among all variables, and its type where that is known whole
   abbrev IsGlobal : ℕ → ℕ → TypeTree → Type 0
-  IsGlobal token index of = (noted z.variables_at token ≡ Some index) × (is_complete z.structs of ≡ true → slice_get z.declared_types index ≡ Some of)
+  IsGlobal token index of = (note_at z.variables_at token ≡ Some index) × (is_complete z.structs of ≡ true → slice_get z.declared_types index ≡ Some of)
 
   abbrev global_entry : ℕ → List ℕ → Walk → VariableEntry
   global_entry token name w = record { name = name; variable = variable.Global w.globals; from = token }
@@ -331,7 +331,7 @@ module _ (tree : SourceTree) (z : Walk) (ends : Ended tree z) where
   abbrev GoodGlobal : ℕ → StartTree → Walk → Done → Walk → Type 0
   GoodGlobal at x w done v = Outside tree z at (at + length (start_kinds x)) w v (GlobalFits x)
 
-  global_fits : (x : StartTree) (index n : ℕ) (of : TypeTree) → noted z.variables_at x.declarator.name_token ≡ Some index
+  global_fits : (x : StartTree) (index n : ℕ) (of : TypeTree) → note_at z.variables_at x.declarator.name_token ≡ Some index
       → slice_get z.declared_types index ≡ Some (with_length n of)
       → (declared_at z x.declarator.name_token ≡ Some (with_length n of) → OuterFits tree z ends x.initial (with_length n of)) → GlobalFits x
   global_fits x index n of h k f =

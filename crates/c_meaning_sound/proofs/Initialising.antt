@@ -6,18 +6,18 @@ use Rattle.std.specs.Option.{option_map, option_and_then}
 use Rattle.std.proofs.lemmas.Bool.{false≢true, true≢false, and_parts}
 use Rattle.std.proofs.lemmas.Option.{same_Some}
 use Rattle.c_types_expressions.proofs.Given.{Gives, and_then}
-use Rattle.c_syntax.specs.Words.{SourceTree, ExprTree, ExprList, InitialTree, first_token, InitialAt, ShapedInitial, Kinds, a_sign, braced, comma_kinds}
-use Rattle.c_syntax.specs.Words.{expr_kinds, exprs_kinds, initial_kinds, optional}
+use Rattle.c_syntax.specs.Words.{SourceTree, ExprTree, ExprList, InitialTree, first_token, InitialAt, ShapedInitial, Kinds, a_sign, braced_kinds, comma_kinds}
+use Rattle.c_syntax.specs.Words.{expr_kinds, exprs_kinds, initial_kinds, optional_kinds}
 use Rattle.c_syntax.specs.ExprTree as e
 use Rattle.c_syntax.specs.StatementTree as s
 use Rattle.c_syntax.specs.declared.token.Sign.TheVariants as sign
 use Rattle.c_types_rules.specs.declared.operand.Operand.{Operand}
 use Rattle.c_types_rules.specs.TypeTree as t
-use Rattle.c_types_rules.specs.Words.{TypeTree, assignable, is_scalar}
+use Rattle.c_types_rules.specs.Words.{TypeTree, is_assignable, is_scalar}
 use Rattle.c_types_expressions.specs.declared.walk.Walk.{Walk}
-use Rattle.c_types.specs.Answers.{declared_at, noted}
-use Rattle.c_types_walk.specs.Initialisers.{all_initialise, cells_of_string, completes, expressed, initialises, is_char, is_char_array, is_constant, length_of, listed_type}
-use Rattle.c_types_walk.specs.Initialisers.{spelled, takes_items, valued, walk_initial, with_length}
+use Rattle.c_types.specs.Answers.{declared_at, note_at}
+use Rattle.c_types_walk.specs.Initialisers.{all_initialise, cells_of_string, type_or_fault, type_if_initialised, is_scalar_initialiser, is_char, is_char_array, is_constant, length_of, listed_type}
+use Rattle.c_types_walk.specs.Initialisers.{type_by_string, takes_items, type_by_expression, walk_initial, with_length}
 use Rattle.c_meaning.specs.declared.value_type.ValueType.{ValueType}
 use Rattle.c_meaning.specs.Words.{is_null_constant, computed_type, element_type, Literal, strings_in, strings_initial, strings_of_all, text_of_string, token_of}
 use Rattle.c_meaning_laws.specs.Rules.{Accepts, IsScalar}
@@ -55,13 +55,13 @@ spelled_by true n of u h = record { size = n; is = sym (same_Some (with_length n
 spelled_by false n of u h = cc
 
 module _ (global : Bool) where
-  text_or : (b : Bool) (cells : ℕ) (of u : TypeTree) (value : ExprTree) (a : Operand) → (if b then spelled cells of else expressed global of value a) ≡ Some u
+  text_or : (b : Bool) (cells : ℕ) (of u : TypeTree) (value : ExprTree) (a : Operand) → (if b then type_by_string cells of else type_if_initialised global of value a) ≡ Some u
       → Lengthened of u
   text_or true cells of u value a h = spelled_by (length_of of == 0 || nat_le cells (length_of of + 1)) _ of u h
-  text_or false cells of u value a h = expressed_by (initialises global of value a) of u h
+  text_or false cells of u value a h = expressed_by (is_scalar_initialiser global of value a) of u h
 
-  pub valued_length : (o : Option ℕ) (of u : TypeTree) (value : ExprTree) (a : Operand) → valued global of value a o ≡ Some u → Lengthened of u
-  valued_length None of u value a h = expressed_by (initialises global of value a) of u h
+  pub valued_length : (o : Option ℕ) (of u : TypeTree) (value : ExprTree) (a : Operand) → type_by_expression global of value a o ≡ Some u → Lengthened of u
+  valued_length None of u value a h = expressed_by (is_scalar_initialiser global of value a) of u h
   valued_length (Some cells) of u value a h = text_or (is_char_array of) cells of u value a h
 
   -- what an initialiser that isn't refused is
@@ -71,31 +71,31 @@ module _ (global : Bool) where
   expressed_fits false q r of u h = cc
 
   text_fits : (b : Bool) (cells : ℕ) (of u : TypeTree) (value : ExprTree) (a : Operand) → b ≡ false
-      → (if b then spelled cells of else expressed global of value a) ≡ Some u → (is_scalar of ≡ true) × (assignable of a ≡ true)
+      → (if b then type_by_string cells of else type_if_initialised global of value a) ≡ Some u → (is_scalar of ≡ true) × (is_assignable of a ≡ true)
   text_fits true cells of u value a e h = absurd (true≢false e)
-  text_fits false cells of u value a e h = expressed_fits (is_scalar of) (assignable of a) (not global || is_constant value) of u h
+  text_fits false cells of u value a e h = expressed_fits (is_scalar of) (is_assignable of a) (not global || is_constant value) of u h
 
-  value_fits : (o : Option ℕ) (of u : TypeTree) (value : ExprTree) (a : Operand) → is_char_array of ≡ false → valued global of value a o ≡ Some u
-      → (is_scalar of ≡ true) × (assignable of a ≡ true)
-  value_fits None of u value a e h = expressed_fits (is_scalar of) (assignable of a) (not global || is_constant value) of u h
+  value_fits : (o : Option ℕ) (of u : TypeTree) (value : ExprTree) (a : Operand) → is_char_array of ≡ false → type_by_expression global of value a o ≡ Some u
+      → (is_scalar of ≡ true) × (is_assignable of a ≡ true)
+  value_fits None of u value a e h = expressed_fits (is_scalar of) (is_assignable of a) (not global || is_constant value) of u h
   value_fits (Some cells) of u value a e h = text_fits (is_char_array of) cells of u value a e h
 
   -- an array that takes a value: its elements are characters, and the value is a string
   array_text : (b : Bool) (cells : ℕ) (element u : TypeTree) (size : ℕ) (value : ExprTree) (a : Operand) → is_char element ≡ b
-      → (if b then spelled cells (t.Array element size) else expressed global (t.Array element size) value a) ≡ Some u → is_char element ≡ true
+      → (if b then type_by_string cells (t.Array element size) else type_if_initialised global (t.Array element size) value a) ≡ Some u → is_char element ≡ true
   array_text true cells element u size value a e h = e
   array_text false cells element u size value a e h = cc
 
-  array_value : (o : Option ℕ) (element u : TypeTree) (size : ℕ) (value : ExprTree) (a : Operand) → valued global (t.Array element size) value a o ≡ Some u
+  array_value : (o : Option ℕ) (element u : TypeTree) (size : ℕ) (value : ExprTree) (a : Operand) → type_by_expression global (t.Array element size) value a o ≡ Some u
       → (is_char element ≡ true) × IsSome o
   array_value None element u size value a h = cc
   array_value (Some cells) element u size value a h = (array_text (is_char element) cells element u size value a refl h, refl)
 
 -- the tokens of an initialiser, behind its `=`
 abbrev pub equals_kinds : Option InitialTree → Kinds
-equals_kinds x = optional (λ y. a_sign sign.Equal ++ initial_kinds y) x
+equals_kinds x = optional_kinds (λ y. a_sign sign.Equal ++ initial_kinds y) x
 
-pub braced_long : (items : ExprList) (comma : Bool) → length (exprs_kinds items) + 1 ≤ length (braced (exprs_kinds items ++ comma_kinds comma))
+pub braced_long : (items : ExprList) (comma : Bool) → length (exprs_kinds items) + 1 ≤ length (braced_kinds (exprs_kinds items ++ comma_kinds comma))
 braced_long items comma = omega (
   arith,
   length-append (exprs_kinds items ++ comma_kinds comma) (a_sign sign.RightBrace),
@@ -103,7 +103,7 @@ braced_long items comma = omega (
 )
 
 pub completed : {Q : TypeTree → Walk → Type 0} (token : ℕ) (o : Option TypeTree) (w : Walk) → ((u : TypeTree) → o ≡ Some u → Q u w) → Gives
-    (completes token o w) Q
+    (type_or_fault token o w) Q
 completed token None w h = record { by = tt }
 completed token (Some u) w h = record { by = h u refl }
 
@@ -129,9 +129,9 @@ module _ (tree : SourceTree) (z : Walk) (ends : Ended tree z) (global : Bool) wh
   elements_typed c element u e.no_exprs own k m h = tt
   elements_typed c element u (e.more_exprs x rest) [] k m h = absurd m
   elements_typed c element u (e.more_exprs x rest) (a ∷ own) k m h =
-      let parts : (initialises global element x a ≡ true) × (all_initialise global element rest own ≡ true) =
-      and_parts (initialises global element x a) (all_initialise global element rest own) h in
-      let fits : (is_scalar element ≡ true) × (assignable element a ≡ true) = initialised_by (is_scalar element) (assignable element a)
+      let parts : (is_scalar_initialiser global element x a ≡ true) × (all_initialise global element rest own ≡ true) =
+      and_parts (is_scalar_initialiser global element x a) (all_initialise global element rest own) h in
+      let fits : (is_scalar element ≡ true) × (is_assignable element a ≡ true) = initialised_by (is_scalar element) (is_assignable element a)
       (not global || is_constant x) parts.0 in (
         m.0,
         subst (λ o. Accepts (facts tree z) o x) (sym k) (accepted tree z (known z.structs element) x a m.2 m.1 (assignable_taken z.structs element a fits.1)),
@@ -157,7 +157,7 @@ module _ (tree : SourceTree) (z : Walk) (ends : Ended tree z) (global : Bool) wh
 
   -- a value of a scalar variable
   plain_typed : (c token : ℕ) (of : TypeTree) (value : ExprTree) (a : Operand) → is_scalar of ≡ true → declared_at z token ≡ Some of
-      → Fits tree z c value → noted z.types (token_of value) ≡ Some a.ctype → is_null_constant value ≡ a.null → assignable of a ≡ true
+      → Fits tree z c value → note_at z.types (token_of value) ≡ Some a.ctype → is_null_constant value ≡ a.null → is_assignable of a ≡ true
       → TypedValue (facts tree z) none c token ((facts tree z).declared_at token) value
   plain_typed c token of value a p d f n k h =
       subst (λ o. TypedValue (facts tree z) none c token o value) (sym (declared_as token of d)) (by_type of p (
@@ -177,8 +177,8 @@ module _ (tree : SourceTree) (z : Walk) (ends : Ended tree z) (global : Bool) wh
       by_type (t.Array element size) p h = absurd (false≢true p)
       by_type (t.Struct tag) p h = absurd (false≢true p)
 
-  pub value_typed : (c token n : ℕ) (of u : TypeTree) (value : ExprTree) (a : Operand) → valued global of value a (cells_of_string value) ≡ Some u
-      → declared_at z token ≡ Some (with_length n of) → Fits tree z c value → noted z.types (token_of value) ≡ Some a.ctype
+  pub value_typed : (c token n : ℕ) (of u : TypeTree) (value : ExprTree) (a : Operand) → type_by_expression global of value a (cells_of_string value) ≡ Some u
+      → declared_at z token ≡ Some (with_length n of) → Fits tree z c value → note_at z.types (token_of value) ≡ Some a.ctype
       → is_null_constant value ≡ a.null → AllByRecursion (Spelled tree) (strings_in value)
       → TypedValue (facts tree z) none c token ((facts tree z).declared_at token) value
   value_typed c token n (t.Array element size) u value a h d f q k l =
@@ -241,7 +241,7 @@ module _ (tree : SourceTree) (z : Walk) (ends : Ended tree z) (global : Bool) wh
       let long : length (equals_kinds (Some (s.Value value))) ≡ 1 + length (expr_kinds value) = omega arith in
       and_then (walk_good tree z ends value (at + 1) w q.1 p (spelled_lies tree z ends (strings_in value) l)
       (ready_in r (at + 1) (at + 1 + length (expr_kinds value)) (omega arith) (omega (arith, long)))) (λ a v g.
-      completed (first_token value) (valued global of value a (cells_of_string value)) v (λ u h. record {
+      completed (first_token value) (type_by_expression global of value a (cells_of_string value)) v (λ u h. record {
         long = valued_length global (cells_of_string value) of u value a h;
         part = so (wider g.part (omega arith) (omega (arith, long))) (λ c f n d. value_typed c token n of u value a h d f.0 f.1 g.null l);
       }))

@@ -5,10 +5,9 @@ use Rattle.std.specs.Prelude.{Option, slice_get, unwrap_or, ◌||◌, if◌then�
 use Rattle.std.specs.List.{AllByRecursion}
 use Rattle.std.specs.Str.{bytes_eq}
 use Rattle.std.proofs.lemmas.Bool.{false≢true, and_parts}
-use Rattle.std.proofs.lemmas.Slice.Eq.{bytes_eq-Decides}
 use Rattle.std.proofs.lemmas.Option.{same_Some}
 use Rattle.c_types_expressions.proofs.Given.{Gives}
-use Rattle.base_lists.proofs.Lists.{next_is, Stays}
+use Rattle.base_lists.proofs.Lists.{next_is, same_bytes, Stays}
 use Rattle.c_syntax.specs.declared.parts.Base.{Base}
 use Rattle.c_syntax.specs.declared.parts.Members.{Members}
 use Rattle.c_syntax.specs.declared.parts.Params.{Params}
@@ -22,9 +21,9 @@ use Rattle.c_types_expressions.specs.declared.names.Meaning.TheVariants as meani
 use Rattle.c_types_expressions.specs.declared.names.ScopeEntry.{ScopeEntry}
 use Rattle.c_types_expressions.specs.declared.walk.FunctionEntry.{FunctionEntry}
 use Rattle.c_types_expressions.specs.declared.walk.Walk.{Walk}
-use Rattle.c_types.specs.Answers.{noted}
+use Rattle.c_types.specs.Answers.{note_at}
 use Rattle.c_types_walk.specs.ItemWalk.{has_type, known_as, with_function}
-use Rattle.c_types_expressions.specs.Names.{found, is_here, or_before}
+use Rattle.c_types_expressions.specs.Names.{declared_meaning, is_here, or_before}
 use Rattle.c_types_walk.specs.StatementWalk.{walk_entries}
 use Rattle.c_meaning.specs.Words.{Signature, body_of_item, computed_type, signature_of, struct_number, strings_entered}
 use Rattle.c_meaning_laws.specs.TypedStatements.{TypedEntries}
@@ -43,12 +42,12 @@ module _ (tree : SourceTree) (z : Walk) where
     pub variables_at : count ≤ length w.variables_at
     pub offsets_at : count ≤ length w.offsets_at
     pub functions_at : count ≤ length w.functions_at
-    pub fresh : (token : ℕ) → at ≤ token → noted w.functions_at token ≡ None
-    pub bare : (token : ℕ) → at ≤ token → noted w.types token ≡ None
+    pub fresh : (token : ℕ) → at ≤ token → note_at w.functions_at token ≡ None
+    pub bare : (token : ℕ) → at ≤ token → note_at w.types token ≡ None
     pub wholes : AllWhole tree z w.declared_types
     pub long : length w.declared_types ≡ length w.variables
     pub slots : AllSlots 0 w.variables w.names
-    pub tags : (tag : List ℕ) (index : ℕ) → found tag w.tags ≡ Some (meaning.Struct index) → struct_number 0 tag tree.items ≡ Some index
+    pub tags : (tag : List ℕ) (index : ℕ) → declared_meaning tag w.tags ≡ Some (meaning.Struct index) → struct_number 0 tag tree.items ≡ Some index
 
   pub standing_behind : (count at hi : ℕ) (w : Walk) → Standing count at w → at ≤ hi → Standing count hi w
   standing_behind count at hi w s h = record {
@@ -120,8 +119,8 @@ module _ (tree : SourceTree) (z : Walk) where
 
   new_tag : (tag other : List ℕ) (n index : ℕ) (names : List ScopeEntry) (items : List ItemTree) (b : Bool) → bytes_eq other tag ≡ b
       → (bytes_eq other tag ≡ true → struct_number 0 tag tree.items ≡ Some n)
-      → (found tag names ≡ Some (meaning.Struct index) → struct_number 0 tag tree.items ≡ Some index)
-      → or_before (if b then Some (meaning.Struct n) else None) (found tag names) ≡ Some (meaning.Struct index)
+      → (declared_meaning tag names ≡ Some (meaning.Struct index) → struct_number 0 tag tree.items ≡ Some index)
+      → or_before (if b then Some (meaning.Struct n) else None) (declared_meaning tag names) ≡ Some (meaning.Struct index)
       → struct_number 0 tag tree.items ≡ Some index
   new_tag tag other n index names items true e h k l = h e ∙ ap index_of l
     where
@@ -135,13 +134,10 @@ module _ (tree : SourceTree) (z : Walk) where
   here_apart tag other true c n xs m h k = absurd (false≢true (sym h))
   here_apart tag other false c n xs m h k = k h
 
-  same_name : (other tag : List ℕ) → bytes_eq other tag ≡ true → other ≡ tag
-  same_name other tag h = (bytes_eq-Decides other tag).0 h
-
   tag_named : (tag other : List ℕ) (n : ℕ) (names : List ScopeEntry) (xs : List ItemTree) (m : Option ℕ) → is_here tag names ≡ false
       → (is_here other names ≡ false → m ≡ (if bytes_eq tag other then Some n else struct_number (suc n) other xs)) → bytes_eq tag other ≡ true → m ≡ Some n
   tag_named tag other n names xs m h k e =
-      k (subst (λ name. is_here name names ≡ false) (same_name tag other e) h) ∙ ap (λ b. if b then Some n else struct_number (suc n) other xs) e
+      k (subst (λ name. is_here name names ≡ false) (same_bytes tag other e) h) ∙ ap (λ b. if b then Some n else struct_number (suc n) other xs) e
 
   pub struct_item : (token : ℕ) (tag : List ℕ) (members : List Members) (count at hi : ℕ) (xs : List ItemTree) (w v : Walk) → Standing count at w
       → Tagged (item.Struct token tag members ∷ xs) w → Structs tag w v → at ≤ hi → Item count at hi (item.Struct token tag members) xs w v

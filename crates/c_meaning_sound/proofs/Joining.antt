@@ -1,5 +1,5 @@
 -- The operators of chains, and those before and behind operands: what the walk accepts of them fits.
-use Rattle.std.proofs.Common.{◌≡◌, ◌≤◌, refl, ap, subst, sym, ◌∙◌, arith, List, Some, None, Bool, true, false}
+use Rattle.std.proofs.Common.{◌≡◌, ◌≤◌, refl, ap, subst, sym, ◌∙◌, arith, List, Some, Bool, true, false}
 use Rattle.std.specs.Prelude.{Option, ◌&&◌, ◌||◌}
 use Rattle.std.proofs.lemmas.Bool.{false≢true, and_parts}
 use Rattle.c_meaning_laws.proofs.Values.{number_value, pointing_value}
@@ -14,17 +14,17 @@ use Rattle.c_syntax.specs.Words.{ExprTree, level_of}
 use Rattle.c_types_rules.specs.declared.layout.StructType.{StructType}
 use Rattle.c_types_rules.specs.declared.operand.Operand.{Operand}
 use Rattle.c_types_rules.specs.TypeTree as t
-use Rattle.c_types_rules.specs.Words.{TypeTree, pointers_join, pointers_meet, is_arithmetic, is_pointer, is_scalar, value_of, both_arithmetic, gives}
+use Rattle.c_types_rules.specs.Words.{TypeTree, pointers_join, pointers_meet, is_arithmetic, is_pointer, both_arithmetic, value_if_operands_fit}
 use Rattle.c_types_rules.specs.Words.{is_scalar_value, joined_truths}
 use Rattle.c_types_rules.specs.Conversions as rule
-use Rattle.c_types_expressions.specs.ExprWalk.{binary_of, chained}
+use Rattle.c_types_expressions.specs.ExprWalk.{binary_of, typed_chain_operation}
 use Rattle.c_meaning.specs.declared.operation.Operation.{Operation}
 use Rattle.c_meaning.specs.declared.operation.Operation.TheVariants.{Numbers, MoveLeft, MoveRight, Span, Ordered, Wrong}
 use Rattle.c_meaning.specs.declared.value_type.ValueType.{ValueType}
 use Rattle.c_meaning.specs.declared.value_type.ValueType.TheVariants as type
 use Rattle.c_meaning.specs.Conversions as mean
-use Rattle.c_meaning.specs.Words.{is_null_constant, operation, is_null_beside, joint, operand_type}
-use Rattle.c_meaning_laws.specs.Rules.{IsNumberType, IsPointing, IsValue, Joins, Operates}
+use Rattle.c_meaning.specs.Words.{is_null_constant, operation, is_null_beside, joint_of_sign, operand_type}
+use Rattle.c_meaning_laws.specs.Rules.{IsValue, Joins, Operates}
 use Rattle.c_meaning_laws.proofs.Ruled.{Is, arithmetic_number, gives_by, known, pointer_pointing, scalar_usable}
 use Rattle.c_meaning_laws.proofs.RuledOperators.{IsNoEquality, StepsKnown, combined_fits, equated_fits}
 
@@ -104,11 +104,11 @@ abbrev pub LinkFits : List StructType → Sign → Operand → Operand → Opera
 LinkFits structs s x y a =
     let left : Option ValueType = operand_type (null_beside (binary_of s) (known structs y.ctype) x.null) (known structs x.ctype) in
     IsValue (known structs x.ctype) × IsValue (known structs y.ctype)
-    × Joins (joint s) left (operand_type (null_beside (binary_of s) left y.null) (known structs y.ctype)) (known structs a.ctype)
+    × Joins (joint_of_sign s) left (operand_type (null_beside (binary_of s) left y.null) (known structs y.ctype)) (known structs a.ctype)
 
 module _ (structs : List StructType) (x y a : Operand) (s : StepsKnown structs x.ctype) (r : StepsKnown structs y.ctype) (m : NullValue structs x y x)
     (n : NullValue structs x y y) where
-  computed : (o : Binary) → IsNoEquality o → Is (chained structs (Some o) x y) a
+  computed : (o : Binary) → IsNoEquality o → Is (typed_chain_operation structs (Some o) x y) a
       → IsValue (known structs x.ctype) × IsValue (known structs y.ctype)
       × Operates (operation o (known structs x.ctype) (known structs y.ctype)) (known structs x.ctype) (known structs y.ctype) (known structs a.ctype)
   computed o e h =
@@ -118,7 +118,7 @@ module _ (structs : List StructType) (x y a : Operand) (s : StepsKnown structs x
       operands_values (operation o (known structs x.ctype) (known structs y.ctype)) (known structs x.ctype) (known structs y.ctype) (known structs a.ctype) k in
       (l.0, l.1, k)
 
-  compared : Is (gives (both_arithmetic (rule.value_type x) (rule.value_type y) || pointers_join x y) t.Int) a
+  compared : Is (value_if_operands_fit (both_arithmetic (rule.value_type x) (rule.value_type y) || pointers_join x y) t.Int) a
       → IsValue (known structs x.ctype) × IsValue (known structs y.ctype)
   compared h = gives_by (λ z. IsValue (known structs x.ctype) × IsValue (known structs y.ctype))
       (both_arithmetic (rule.value_type x) (rule.value_type y) || pointers_join x y) t.Int a
@@ -134,7 +134,7 @@ module _ (structs : List StructType) (x y a : Operand) (s : StepsKnown structs x
         refl,
       )) h
 
-  pub link_fits : (sign : Sign) → 1 ≤ level_of sign → Is (chained structs (binary_of sign) x y) a → LinkFits structs sign x y a
+  pub link_fits : (sign : Sign) → 1 ≤ level_of sign → Is (typed_chain_operation structs (binary_of sign) x y) a → LinkFits structs sign x y a
   link_fits sign.OrOr l h = both_scalar h
   link_fits sign.AndAnd l h = both_scalar h
   link_fits sign.Bar l h = computed op.Or tt h

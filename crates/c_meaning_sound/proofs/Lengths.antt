@@ -9,11 +9,11 @@ use Rattle.c_syntax.specs.ExprTree as e
 use Rattle.c_syntax.specs.Words.{ExprTree, ExprList, LinkList, PostfixList, InitialTree, StartTree, DeclarationTree, ForStartTree, StatementTree, EntryList}
 use Rattle.c_syntax.specs.Words.{ItemTree, SourceTree, Kinds, a_name, a_sign, a_word, after_commas, base_kinds, body_kinds, comma_kinds, declaration_kinds}
 use Rattle.c_syntax.specs.Words.{declarator_kinds, entry_kinds, expr_kinds, exprs_kinds, for_start_kinds, initial_kinds, item_kinds, link_kinds}
-use Rattle.c_syntax.specs.Words.{more_exprs_kinds, optional, params_kinds, parenthesized, postfix_kinds, prefix_kinds, start_kinds, statement_kinds, text_kinds}
+use Rattle.c_syntax.specs.Words.{more_exprs_kinds, optional_kinds, params_kinds, parenthesized_kinds, postfix_kinds, prefix_kinds, start_kinds, statement_kinds, text_kinds}
 use Rattle.c_syntax.specs.Words.{tree_kinds, type_kinds, with_commas, kind_text_len}
 use Rattle.c_syntax.specs.StatementTree as s
 use Rattle.c_syntax.specs.ItemTree as item
-use Rattle.c_meaning.specs.Words.{Literal, literals, strings_begun, strings_behind, strings_declared, strings_entered, strings_if, strings_in, strings_initial}
+use Rattle.c_meaning.specs.Words.{Literal, string_literals, strings_begun, strings_behind, strings_declared, strings_entered, strings_if, strings_in, strings_initial}
 use Rattle.c_meaning.specs.Words.{strings_of_all, strings_of_body, strings_of_item, strings_of_links, strings_stated}
 
 -- how many bytes the strings among some tokens have
@@ -48,7 +48,7 @@ before xs ks ls h = omega (arith, h, heavy_two ks ls)
 within : (xs : List Literal) (a b c : Kinds) → Fewer xs b → Fewer xs (a ++ b ++ c)
 within xs a b c h = behind xs (a ++ b) c (before xs a b h)
 
-enclosed : (xs : List Literal) (ks : Kinds) → Fewer xs ks → Fewer xs (parenthesized ks)
+enclosed : (xs : List Literal) (ks : Kinds) → Fewer xs ks → Fewer xs (parenthesized_kinds ks)
 enclosed xs ks h = within xs (a_sign sign.LeftParen) ks (a_sign sign.RightParen) h
 
 none_fewer : (ks : Kinds) → Fewer [] ks
@@ -71,11 +71,11 @@ mutual
       (behind (strings_in c) (expr_kinds c) (a_sign sign.Question) (expr_fewer c)) (expr_fewer x))) (expr_fewer y)
   expr_fewer (e.Chain level first links) =
       join (strings_in first) (strings_of_links links) (expr_kinds first) (link_kinds links) (expr_fewer first) (links_fewer links)
-  expr_fewer (e.Cast token b stars x) = before (strings_in x) (parenthesized (type_kinds b stars)) (expr_kinds x) (expr_fewer x)
+  expr_fewer (e.Cast token b stars x) = before (strings_in x) (parenthesized_kinds (type_kinds b stars)) (expr_kinds x) (expr_fewer x)
   expr_fewer (e.Prefix token o x) = before (strings_in x) (prefix_kinds o) (expr_kinds x) (expr_fewer x)
   expr_fewer (e.Postfix x operators) =
       join (strings_in x) (strings_behind operators) (expr_kinds x) (postfix_kinds operators) (expr_fewer x) (postfix_fewer operators)
-  expr_fewer (e.Call token name arguments) = before (strings_of_all arguments) (a_name name) (parenthesized (exprs_kinds arguments))
+  expr_fewer (e.Call token name arguments) = before (strings_of_all arguments) (a_name name) (parenthesized_kinds (exprs_kinds arguments))
       (enclosed (strings_of_all arguments) (exprs_kinds arguments) (exprs_fewer arguments))
   expr_fewer (e.Strings token parts) = omega (arith, parts_heavy parts)
   expr_fewer (e.Paren token x) = enclosed (strings_in x) (expr_kinds x) (expr_fewer x)
@@ -106,7 +106,7 @@ mutual
   postfix_fewer (e.increment token rest) = before (strings_behind rest) (a_sign sign.PlusPlus) (postfix_kinds rest) (postfix_fewer rest)
   postfix_fewer (e.decrement token rest) = before (strings_behind rest) (a_sign sign.MinusMinus) (postfix_kinds rest) (postfix_fewer rest)
 
-if_fewer : (x : Option ExprTree) → Fewer (strings_if x) (optional expr_kinds x)
+if_fewer : (x : Option ExprTree) → Fewer (strings_if x) (optional_kinds expr_kinds x)
 if_fewer None = omega arith
 if_fewer (Some x) = expr_fewer x
 
@@ -116,12 +116,12 @@ initial_fewer (s.Braced token items comma) =
     within (strings_of_all items) (a_sign sign.LeftBrace) (exprs_kinds items ++ comma_kinds comma) (a_sign sign.RightBrace)
     (behind (strings_of_all items) (exprs_kinds items) (comma_kinds comma) (exprs_fewer items))
 
-initials_fewer : (x : Option InitialTree) → Fewer (strings_initial x) (optional (λ y. a_sign sign.Equal ++ initial_kinds y) x)
+initials_fewer : (x : Option InitialTree) → Fewer (strings_initial x) (optional_kinds (λ y. a_sign sign.Equal ++ initial_kinds y) x)
 initials_fewer None = omega arith
 initials_fewer (Some x) = before (strings_initial (Some x)) (a_sign sign.Equal) (initial_kinds x) (initial_fewer x)
 
 start_fewer : (x : StartTree) → Fewer (strings_initial x.initial) (start_kinds x)
-start_fewer x = before (strings_initial x.initial) (declarator_kinds x.declarator) (optional (λ y. a_sign sign.Equal ++ initial_kinds y) x.initial)
+start_fewer x = before (strings_initial x.initial) (declarator_kinds x.declarator) (optional_kinds (λ y. a_sign sign.Equal ++ initial_kinds y) x.initial)
     (initials_fewer x.initial)
 
 starts_fewer : (xs : List StartTree) → Fewer (flat_map (λ x. strings_initial x.initial) xs) (after_commas start_kinds xs)
@@ -142,12 +142,12 @@ declaration_fewer d = all_starts_fewer (base_kinds d.base) d.starts
 
 begun_fewer : (x : ForStartTree) → Fewer (strings_begun x) (for_start_kinds x)
 begun_fewer (s.Declares d) = declaration_fewer d
-begun_fewer (s.Computes x) = behind (strings_if x) (optional expr_kinds x) (a_sign sign.Semicolon) (if_fewer x)
+begun_fewer (s.Computes x) = behind (strings_if x) (optional_kinds expr_kinds x) (a_sign sign.Semicolon) (if_fewer x)
 
 conditioned : (token : List Literal) (w : Kinds) (c : ExprTree) (ks : Kinds) → Fewer token ks
-    → Fewer (strings_in c ++ token) (w ++ parenthesized (expr_kinds c) ++ ks)
-conditioned xs w c ks h = join (strings_in c) xs (w ++ parenthesized (expr_kinds c)) ks
-    (before (strings_in c) w (parenthesized (expr_kinds c)) (enclosed (strings_in c) (expr_kinds c) (expr_fewer c))) h
+    → Fewer (strings_in c ++ token) (w ++ parenthesized_kinds (expr_kinds c) ++ ks)
+conditioned xs w c ks h = join (strings_in c) xs (w ++ parenthesized_kinds (expr_kinds c)) ks
+    (before (strings_in c) w (parenthesized_kinds (expr_kinds c)) (enclosed (strings_in c) (expr_kinds c) (expr_fewer c))) h
 
 mutual
   stated_fewer : (x : StatementTree) → Fewer (strings_stated x) (statement_kinds x)
@@ -156,27 +156,27 @@ mutual
   stated_fewer (s.Expr token x) = behind (strings_in x) (expr_kinds x) (a_sign sign.Semicolon) (expr_fewer x)
   stated_fewer (s.If token c first) = conditioned (strings_stated first) (a_word word.If) c (statement_kinds first) (stated_fewer first)
   stated_fewer (s.IfElse token c first second) =
-      let a = a_word word.If ++ parenthesized (expr_kinds c) ++ statement_kinds first in
+      let a = a_word word.If ++ parenthesized_kinds (expr_kinds c) ++ statement_kinds first in
       join (strings_in c ++ strings_stated first) (strings_stated second) (a ++ a_word word.Else) (statement_kinds second)
       (behind (strings_in c ++ strings_stated first) a (a_word word.Else)
       (conditioned (strings_stated first) (a_word word.If) c (statement_kinds first) (stated_fewer first))) (stated_fewer second)
   stated_fewer (s.While token c body) = conditioned (strings_stated body) (a_word word.While) c (statement_kinds body) (stated_fewer body)
   stated_fewer (s.Do token body c) =
       let a = a_word word.Do ++ statement_kinds body ++ a_word word.While in
-      behind (strings_stated body ++ strings_in c) (a ++ parenthesized (expr_kinds c)) (a_sign sign.Semicolon)
-      (join (strings_stated body) (strings_in c) a (parenthesized (expr_kinds c))
+      behind (strings_stated body ++ strings_in c) (a ++ parenthesized_kinds (expr_kinds c)) (a_sign sign.Semicolon)
+      (join (strings_stated body) (strings_in c) a (parenthesized_kinds (expr_kinds c))
       (within (strings_stated body) (a_word word.Do) (statement_kinds body) (a_word word.While) (stated_fewer body))
       (enclosed (strings_in c) (expr_kinds c) (expr_fewer c)))
   stated_fewer (s.For token start c step body) =
-      let a = for_start_kinds start ++ optional expr_kinds c ++ a_sign sign.Semicolon in
+      let a = for_start_kinds start ++ optional_kinds expr_kinds c ++ a_sign sign.Semicolon in
       let xs = strings_begun start ++ strings_if c ++ strings_if step in
-      join xs (strings_stated body) (a_word word.For ++ parenthesized (a ++ optional expr_kinds step)) (statement_kinds body)
-      (before xs (a_word word.For) (parenthesized (a ++ optional expr_kinds step)) (enclosed xs (a ++ optional expr_kinds step)
-      (join (strings_begun start ++ strings_if c) (strings_if step) a (optional expr_kinds step)
-      (behind (strings_begun start ++ strings_if c) (for_start_kinds start ++ optional expr_kinds c) (a_sign sign.Semicolon)
-      (join (strings_begun start) (strings_if c) (for_start_kinds start) (optional expr_kinds c) (begun_fewer start) (if_fewer c))) (if_fewer step))))
+      join xs (strings_stated body) (a_word word.For ++ parenthesized_kinds (a ++ optional_kinds expr_kinds step)) (statement_kinds body)
+      (before xs (a_word word.For) (parenthesized_kinds (a ++ optional_kinds expr_kinds step)) (enclosed xs (a ++ optional_kinds expr_kinds step)
+      (join (strings_begun start ++ strings_if c) (strings_if step) a (optional_kinds expr_kinds step)
+      (behind (strings_begun start ++ strings_if c) (for_start_kinds start ++ optional_kinds expr_kinds c) (a_sign sign.Semicolon)
+      (join (strings_begun start) (strings_if c) (for_start_kinds start) (optional_kinds expr_kinds c) (begun_fewer start) (if_fewer c))) (if_fewer step))))
       (stated_fewer body)
-  stated_fewer (s.Return token value) = within (strings_if value) (a_word word.Return) (optional expr_kinds value) (a_sign sign.Semicolon) (if_fewer value)
+  stated_fewer (s.Return token value) = within (strings_if value) (a_word word.Return) (optional_kinds expr_kinds value) (a_sign sign.Semicolon) (if_fewer value)
   stated_fewer x = none_fewer (statement_kinds x)
 
   entered_fewer : (xs : EntryList) → Fewer (strings_entered xs) (entry_kinds xs)
@@ -194,7 +194,7 @@ body_fewer (Some entries) =
 item_fewer : (x : ItemTree) → Fewer (strings_of_item x) (item_kinds x)
 item_fewer (item.Struct token tag members) = none_fewer (item_kinds (item.Struct token tag members))
 item_fewer (item.Function token b stars name ps body) =
-    before (strings_of_body body) (type_kinds b stars ++ a_name name ++ parenthesized (params_kinds ps)) (body_kinds body) (body_fewer body)
+    before (strings_of_body body) (type_kinds b stars ++ a_name name ++ parenthesized_kinds (params_kinds ps)) (body_kinds body) (body_fewer body)
 item_fewer (item.Declaration d) = declaration_fewer d
 
 items_fewer : (xs : List ItemTree) → Fewer (flat_map strings_of_item xs) (flat_map item_kinds xs)
@@ -210,5 +210,5 @@ each_short n [] h = tt
 each_short n (x ∷ xs) h = (omega (arith, h), each_short n xs (omega (arith, h)))
 
 -- No string of a tree has more bytes than all its tokens have.
-pub strings_short : (t : SourceTree) (n : ℕ) → sum_by kind_text_len (tree_kinds t) ≤ n → AllByRecursion (λ s. length s.bytes ≤ n) (literals t)
-strings_short t n h = each_short n (literals t) (omega (arith, h, items_fewer t.items, heavy_is (tree_kinds t)))
+pub strings_short : (t : SourceTree) (n : ℕ) → sum_by kind_text_len (tree_kinds t) ≤ n → AllByRecursion (λ s. length s.bytes ≤ n) (string_literals t)
+strings_short t n h = each_short n (string_literals t) (omega (arith, h, items_fewer t.items, heavy_is (tree_kinds t)))

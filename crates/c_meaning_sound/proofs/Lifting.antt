@@ -8,7 +8,7 @@ use Rattle.c_syntax.specs.declared.token.Sign.TheVariants as sign
 use Rattle.c_syntax.specs.declared.expr.PrefixOperator.{PrefixOperator}
 use Rattle.c_syntax.specs.declared.expr.PrefixOperator.TheVariants as prefix
 use Rattle.c_syntax.specs.Words.{SourceTree, ExprTree, ExprList, LinkList, PostfixList, ExprAt, ExprsAt, LinksAt, PostfixAt, a_name, a_sign, expr_kinds}
-use Rattle.c_syntax.specs.Words.{exprs_kinds, link_kinds, more_exprs_kinds, parenthesized, postfix_kinds, prefix_kinds, type_kinds}
+use Rattle.c_syntax.specs.Words.{exprs_kinds, link_kinds, more_exprs_kinds, parenthesized_kinds, postfix_kinds, prefix_kinds, type_kinds}
 use Rattle.c_syntax.specs.ExprTree as e
 use Rattle.c_types_rules.specs.declared.library.Library.TheVariants as library
 use Rattle.c_types_expressions.specs.declared.walk.Walk.{Walk}
@@ -19,7 +19,7 @@ use Rattle.flow.specs.declared.site.Slot.{Slot}
 use Rattle.c_meaning.specs.declared.value_type.Called.{Called}
 use Rattle.c_meaning.specs.declared.value_type.Called.TheVariants as called
 use Rattle.c_meaning.specs.declared.value_type.ValueType.{ValueType}
-use Rattle.c_meaning.specs.Words.{Signature, Sites, facts_of, assignment, called_as, type_of}
+use Rattle.c_meaning.specs.Words.{Signature, Sites, facts_of, assignment_of_sign, called_as, type_of}
 use Rattle.c_meaning_laws.specs.Rules.{IsScalar}
 use Rattle.c_meaning_laws.specs.Typed.{CallsFunction, PairsFit, Steps, Typed, TypedArguments, TypedCall, TypedLast, TypedLinks, TypedLone, TypedPostfix, variable_named}
 use Rattle.c_meaning_sound.proofs.Covering.{Covers, Has, Shows, assigns_scalar, has_either, has_first, has_second, has_slot, has_within, narrow, pairs_none}
@@ -28,7 +28,7 @@ use Rattle.c_meaning_sound.proofs.Parting.{infix_long}
 use Rattle.c_meaning_sound.proofs.Noting.{facts, none}
 use Rattle.sites.specs.declared.spots.Spot.{Spot}
 use Rattle.sites.specs.declared.spots.Spot.TheVariants as spot
-use Rattle.sites.specs.Spots.{branched, changed, expr_spots, exprs_spots, joined_spots, joining, links_spots, named_token, postfix_spots}
+use Rattle.sites.specs.Spots.{branch_spots, change_spots, expr_spots, exprs_spots, joined_spots, branch_of_sign, links_spots, named_token, postfix_spots}
 use Rattle.sites.proofs.Rises.{Rises, join, len3, len4, len5, paren-length, rises-branch, rises-changed, rises-expr, rises-exprs}
 
 -- each expression of a list ends there
@@ -51,12 +51,12 @@ exprs_end at hi (e.more_exprs x rest) h =
     (omega (arith, h, long), more_end (at + length (expr_kinds x)) hi rest (omega (arith, h, long)))
 
 -- `&&` and `||` give nothing a new value
-branched_none : (P : ℕ → Type 0) (token own : ℕ) (word : Option BranchWord) → Has P token (branched own word) → ⊥
+branched_none : (P : ℕ → Type 0) (token own : ℕ) (word : Option BranchWord) → Has P token (branch_spots own word) → ⊥
 branched_none P token own None h = h
 branched_none P token own (Some word) h = h
 
 joined_none : (P : ℕ → Type 0) (token own : ℕ) (o : Sign) → Has P token (joined_spots own o) → ⊥
-joined_none P token own o h = branched_none P token own (joining o) h
+joined_none P token own o h = branched_none P token own (branch_of_sign o) h
 
 rises_links : (at : ℕ) (links : LinkList) → LinksAt at links → Rises at (at + length (link_kinds links)) (links_spots links)
 rises_links at links p = rises-expr at (e.Chain 0 (e.Strings at []) links) (refl, subst (λ n. LinksAt n links) (omega arith) p)
@@ -111,7 +111,7 @@ module _ (tree : SourceTree) (z : Walk) (s : Sites) (c : ℕ) where
 
   -- what may stand at the new values of a named variable, if one is named
   abbrev Fits : Option Slot → Option ℕ → Option ValueType → Type 0
-  Fits v target of = (token : ℕ) (ns : List ℕ) → IsScalar of → AllByRecursion (λ n. Has (λ q. Shows tree z s q n) token (changed token target)) ns
+  Fits v target of = (token : ℕ) (ns : List ℕ) → IsScalar of → AllByRecursion (λ n. Has (λ q. Shows tree z s q n) token (change_spots token target)) ns
       → PairsFit s v of ns
 
   none_fits : (of : Option ValueType) → Fits None None of
@@ -125,10 +125,10 @@ module _ (tree : SourceTree) (z : Walk) (s : Sites) (c : ℕ) where
       (omega arith) (omega (arith, length-append (prefix_kinds o) (expr_kinds x))) (λ P q l h w. f P q w)
 
   behind_step : (token : ℕ) (x : ExprTree) (at hi : ℕ) → token ≡ at → at + 1 + length (expr_kinds x) ≤ hi
-      → Covers tree z s at hi (changed token (named_token x) ++ expr_spots x) → Covers tree z s (at + 1) (at + 1 + length (expr_kinds x)) (expr_spots x)
-  behind_step token x at hi p l k = narrow tree z s at hi (at + 1) (at + 1 + length (expr_kinds x)) (changed token (named_token x) ++ expr_spots x) (expr_spots x) k
+      → Covers tree z s at hi (change_spots token (named_token x) ++ expr_spots x) → Covers tree z s (at + 1) (at + 1 + length (expr_kinds x)) (expr_spots x)
+  behind_step token x at hi p l k = narrow tree z s at hi (at + 1) (at + 1 + length (expr_kinds x)) (change_spots token (named_token x) ++ expr_spots x) (expr_spots x) k
       (omega arith) l
-      (λ P q a b w. has_second P q token (token + 1) (changed token (named_token x)) (expr_spots x) (rises-changed token (named_token x)) (omega (arith, a, p)) w)
+      (λ P q a b w. has_second P q token (token + 1) (change_spots token (named_token x)) (expr_spots x) (rises-changed token (named_token x)) (omega (arith, a, p)) w)
 
   mutual
     pub lift : (x : ExprTree) (at : ℕ) → ExprAt at x → Covers tree z s at (at + length (expr_kinds x)) (expr_spots x) → Had x → Lifted x
@@ -140,7 +140,7 @@ module _ (tree : SourceTree) (z : Walk) (s : Sites) (c : ℕ) where
         let lv : ℕ = length (expr_kinds value) in
         let long : length (expr_kinds (e.Assign token o target value)) ≡ lt + 1 + lv = infix_long (expr_kinds target) (expr_kinds value) o in
         let a : List Spot = expr_spots target in
-        let m : List Spot = changed token (named_token target) in
+        let m : List Spot = change_spots token (named_token target) in
         let b : List Spot = expr_spots value in
         let ra : Rises at (at + lt) a = rises-expr at target p.1 in
         let rm : Rises token (token + 1) m = rises-changed token (named_token target) in
@@ -155,7 +155,7 @@ module _ (tree : SourceTree) (z : Walk) (s : Sites) (c : ℕ) where
           h.2,
           h.3,
           h.4,
-          target_fits tree z s c target token (s.pairs_at token) h.0 (assigns_scalar tree z s c (assignment o) (type_of (facts tree z) target) value h.3)
+          target_fits tree z s c target token (s.pairs_at token) h.0 (assigns_scalar tree z s c (assignment_of_sign o) (type_of (facts tree z) target) value h.3)
               (here at hi token (a ++ m ++ b) m k (omega (arith, p.0)) (omega (arith, p.0, long))
               (λ P w. has_second P token at (at + lt) a m ra (omega (arith, p.0))
               (has_first P token (token + 1) (token + 1 + lv) (a ++ m) b rb (omega arith) w))),
@@ -203,8 +203,8 @@ module _ (tree : SourceTree) (z : Walk) (s : Sites) (c : ℕ) where
         )
     lift (e.Cast token b stars operand) at p k h =
         let from : ℕ = at + 1 + length (type_kinds b stars) + 1 in
-        let long : length (expr_kinds (e.Cast token b stars operand)) ≡ length (parenthesized (type_kinds b stars)) + length (expr_kinds operand) =
-        length-append (parenthesized (type_kinds b stars)) (expr_kinds operand) in (
+        let long : length (expr_kinds (e.Cast token b stars operand)) ≡ length (parenthesized_kinds (type_kinds b stars)) + length (expr_kinds operand) =
+        length-append (parenthesized_kinds (type_kinds b stars)) (expr_kinds operand) in (
           lift operand from p.2 (narrow tree z s at (at + length (expr_kinds (e.Cast token b stars operand))) from (from + length (expr_kinds operand))
               (expr_spots operand)
               (expr_spots operand) k (omega arith) (omega (arith, long, paren-length (type_kinds b stars))) (λ P q x y w. w)) h.0,
@@ -212,7 +212,7 @@ module _ (tree : SourceTree) (z : Walk) (s : Sites) (c : ℕ) where
         )
     lift (e.Prefix token prefix.Increment x) at p k h =
         let r : Rises (at + 1) (at + 1 + length (expr_kinds x)) (expr_spots x) = rises-expr (at + 1) x p.1 in
-        let m : List Spot = changed token (named_token x) in
+        let m : List Spot = change_spots token (named_token x) in
         let hi : ℕ = at + length (expr_kinds (e.Prefix token prefix.Increment x)) in
         let long : length (expr_kinds (e.Prefix token prefix.Increment x)) ≡ 1 + length (expr_kinds x) = length-append (prefix_kinds prefix.Increment)
         (expr_kinds x) in (
@@ -227,7 +227,7 @@ module _ (tree : SourceTree) (z : Walk) (s : Sites) (c : ℕ) where
         )
     lift (e.Prefix token prefix.Decrement x) at p k h =
         let r : Rises (at + 1) (at + 1 + length (expr_kinds x)) (expr_spots x) = rises-expr (at + 1) x p.1 in
-        let m : List Spot = changed token (named_token x) in
+        let m : List Spot = change_spots token (named_token x) in
         let hi : ℕ = at + length (expr_kinds (e.Prefix token prefix.Decrement x)) in
         let long : length (expr_kinds (e.Prefix token prefix.Decrement x)) ≡ 1 + length (expr_kinds x) = length-append (prefix_kinds prefix.Decrement)
         (expr_kinds x) in (
@@ -277,8 +277,8 @@ module _ (tree : SourceTree) (z : Walk) (s : Sites) (c : ℕ) where
         )
     lift (e.Name token name) at p k h = (h.0, has_slot tree z s c (type_at z token) (declared_at z token) _ h.1)
     lift (e.Call token name arguments) at p k h =
-        let long : length (expr_kinds (e.Call token name arguments)) ≡ 1 + length (parenthesized (exprs_kinds arguments)) =
-        length-append (a_name name) (parenthesized (exprs_kinds arguments)) in
+        let long : length (expr_kinds (e.Call token name arguments)) ≡ 1 + length (parenthesized_kinds (exprs_kinds arguments)) =
+        length-append (a_name name) (parenthesized_kinds (exprs_kinds arguments)) in
         let inner : Covers tree z s (at + 2) (at + 2 + length (exprs_kinds arguments)) (exprs_spots arguments) =
         narrow tree z s at (at + length (expr_kinds (e.Call token name arguments))) (at + 2) (at + 2 + length (exprs_kinds arguments)) (exprs_spots arguments)
         (exprs_spots arguments) k (omega arith) (omega (arith, long, paren-length (exprs_kinds arguments))) (λ P q x y w. w) in
@@ -395,13 +395,13 @@ module _ (tree : SourceTree) (z : Walk) (s : Sites) (c : ℕ) where
         (postfix_kinds rest) in (
           h.0,
           steps_lift true token u v of
-              (λ q. f token (s.pairs_at token) q (here at hi token (changed token target ++ postfix_spots None rest) (changed token target) k
-              (omega (arith, p.0)) (omega (arith, p.0, long)) (λ P w. has_first P token (at + 1) (at + 1 + length (postfix_kinds rest)) (changed token target)
+              (λ q. f token (s.pairs_at token) q (here at hi token (change_spots token target ++ postfix_spots None rest) (change_spots token target) k
+              (omega (arith, p.0)) (omega (arith, p.0, long)) (λ P w. has_first P token (at + 1) (at + 1 + length (postfix_kinds rest)) (change_spots token target)
               (postfix_spots None rest) (rises_postfix (at + 1) rest p.1) (omega (arith, p.0)) w))) h.1,
           lift_postfix rest (at + 1) false None None None _ p.1
-              (narrow tree z s at hi (at + 1) (at + 1 + length (postfix_kinds rest)) (changed token target ++ postfix_spots None rest)
+              (narrow tree z s at hi (at + 1) (at + 1 + length (postfix_kinds rest)) (change_spots token target ++ postfix_spots None rest)
               (postfix_spots None rest) k (omega arith)
-              (omega (arith, long)) (λ P q x y w. has_second P q token (token + 1) (changed token target) (postfix_spots None rest) (rises-changed token target)
+              (omega (arith, long)) (λ P q x y w. has_second P q token (token + 1) (change_spots token target) (postfix_spots None rest) (rises-changed token target)
               (omega (arith, x, p.0)) w)) (none_fits _) h.2,
         )
     lift_postfix (e.decrement token rest) at known u v target of p k f h =
@@ -410,12 +410,12 @@ module _ (tree : SourceTree) (z : Walk) (s : Sites) (c : ℕ) where
         (postfix_kinds rest) in (
           h.0,
           steps_lift false token u v of
-              (λ q. f token (s.pairs_at token) q (here at hi token (changed token target ++ postfix_spots None rest) (changed token target) k
-              (omega (arith, p.0)) (omega (arith, p.0, long)) (λ P w. has_first P token (at + 1) (at + 1 + length (postfix_kinds rest)) (changed token target)
+              (λ q. f token (s.pairs_at token) q (here at hi token (change_spots token target ++ postfix_spots None rest) (change_spots token target) k
+              (omega (arith, p.0)) (omega (arith, p.0, long)) (λ P w. has_first P token (at + 1) (at + 1 + length (postfix_kinds rest)) (change_spots token target)
               (postfix_spots None rest) (rises_postfix (at + 1) rest p.1) (omega (arith, p.0)) w))) h.1,
           lift_postfix rest (at + 1) false None None None _ p.1
-              (narrow tree z s at hi (at + 1) (at + 1 + length (postfix_kinds rest)) (changed token target ++ postfix_spots None rest)
+              (narrow tree z s at hi (at + 1) (at + 1 + length (postfix_kinds rest)) (change_spots token target ++ postfix_spots None rest)
               (postfix_spots None rest) k (omega arith)
-              (omega (arith, long)) (λ P q x y w. has_second P q token (token + 1) (changed token target) (postfix_spots None rest) (rises-changed token target)
+              (omega (arith, long)) (λ P q x y w. has_second P q token (token + 1) (change_spots token target) (postfix_spots None rest) (rises-changed token target)
               (omega (arith, x, p.0)) w)) (none_fits _) h.2,
         )

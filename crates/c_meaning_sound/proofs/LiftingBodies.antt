@@ -3,7 +3,7 @@ use Rattle.std.proofs.Common.{inl, inr, ⊎_elim, ◌≡◌, ℕ, ◌≤◌, ref
 use Rattle.std.proofs.Common.{length-append}
 use Rattle.std.specs.Prelude.{Option, ◌-◌, IfSome}
 use Rattle.std.specs.List.{AllByRecursion}
-use Rattle.std.proofs.lemmas.List.{append-nil, length-replicate}
+use Rattle.std.proofs.lemmas.List.{append-nil}
 use Rattle.c_syntax.specs.declared.token.Sign.TheVariants as sign
 use Rattle.c_syntax.specs.declared.token.TokenKind.TheVariants as kind
 use Rattle.c_syntax.specs.declared.token.Word.TheVariants as word
@@ -12,17 +12,15 @@ use Rattle.c_syntax.specs.declared.parts.Base.TheVariants as base
 use Rattle.c_syntax.specs.declared.parts.Declarator.{Declarator}
 use Rattle.c_syntax.specs.Words.{SourceTree, ExprTree, ExprList, InitialTree, StartTree, DeclarationTree, ForStartTree, StatementTree, EntryList, DeclarationAt}
 use Rattle.c_syntax.specs.Words.{EachAt, EntriesAt, ExprAt, ExprsAt, ForStartAt, InitialAt, StartAt, StatementAt, Kinds, a_name, a_sign, a_word, after_commas}
-use Rattle.c_syntax.specs.Words.{base_kinds, bound_kinds, braced, comma_kinds, declaration_kinds, declarator_kinds, entry_kinds, expr_kinds, exprs_kinds}
-use Rattle.c_syntax.specs.Words.{for_start_kinds, initial_kinds, optional, parenthesized, star_kinds, start_kinds, statement_kinds, with_commas}
+use Rattle.c_syntax.specs.Words.{base_kinds, braced_kinds, comma_kinds, declaration_kinds, declarator_kinds, entry_kinds, expr_kinds, exprs_kinds}
+use Rattle.c_syntax.specs.Words.{for_start_kinds, initial_kinds, optional_kinds, parenthesized_kinds, start_kinds, statement_kinds, with_commas}
 use Rattle.c_syntax.specs.ExprTree as e
 use Rattle.c_syntax.specs.StatementTree as t
-use Rattle.std.specs.List.{flat_map}
 use Rattle.base_lists.proofs.Every.{all_so}
 use Rattle.c_types_rules.specs.declared.library.Library.TheVariants as library
 use Rattle.c_types_expressions.specs.declared.walk.Walk.{Walk}
 use Rattle.c_types.specs.Answers.{declared_at, type_at}
 use Rattle.flow.specs.declared.program.Text.{Text}
-use Rattle.flow.specs.declared.site.BranchWord.{BranchWord}
 use Rattle.flow.specs.declared.site.BranchWord.TheVariants.{If, While, Do, For}
 use Rattle.c_meaning.specs.declared.value_type.Called.{Called}
 use Rattle.c_meaning.specs.declared.value_type.Called.TheVariants as called
@@ -40,7 +38,7 @@ use Rattle.sites.specs.declared.spots.Spot.TheVariants as spot
 use Rattle.sites.specs.Spots.{expr_spots, exprs_spots, part_spots}
 use Rattle.sites.specs.Bodies.{declaration_spots, entries_spots, for_spots, for_start_spots, initial_spots, start_spots, starts_spots, statement_spots}
 use Rattle.sites.proofs.Rises.{Rises, join, len3, len4, len5, paren-length, rises-branch, rises-expr, rises-part, wider}
-use Rattle.sites.proofs.RisesBodies.{brace-length, rises-entries, declarator-length, rises-declaration, rises-for_start}
+use Rattle.sites.proofs.RisesBodies.{brace-length, led, rises-entries, declarator-length, rises-declaration, rises-for_start}
 
 rises_statement : (at : ℕ) (x : StatementTree) → StatementAt at x → Rises at (at + length (statement_kinds x)) (statement_spots x)
 rises_statement at x p = subst (λ ks. Rises at (at + length ks) (statement_spots x)) (append-nil (statement_kinds x))
@@ -83,12 +81,12 @@ starts_end at hi (x ∷ xs) h =
     (omega (arith, h, long), more_starts (at + length (start_kinds x)) hi xs (omega (arith, h, long)))
 
 module _ (tree : SourceTree) (z : Walk) (s : Sites) (c : ℕ) where
-  lift_part : (x : Option ExprTree) (at : ℕ) → IfSome x (ExprAt at) → Covers tree z s at (at + length (optional expr_kinds x)) (part_spots x)
+  lift_part : (x : Option ExprTree) (at : ℕ) → IfSome x (ExprAt at) → Covers tree z s at (at + length (optional_kinds expr_kinds x)) (part_spots x)
       → TypedPart (facts tree z) none c x → TypedPart (facts_of tree z) s c x
   lift_part None at p k h = h
   lift_part (Some x) at p k h = lift tree z s c x at p k h
 
-  lift_test : (x : Option ExprTree) (at : ℕ) → IfSome x (ExprAt at) → Covers tree z s at (at + length (optional expr_kinds x)) (part_spots x)
+  lift_test : (x : Option ExprTree) (at : ℕ) → IfSome x (ExprAt at) → Covers tree z s at (at + length (optional_kinds expr_kinds x)) (part_spots x)
       → TypedTest (facts tree z) none c x → TypedTest (facts_of tree z) s c x
   lift_test None at p k h = h
   lift_test (Some x) at p k h = (lift tree z s c x at p k h.0, h.1)
@@ -116,7 +114,7 @@ module _ (tree : SourceTree) (z : Walk) (s : Sites) (c : ℕ) where
       (at + 2 + length (exprs_kinds arguments)) p.1 (exprs_end (at + 2) (at + 2 + length (exprs_kinds arguments)) arguments (omega arith))
       (narrow tree z s at (at + length (expr_kinds (e.Call token name arguments))) (at + 2) (at + 2 + length (exprs_kinds arguments)) (exprs_spots arguments)
       (exprs_spots arguments) k (omega arith)
-      (omega (arith, length-append (a_name name) (parenthesized (exprs_kinds arguments)), paren-length (exprs_kinds arguments))) (λ P q x y w. w)) h
+      (omega (arith, length-append (a_name name) (parenthesized_kinds (exprs_kinds arguments)), paren-length (exprs_kinds arguments))) (λ P q x y w. w)) h
   print_lift x at p k h = absurd h
 
   lift_whole : (x : ExprTree) (at : ℕ) → ExprAt at x → Covers tree z s at (at + length (expr_kinds x)) (expr_spots x) → TypedWhole (facts tree z) none c x
@@ -140,7 +138,7 @@ module _ (tree : SourceTree) (z : Walk) (s : Sites) (c : ℕ) where
   value_lift name from x o p k q h = (lift tree z s c x from p k h.0, h.1, pairs_named tree z s name (name + 1) (name + 1) _ (s.pairs_at (name + 1)) (declared_number tree z s name) q)
 
   lift_initial : (d : Declarator) (o : Option InitialTree) (at : ℕ) → d.name_token ≡ at + d.stars → IfSome o (InitialAt (at + length (declarator_kinds d) + 1))
-      → Covers tree z s at (at + length (declarator_kinds d ++ optional (λ y. a_sign sign.Equal ++ initial_kinds y) o)) (initial_spots d.name_token o)
+      → Covers tree z s at (at + length (declarator_kinds d ++ optional_kinds (λ y. a_sign sign.Equal ++ initial_kinds y) o)) (initial_spots d.name_token o)
       → TypedInitial (facts tree z) none c d.name_token o → TypedInitial (facts_of tree z) s c d.name_token o
   lift_initial d None at n p k h = h
   lift_initial d (Some (t.Value value)) at n p k h =
@@ -163,13 +161,13 @@ module _ (tree : SourceTree) (z : Walk) (s : Sites) (c : ℕ) where
   lift_initial d (Some (t.Braced token items comma)) at n p k h =
       let from : ℕ = at + length (declarator_kinds d) + 1 + 1 in
       let inner : Kinds = exprs_kinds items ++ comma_kinds comma in
-      let hi : ℕ = at + length (declarator_kinds d ++ (a_sign sign.Equal ++ braced inner)) in
-      let long : length (declarator_kinds d ++ (a_sign sign.Equal ++ braced inner)) ≡ length (declarator_kinds d) + 1 +
+      let hi : ℕ = at + length (declarator_kinds d ++ (a_sign sign.Equal ++ braced_kinds inner)) in
+      let long : length (declarator_kinds d ++ (a_sign sign.Equal ++ braced_kinds inner)) ≡ length (declarator_kinds d) + 1 +
       (length (exprs_kinds items) + length (comma_kinds comma)) + 2 =
       omega (
         arith,
-        length-append (declarator_kinds d) (a_sign sign.Equal ++ braced inner),
-        length-append (a_sign sign.Equal) (braced inner),
+        length-append (declarator_kinds d) (a_sign sign.Equal ++ braced_kinds inner),
+        length-append (a_sign sign.Equal) (braced_kinds inner),
         brace-length inner,
         length-append (exprs_kinds items) (comma_kinds comma),
       ) in (
@@ -219,8 +217,8 @@ module _ (tree : SourceTree) (z : Walk) (s : Sites) (c : ℕ) where
       → TypedBeginning (facts tree z) none c x → TypedBeginning (facts_of tree z) s c x
   lift_beginning (t.Declares d) at p k h = lift_declaration d at p k h
   lift_beginning (t.Computes x) at p k h = lift_part x at p
-      (narrow tree z s at (at + length (for_start_kinds (t.Computes x))) at (at + length (optional expr_kinds x))
-      (part_spots x) (part_spots x) k (omega arith) (omega (arith, length-append (optional expr_kinds x) (a_sign sign.Semicolon))) (λ P q a b w. w)) h
+      (narrow tree z s at (at + length (for_start_kinds (t.Computes x))) at (at + length (optional_kinds expr_kinds x))
+      (part_spots x) (part_spots x) k (omega arith) (omega (arith, length-append (optional_kinds expr_kinds x) (a_sign sign.Semicolon))) (λ P q a b w. w)) h
 
   -- of two parts one after another
   covers_first : (lo hi l h a b : ℕ) (xs ys : List Spot) → Covers tree z s lo hi (xs ++ ys) → lo ≤ l → h ≤ hi → h ≤ a → Rises a b ys → Covers tree z s l h xs
@@ -233,9 +231,6 @@ module _ (tree : SourceTree) (z : Walk) (s : Sites) (c : ℕ) where
 
   covers_within : (lo hi l h : ℕ) (xs : List Spot) → Covers tree z s lo hi xs → lo ≤ l → h ≤ hi → Covers tree z s l h xs
   covers_within lo hi l h xs k p q = narrow tree z s lo hi l h xs xs k p q (λ P token x y w. w)
-
-  led : (token a b : ℕ) (w : BranchWord) (xs : List Spot) → token + 1 ≤ a → Rises a b xs → Rises token b (spot.Branch token w ∷ xs)
-  led token a b w xs m r = join token (token + 1) a b (spot.Branch token w ∷ []) xs m (rises-branch token w) r
 
   for_rises : (token : ℕ) (condition : Option ExprTree) → Rises token (token + 1) (for_spots token condition)
   for_rises token None = omega arith
@@ -261,7 +256,7 @@ module _ (tree : SourceTree) (z : Walk) (s : Sites) (c : ℕ) where
           let hi : ℕ = at + length (statement_kinds (t.If token condition first)) in
           let long : length (statement_kinds (t.If token condition first)) ≡ 1 + (lc + 2) + lf = omega (
             arith,
-            len3 (a_word word.If) (parenthesized (expr_kinds condition)) (statement_kinds first),
+            len3 (a_word word.If) (parenthesized_kinds (expr_kinds condition)) (statement_kinds first),
             paren-length (expr_kinds condition),
           ) in
           let a : List Spot = spot.Branch token If ∷ expr_spots condition in
@@ -286,7 +281,7 @@ module _ (tree : SourceTree) (z : Walk) (s : Sites) (c : ℕ) where
           let hi : ℕ = at + length (statement_kinds (t.IfElse token condition first second)) in
           let long : length (statement_kinds (t.IfElse token condition first second)) ≡ 1 + (lc + 2) + lf + 1 + ls = omega (
             arith,
-            len5 (a_word word.If) (parenthesized (expr_kinds condition)) (statement_kinds first) (a_word word.Else) (statement_kinds second),
+            len5 (a_word word.If) (parenthesized_kinds (expr_kinds condition)) (statement_kinds first) (a_word word.Else) (statement_kinds second),
             paren-length (expr_kinds condition),
           ) in
           let a : List Spot = spot.Branch token If ∷ expr_spots condition in
@@ -316,7 +311,7 @@ module _ (tree : SourceTree) (z : Walk) (s : Sites) (c : ℕ) where
           let hi : ℕ = at + length (statement_kinds (t.While token condition first)) in
           let long : length (statement_kinds (t.While token condition first)) ≡ 1 + (lc + 2) + lf = omega (
             arith,
-            len3 (a_word word.While) (parenthesized (expr_kinds condition)) (statement_kinds first),
+            len3 (a_word word.While) (parenthesized_kinds (expr_kinds condition)) (statement_kinds first),
             paren-length (expr_kinds condition),
           ) in
           let a : List Spot = spot.Branch token While ∷ expr_spots condition in
@@ -339,7 +334,7 @@ module _ (tree : SourceTree) (z : Walk) (s : Sites) (c : ℕ) where
           let hi : ℕ = at + length (statement_kinds (t.Do token first condition)) in
           let long : length (statement_kinds (t.Do token first condition)) ≡ 1 + lf + 1 + (lc + 2) + 1 = omega (
             arith,
-            len5 (a_word word.Do) (statement_kinds first) (a_word word.While) (parenthesized (expr_kinds condition)) (a_sign sign.Semicolon),
+            len5 (a_word word.Do) (statement_kinds first) (a_word word.While) (parenthesized_kinds (expr_kinds condition)) (a_sign sign.Semicolon),
             paren-length (expr_kinds condition),
           ) in
           let a : List Spot = spot.Branch token Do ∷ statement_spots first in
@@ -357,8 +352,8 @@ module _ (tree : SourceTree) (z : Walk) (s : Sites) (c : ℕ) where
           )
       lift_statement (t.For token start condition step first) looping at p k h =
           let ks : Kinds = for_start_kinds start in
-          let kc : Kinds = optional expr_kinds condition in
-          let kt : Kinds = optional expr_kinds step in
+          let kc : Kinds = optional_kinds expr_kinds condition in
+          let kt : Kinds = optional_kinds expr_kinds step in
           let second : ℕ = at + 2 + length ks in
           let third : ℕ = second + length kc + 1 in
           let from : ℕ = third + length kt + 1 in
@@ -367,7 +362,7 @@ module _ (tree : SourceTree) (z : Walk) (s : Sites) (c : ℕ) where
           let long : length (statement_kinds (t.For token start condition step first)) ≡ 1 + (length ks + length kc + 1 + length kt + 2) + lf = omega (
             arith,
             len4 ks kc (a_sign sign.Semicolon) kt,
-            len3 (a_word word.For) (parenthesized (ks ++ kc ++ a_sign sign.Semicolon ++ kt)) (statement_kinds first),
+            len3 (a_word word.For) (parenthesized_kinds (ks ++ kc ++ a_sign sign.Semicolon ++ kt)) (statement_kinds first),
             paren-length (ks ++ kc ++ a_sign sign.Semicolon ++ kt),
           ) in
           let f : List Spot = for_spots token condition in

@@ -1,15 +1,13 @@
 -- What a part of a function leaves of the names in scope, and where the scopes of the variables end that it declares.
 use Rattle.std.proofs.Common.{◌⊎◌, inl, inr, ◌≡◌, ℕ, zero, suc, ◌≤◌, ◌<◌, refl, ap, subst, sym, ◌∙◌, arith, List, [], ◌∷◌, ◌++◌, Some, None, ◌+◌, length}
 use Rattle.std.proofs.Common.{length-append}
-use Rattle.std.specs.Prelude.{Option, nat_lt, max, slice_get, slice_set, if◌then◌else◌, Bool, true, false}
+use Rattle.std.specs.Prelude.{Option, max, slice_get, if◌then◌else◌, true, false}
 use Rattle.std.proofs.lemmas.Bool.{cases_lt}
-use Rattle.std.proofs.lemmas.Bool.Decides.{nat_tests}
 use Rattle.std.proofs.lemmas.List.{append_assoc}
 use Rattle.std.proofs.lemmas.Option.{slice_get_within, same_Some}
 use Rattle.c_types.proofs.Replaced.{replaced_other, replaced_same}
 use Rattle.c_types.proofs.Noted.{length_replaced}
-use Rattle.base_lists.proofs.Numbers.{less_is}
-use Rattle.base_lists.proofs.Lists.{get_before, set_here, set_long, set_other}
+use Rattle.base_lists.proofs.Lists.{get_before}
 use Rattle.c_types_rules.specs.TypeTree.{TypeTree}
 use Rattle.c_types_expressions.specs.declared.names.Meaning.TheVariants as meaning
 use Rattle.c_types_expressions.specs.declared.names.ScopeEntry.{ScopeEntry}
@@ -18,7 +16,7 @@ use Rattle.c_types_expressions.specs.declared.walk.Variable.{Variable}
 use Rattle.c_types_expressions.specs.declared.walk.Variable.TheVariants as variable
 use Rattle.c_types_expressions.specs.declared.walk.VariableEntry.{VariableEntry}
 use Rattle.c_types_expressions.specs.declared.walk.Walk.{Walk}
-use Rattle.c_types_expressions.specs.Words.{closed, ended_scopes, opened, replaced, with_type, with_variable}
+use Rattle.c_types_expressions.specs.Words.{names_after_scope, ended_scopes, scope_opened, item_replaced, with_type, with_variable}
 
 -- the names declare variables alone, each with a place from one number on and below another
 abbrev pub AreNew : ℕ → ℕ → List ScopeEntry → Type 0
@@ -224,7 +222,7 @@ marks_declared token name of w = record {
     more = length-append w.variables (own_entry token name w ∷ [])
 
 -- a scope ends
-closed_new : (lo hi : ℕ) (new names : List ScopeEntry) → AreNew lo hi new → closed (new ++ Opens ∷ names) ≡ names
+closed_new : (lo hi : ℕ) (new names : List ScopeEntry) → AreNew lo hi new → names_after_scope (new ++ Opens ∷ names) ≡ names
 closed_new lo hi [] names h = refl
 closed_new lo hi (Opens ∷ rest) names h = absurd h
 closed_new lo hi (Declares name (meaning.Variable place) ∷ rest) names h = closed_new lo hi rest names h.2
@@ -238,7 +236,7 @@ ended_old : (lo hi token i : ℕ) (new names : List ScopeEntry) (ends : List (Op
 ended_old lo hi token i [] names ends h k = refl
 ended_old lo hi token i (Opens ∷ rest) names ends h k = absurd h
 ended_old lo hi token i (Declares name (meaning.Variable place) ∷ rest) names ends h k =
-    ended_old lo hi token i rest names (replaced ends place (Some token)) h.2 k
+    ended_old lo hi token i rest names (item_replaced ends place (Some token)) h.2 k
     ∙ replaced_other ends place i (Some token) (λ e. omega (arith, e, k, h.0))
 ended_old lo hi token i (Declares name (meaning.Function place) ∷ rest) names ends h k = absurd h
 ended_old lo hi token i (Declares name (meaning.Struct place) ∷ rest) names ends h k = absurd h
@@ -249,16 +247,16 @@ ended_long : (lo hi token : ℕ) (new names : List ScopeEntry) (ends : List (Opt
 ended_long lo hi token [] names ends h = refl
 ended_long lo hi token (Opens ∷ rest) names ends h = absurd h
 ended_long lo hi token (Declares name (meaning.Variable place) ∷ rest) names ends h =
-    ended_long lo hi token rest names (replaced ends place (Some token)) h.2 ∙ length_replaced ends place (Some token)
+    ended_long lo hi token rest names (item_replaced ends place (Some token)) h.2 ∙ length_replaced ends place (Some token)
 ended_long lo hi token (Declares name (meaning.Function place) ∷ rest) names ends h = absurd h
 ended_long lo hi token (Declares name (meaning.Struct place) ∷ rest) names ends h = absurd h
 ended_long lo hi token (Declares name (meaning.Library function) ∷ rest) names ends h = absurd h
 
 -- one more end, before the token
 end_more : (n place i token : ℕ) (ends : List (Option ℕ)) → token < n → i < length ends → (i ≡ place) ⊎ EndsBefore n (slice_get ends i)
-    → EndsBefore n (slice_get (replaced ends place (Some token)) i)
+    → EndsBefore n (slice_get (item_replaced ends place (Some token)) i)
 end_more n place i token ends l inside (inl e) =
-    subst (λ p. EndsBefore n (slice_get (replaced ends p (Some token)) i)) e (rw (replaced_same ends i (Some token) inside) l)
+    subst (λ p. EndsBefore n (slice_get (item_replaced ends p (Some token)) i)) e (rw (replaced_same ends i (Some token) inside) l)
 end_more n place i token ends l inside (inr h) = end_by (cases_same place i)
   where
     cases_same : (p q : ℕ) → (p ≡ q) ⊎ (p ≡ q → ⊥)
@@ -271,8 +269,8 @@ end_more n place i token ends l inside (inr h) = end_by (cases_same place i)
         next (inl e) = inl (ap suc e)
         next (inr f) = inr (λ e. f (omega (arith, e)))
 
-    end_by : (place ≡ i) ⊎ (place ≡ i → ⊥) → EndsBefore n (slice_get (replaced ends place (Some token)) i)
-    end_by (inl e) = subst (λ p. EndsBefore n (slice_get (replaced ends p (Some token)) i)) (sym e) (rw (replaced_same ends i (Some token) inside) l)
+    end_by : (place ≡ i) ⊎ (place ≡ i → ⊥) → EndsBefore n (slice_get (item_replaced ends place (Some token)) i)
+    end_by (inl e) = subst (λ p. EndsBefore n (slice_get (item_replaced ends p (Some token)) i)) (sym e) (rw (replaced_same ends i (Some token) inside) l)
     end_by (inr f) = rw (replaced_other ends place i (Some token) f) h
 
 ended_new : (lo hi n token i : ℕ) (new names : List ScopeEntry) (ends : List (Option ℕ)) → AreNew lo hi new → token < n → i < length ends
@@ -281,10 +279,10 @@ ended_new lo hi n token i [] names ends h l inside (inl e) = absurd e
 ended_new lo hi n token i [] names ends h l inside (inr e) = e
 ended_new lo hi n token i (Opens ∷ rest) names ends h l inside e = absurd h
 ended_new lo hi n token i (Declares name (meaning.Variable place) ∷ rest) names ends h l inside e =
-    ended_new lo hi n token i rest names (replaced ends place (Some token)) h.2 l (omega (arith, inside, length_replaced ends place (Some token))) (either_more e)
+    ended_new lo hi n token i rest names (item_replaced ends place (Some token)) h.2 l (omega (arith, inside, length_replaced ends place (Some token))) (either_more e)
   where
     either_more : either_end n i (Declares name (meaning.Variable place) ∷ rest) (slice_get ends i)
-        → either_end n i rest (slice_get (replaced ends place (Some token)) i)
+        → either_end n i rest (slice_get (item_replaced ends place (Some token)) i)
     either_more (inl (inl e)) = inr (end_more n place i token ends l inside (inl e))
     either_more (inl (inr e)) = inl e
     either_more (inr e) = inr (end_more n place i token ends l inside (inr e))
@@ -294,19 +292,19 @@ ended_new lo hi n token i (Declares name (meaning.Library function) ∷ rest) na
 
 -- a part less_is a scope of its own, at whose end its variables' scopes end
 abbrev pub after_scope : Walk → Walk
-after_scope v = record v { names = closed v.names; ends = ended_scopes v.latest v.names v.ends }
+after_scope v = record v { names = names_after_scope v.names; ends = ended_scopes v.latest v.names v.ends }
 
-pub scoped_ends : {lo hi : ℕ} {w v : Walk} → Marks lo hi (opened w) v → length w.ends ≡ length w.variables → (n : ℕ) → hi ≤ n → w.latest < n → (i : ℕ)
+pub scoped_ends : {lo hi : ℕ} {w v : Walk} → Marks lo hi (scope_opened w) v → length w.ends ≡ length w.variables → (n : ℕ) → hi ≤ n → w.latest < n → (i : ℕ)
     → length w.variables ≤ i → i < length v.variables → EndsBefore n (slice_get (after_scope v).ends i)
 scoped_ends {w = w} {v = v} m h n p q i low high = subst (λ ns. EndsBefore n (slice_get (ended_scopes v.latest ns v.ends) i)) (sym m.names)
     (ended_new (length w.variables) (length v.variables) n v.latest i m.new w.names v.ends m.own (m.latest n p q) (omega (arith, high, m.long h))
     (m.ends h n p q i low high))
 
-pub marks_scoped : {lo hi : ℕ} {w v : Walk} → Marks lo hi (opened w) v → Marks lo hi w (after_scope v)
+pub marks_scoped : {lo hi : ℕ} {w v : Walk} → Marks lo hi (scope_opened w) v → Marks lo hi w (after_scope v)
 marks_scoped {lo = lo} {hi = hi} {w = w} {v = v} m = record {
   latest = m.latest;
   new = [];
-  names = ap closed m.names ∙ closed_new (length w.variables) (length v.variables) m.new w.names m.own;
+  names = ap names_after_scope m.names ∙ closed_new (length w.variables) (length v.variables) m.new w.names m.own;
   own = tt;
   more = m.more;
   locals = m.locals;

@@ -15,8 +15,8 @@ use Rattle.c_syntax.specs.declared.parts.Params.TheVariants as params
 use Rattle.c_syntax.specs.ExprTree as e
 use Rattle.c_syntax.specs.Words.{ExprTree, ExprList, LinkList, PostfixList, InitialTree, StartTree, DeclarationTree, ForStartTree, StatementTree, EntryList}
 use Rattle.c_syntax.specs.Words.{ItemTree, SourceTree, Kinds, a_name, a_sign, a_word, after_commas, base_kinds, body_kinds, bound_kinds, declaration_kinds}
-use Rattle.c_syntax.specs.Words.{declarator_kinds, entry_kinds, expr_kinds, for_start_kinds, initial_kinds, item_kinds, optional, param_kinds, param_name_kinds}
-use Rattle.c_syntax.specs.Words.{params_kinds, parenthesized, star_kinds, start_kinds, statement_kinds, tree_kinds, type_kinds, with_commas}
+use Rattle.c_syntax.specs.Words.{declarator_kinds, entry_kinds, expr_kinds, for_start_kinds, initial_kinds, item_kinds, optional_kinds, param_kinds, param_name_kinds}
+use Rattle.c_syntax.specs.Words.{params_kinds, parenthesized_kinds, star_kinds, start_kinds, statement_kinds, tree_kinds, type_kinds, with_commas}
 use Rattle.c_syntax.specs.StatementTree as s
 use Rattle.c_syntax.specs.ItemTree as item
 use Rattle.c_types_expressions.specs.declared.walk.VariableEntry.{VariableEntry}
@@ -91,12 +91,12 @@ declarator_named d n = (in_middle (star_kinds d.stars) (a_name d.name) (flat_map
 starts_named : (global : Bool) (xs : List StartTree) → AllByRecursion IsSitedToken (with_commas start_kinds xs) → Named (starts_parts global xs)
 starts_named global [] n = tt
 starts_named global (x ∷ []) n = (
-  declarator_named x.declarator (all_first IsSitedToken (declarator_kinds x.declarator) (optional (λ y. a_sign sign.Equal ++ initial_kinds y) x.initial)
+  declarator_named x.declarator (all_first IsSitedToken (declarator_kinds x.declarator) (optional_kinds (λ y. a_sign sign.Equal ++ initial_kinds y) x.initial)
       (all_first IsSitedToken (start_kinds x) [] n)),
   both_named (initial_parts x.initial) [] (initial_named x.initial) tt,
 )
 starts_named global (x ∷ y ∷ ys) n = (
-  declarator_named x.declarator (all_first IsSitedToken (declarator_kinds x.declarator) (optional (λ y. a_sign sign.Equal ++ initial_kinds y) x.initial)
+  declarator_named x.declarator (all_first IsSitedToken (declarator_kinds x.declarator) (optional_kinds (λ y. a_sign sign.Equal ++ initial_kinds y) x.initial)
       (all_first IsSitedToken (start_kinds x) (after_commas start_kinds (y ∷ ys)) n)),
   both_named (initial_parts x.initial) (starts_parts global (y ∷ ys)) (initial_named x.initial)
       (starts_named global (y ∷ ys) (all_second IsSitedToken (start_kinds x) (after_commas start_kinds (y ∷ ys)) n).1),
@@ -115,32 +115,32 @@ mutual
   statement_named (s.Expr token x) n = expr_named x
   statement_named (s.If token condition first) n =
       both_named (expr_parts condition) (statement_parts first) (expr_named condition)
-      (statement_named first (all_second IsSitedToken (parenthesized (expr_kinds condition)) (statement_kinds first) n.1))
+      (statement_named first (all_second IsSitedToken (parenthesized_kinds (expr_kinds condition)) (statement_kinds first) n.1))
   statement_named (s.IfElse token condition first second) n =
-      let heads = all_first IsSitedToken (parenthesized (expr_kinds condition) ++ statement_kinds first ++ a_word word.Else) (statement_kinds second) n.1 in
+      let heads = all_first IsSitedToken (parenthesized_kinds (expr_kinds condition) ++ statement_kinds first ++ a_word word.Else) (statement_kinds second) n.1 in
       both_named (expr_parts condition) (statement_parts first ++ statement_parts second) (expr_named condition)
       (both_named (statement_parts first) (statement_parts second)
-      (statement_named first (in_middle (parenthesized (expr_kinds condition)) (statement_kinds first) (a_word word.Else) heads))
-      (statement_named second (all_second IsSitedToken (parenthesized (expr_kinds condition) ++ statement_kinds first ++ a_word word.Else)
+      (statement_named first (in_middle (parenthesized_kinds (expr_kinds condition)) (statement_kinds first) (a_word word.Else) heads))
+      (statement_named second (all_second IsSitedToken (parenthesized_kinds (expr_kinds condition) ++ statement_kinds first ++ a_word word.Else)
       (statement_kinds second) n.1)))
   statement_named (s.While token condition body) n =
       both_named (expr_parts condition) (statement_parts body) (expr_named condition)
-      (statement_named body (all_second IsSitedToken (parenthesized (expr_kinds condition)) (statement_kinds body) n.1))
+      (statement_named body (all_second IsSitedToken (parenthesized_kinds (expr_kinds condition)) (statement_kinds body) n.1))
   statement_named (s.Do token body condition) n =
-      let heads = all_first IsSitedToken (statement_kinds body ++ a_word word.While ++ parenthesized (expr_kinds condition)) (a_sign sign.Semicolon) n.1 in
+      let heads = all_first IsSitedToken (statement_kinds body ++ a_word word.While ++ parenthesized_kinds (expr_kinds condition)) (a_sign sign.Semicolon) n.1 in
       both_named (statement_parts body) (expr_parts condition)
       (statement_named body (all_first IsSitedToken (statement_kinds body) (a_word word.While)
-      (all_first IsSitedToken (statement_kinds body ++ a_word word.While) (parenthesized (expr_kinds condition)) heads))) (expr_named condition)
+      (all_first IsSitedToken (statement_kinds body ++ a_word word.While) (parenthesized_kinds (expr_kinds condition)) heads))) (expr_named condition)
   statement_named (s.For token start condition step body) n =
-      let head : Kinds = for_start_kinds start ++ optional expr_kinds condition ++ a_sign sign.Semicolon ++ optional expr_kinds step in
-      let parts = inside head (all_first IsSitedToken (parenthesized head) (statement_kinds body) n.1) in
-      let three = all_first IsSitedToken (for_start_kinds start ++ optional expr_kinds condition ++ a_sign sign.Semicolon) (optional expr_kinds step) parts in
-      let two = all_first IsSitedToken (for_start_kinds start ++ optional expr_kinds condition) (a_sign sign.Semicolon) three in
+      let head : Kinds = for_start_kinds start ++ optional_kinds expr_kinds condition ++ a_sign sign.Semicolon ++ optional_kinds expr_kinds step in
+      let parts = inside head (all_first IsSitedToken (parenthesized_kinds head) (statement_kinds body) n.1) in
+      let three = all_first IsSitedToken (for_start_kinds start ++ optional_kinds expr_kinds condition ++ a_sign sign.Semicolon) (optional_kinds expr_kinds step) parts in
+      let two = all_first IsSitedToken (for_start_kinds start ++ optional_kinds expr_kinds condition) (a_sign sign.Semicolon) three in
       both_named (for_start_parts start) (optional_parts condition ++ (optional_parts step ++ statement_parts body))
-      (begun_named start (all_first IsSitedToken (for_start_kinds start) (optional expr_kinds condition) two))
+      (begun_named start (all_first IsSitedToken (for_start_kinds start) (optional_kinds expr_kinds condition) two))
       (both_named (optional_parts condition) (optional_parts step ++ statement_parts body) (option_named condition)
       (both_named (optional_parts step) (statement_parts body) (option_named step)
-      (statement_named body (all_second IsSitedToken (parenthesized head) (statement_kinds body) n.1))))
+      (statement_named body (all_second IsSitedToken (parenthesized_kinds head) (statement_kinds body) n.1))))
   statement_named (s.Return token value) n = option_named value
   statement_named x n = tt
 
@@ -154,12 +154,12 @@ mutual
       (entries_named rest (all_second IsSitedToken (statement_kinds x) (entry_kinds rest) n))
 
 -- parameters
-param_named : (o : Option ParamName) → AllByRecursion IsSitedToken (optional param_name_kinds o) → Named (named_parts o)
+param_named : (o : Option ParamName) → AllByRecursion IsSitedToken (optional_kinds param_name_kinds o) → Named (named_parts o)
 param_named None n = tt
 param_named (Some p) n = (n.0, tt)
 
 own_param : (p : Param) → AllByRecursion IsSitedToken (param_kinds p) → Named (named_parts p.name)
-own_param p n = param_named p.name (all_second IsSitedToken (type_kinds p.base p.stars) (optional param_name_kinds p.name) n)
+own_param p n = param_named p.name (all_second IsSitedToken (type_kinds p.base p.stars) (optional_kinds param_name_kinds p.name) n)
 
 params_named : (ps : List Param) → AllByRecursion IsSitedToken (with_commas param_kinds ps) → Named (params_parts ps)
 params_named [] n = tt
@@ -177,11 +177,11 @@ item_named : (x : ItemTree) → AllByRecursion IsSitedToken (item_kinds x) → N
 item_named (item.Struct token tag members) n = tt
 item_named (item.Function token b stars name ps None) n = tt
 item_named (item.Function token b stars name ps (Some body)) n =
-    let heads = all_first IsSitedToken (type_kinds b stars ++ a_name name ++ parenthesized (params_kinds ps)) (body_kinds (Some body)) n in
-    let last = all_second IsSitedToken (type_kinds b stars ++ a_name name ++ parenthesized (params_kinds ps)) (body_kinds (Some body)) n in (
+    let heads = all_first IsSitedToken (type_kinds b stars ++ a_name name ++ parenthesized_kinds (params_kinds ps)) (body_kinds (Some body)) n in
+    let last = all_second IsSitedToken (type_kinds b stars ++ a_name name ++ parenthesized_kinds (params_kinds ps)) (body_kinds (Some body)) n in (
       tt,
       both_named (params_parts (listed_params ps)) (entries_parts body)
-          (listed_named ps (inside (params_kinds ps) (all_second IsSitedToken (type_kinds b stars ++ a_name name) (parenthesized (params_kinds ps)) heads)))
+          (listed_named ps (inside (params_kinds ps) (all_second IsSitedToken (type_kinds b stars ++ a_name name) (parenthesized_kinds (params_kinds ps)) heads)))
           (entries_named body (all_first IsSitedToken (entry_kinds body) (a_sign sign.RightBrace) last.1)),
     )
 item_named (item.Declaration d) n = declaration_named true d n

@@ -19,8 +19,8 @@ use Rattle.c_types_expressions.specs.declared.walk.VariableEntry.{VariableEntry}
 use Rattle.c_types_expressions.specs.declared.walk.Walk.{Walk}
 use Rattle.c_types_rules.proofs.Same.{same_self}
 use Rattle.std.proofs.lemmas.Bool.{false≢true}
-use Rattle.c_types.specs.Answers.{declared_at, noted, variable_at, variable_of}
-use Rattle.c_types_expressions.specs.Words.{with_call, with_offset, with_use, declared_as, found, meaning_of, or_before, with_type}
+use Rattle.c_types.specs.Answers.{declared_at, note_at, variable_at, variable_of}
+use Rattle.c_types_expressions.specs.Words.{with_call, with_offset, with_use, declared_as, declared_meaning, meaning_of, or_before, with_type}
 use Rattle.c_types.specs.Numbers.{function_of}
 use Rattle.flow.specs.declared.site.Slot.{Slot}
 use Rattle.c_meaning.specs.Words.{Signature, computed_type, signature_of, signature_with, slot_of}
@@ -63,9 +63,9 @@ module _ (count : ℕ) (variables : List VariableEntry) (name : List ℕ) where
   either_found None n h k = k
   either_found (Some m) n h k = h
 
-  all_found : (names : List ScopeEntry) → AllSlots count variables names → Found count variables (found name names)
+  all_found : (names : List ScopeEntry) → AllSlots count variables names → Found count variables (declared_meaning name names)
   all_found [] h = tt
-  all_found (entry ∷ rest) h = either_found (declared_as name entry) (found name rest) (declared_found entry h.0) (all_found rest h.1)
+  all_found (entry ∷ rest) h = either_found (declared_as name entry) (declared_meaning name rest) (declared_found entry h.0) (all_found rest h.1)
 
   library_means : (o : Option Library) → library_named name ≡ o → Means count variables name (option_map meaning.Library o)
   library_means None h = tt
@@ -79,7 +79,7 @@ module _ (count : ℕ) (variables : List VariableEntry) (name : List ℕ) where
   found_means (Some (meaning.Library function)) h = absurd h
 
   pub all_mean : (names : List ScopeEntry) → AllSlots count variables names → Means count variables name (meaning_of name names)
-  all_mean names h = found_means (found name names) (all_found names h)
+  all_mean names h = found_means (declared_meaning name names) (all_found names h)
 
 -- what is known of a function
 abbrev pub Signed : Walk → FunctionEntry → Option Signature → Type 0
@@ -119,7 +119,7 @@ own_type : (z : Walk) (of : TypeTree) (own : Option TypeTree) (b : Bool) → is_
 own_type z of own true e h = rw e (rw (h (scalar_whole z of e)) (same_self of))
 own_type z of own false e h = rw e refl
 
-slot_is : (tree : SourceTree) (z : Walk) (token : ℕ) (of : TypeTree) (P : Option Slot → Type 0) → noted z.types token ≡ Some of → is_of of
+slot_is : (tree : SourceTree) (z : Walk) (token : ℕ) (of : TypeTree) (P : Option Slot → Type 0) → note_at z.types token ≡ Some of → is_of of
     (declared_at z token) ≡ true
     → P (option_map slot_of (variable_at z token)) → P ((facts tree z).slot_at token)
 slot_is tree z token of P h k p = subst (λ o. P (slot_named o (declared_at z token) (option_map slot_of (variable_at z token)))) (sym h) (rw k p)
@@ -129,7 +129,7 @@ module _ {tree : SourceTree} {z : Walk} where
   pub name_noted : (token index : ℕ) (of : TypeTree) (w : Walk) → token < length w.types → token < length w.variables_at
       → IsSlot w.locals (slice_get w.variables index) → slice_get w.declared_types index ≡ Some of
       → Part tree z token (token + 1) w (with_type token of (with_use token index w))
-      (λ c. (noted z.types token ≡ Some of) × HasSlot (facts tree z) none c ((facts tree z).slot_at token))
+      (λ c. (note_at z.types token ≡ Some of) × HasSlot (facts tree z) none c ((facts tree z).slot_at token))
   name_noted token index of w h k s d = record {
     keeps = record {
       types = length_replaced w.types token (Some of);
@@ -174,7 +174,7 @@ module _ {tree : SourceTree} {z : Walk} where
   -- the function that a call calls, and its type
   pub call_noted : (token index : ℕ) (of : TypeTree) (w : Walk) → token < length w.types → token < length w.functions_at
       → Part tree z token (token + 1) w (with_type token of (with_call token index w))
-      (λ c. (noted z.types token ≡ Some of) × (noted z.functions_at token ≡ Some index))
+      (λ c. (note_at z.types token ≡ Some of) × (note_at z.functions_at token ≡ Some index))
   call_noted token index of w h k = record {
     keeps = record {
       types = length_replaced w.types token (Some of);
@@ -212,7 +212,7 @@ module _ {tree : SourceTree} {z : Walk} where
   -- the offset of a member, and its type
   pub member_noted : (token offset : ℕ) (of : TypeTree) (w : Walk) → token < length w.types → token < length w.offsets_at
       → Part tree z token (token + 1) w (with_type token of (with_offset token offset w))
-      (λ c. (noted z.types token ≡ Some of) × (noted z.offsets_at token ≡ Some offset))
+      (λ c. (note_at z.types token ≡ Some of) × (note_at z.offsets_at token ≡ Some offset))
   member_noted token offset of w h k = record {
     keeps = record {
       types = length_replaced w.types token (Some of);

@@ -1,5 +1,5 @@
 -- A constant that is no less than the least `char`, and lies in its kind, may have a `-` before it.
-use Rattle.std.proofs.Common.{◌≡◌, arith, ℤ, pos, neg_ℤ, Bool, true, false, ◌&&◌, [], ◌∷◌}
+use Rattle.std.proofs.Common.{◌≡◌, arith, ℤ, pos, neg_ℤ, true, ◌&&◌, [], ◌∷◌}
 use Rattle.std.specs.Prelude.{int_le}
 use Rattle.std.specs.List.{AllByRecursion}
 use Rattle.std.proofs.lemmas.Int.{ints}

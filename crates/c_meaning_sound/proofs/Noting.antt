@@ -1,16 +1,13 @@
 -- What a part of the walk notes, at which tokens, and what holds where nothing is noted there later.
-use Rattle.std.proofs.Common.{◌≡◌, ℕ, zero, suc, ◌≤◌, ◌<◌, refl, ap, ◌∙◌, arith, List, [], ◌∷◌, Some, None, ◌+◌, Ok, Err, Bool, true, false, length}
-use Rattle.std.specs.Prelude.{Option, slice_get, slice_set, nat_lt, if◌then◌else◌}
-use Rattle.std.specs.Option.{option_map, unwrap_or}
-use Rattle.std.proofs.lemmas.Bool.Decides.{nat_tests}
+use Rattle.std.proofs.Common.{◌≡◌, ℕ, ◌≤◌, ◌<◌, refl, ap, ◌∙◌, arith, List, [], ◌∷◌, Some, None, ◌+◌, Bool, true, false, length}
+use Rattle.std.specs.Prelude.{Option, slice_get, if◌then◌else◌}
+use Rattle.std.specs.Option.{option_map}
 use Rattle.c_types.proofs.Replaced.{noted_other, noted_same}
 use Rattle.c_types.proofs.Noted.{length_replaced}
-use Rattle.base_lists.proofs.Numbers.{less_is}
-use Rattle.base_lists.proofs.Lists.{set_here, set_long, set_other, Stays}
+use Rattle.base_lists.proofs.Lists.{Stays}
 use Rattle.c_syntax.specs.ItemTree.{SourceTree}
-use Rattle.c_types_rules.specs.declared.operand.Operand.{Operand}
 use Rattle.c_types_rules.specs.TypeTree as t
-use Rattle.c_types_rules.specs.Words.{TypeTree, same_type, Looked, is_scalar, cells_of, is_complete}
+use Rattle.c_types_rules.specs.Words.{TypeTree, same_type, is_scalar, cells_of, is_complete}
 use Rattle.c_types_expressions.specs.declared.names.Meaning.TheVariants as meaning
 use Rattle.c_types_expressions.specs.declared.names.ScopeEntry.{ScopeEntry}
 use Rattle.c_types_expressions.specs.declared.names.ScopeEntry.TheVariants.{Opens, Declares}
@@ -18,8 +15,8 @@ use Rattle.c_types_expressions.specs.declared.walk.Variable.{Variable}
 use Rattle.c_types_expressions.specs.declared.walk.Variable.TheVariants as variable
 use Rattle.c_types_expressions.specs.declared.walk.VariableEntry.{VariableEntry}
 use Rattle.c_types_expressions.specs.declared.walk.Walk.{Walk}
-use Rattle.c_types.specs.Answers.{declared_at, noted, type_at, variable_at}
-use Rattle.c_types_expressions.specs.Words.{looked, closed, found, Walked, Fine, Faulty, ◌>>=◌, replaced, with_type}
+use Rattle.c_types.specs.Answers.{declared_at, note_at, type_at, variable_at}
+use Rattle.c_types_expressions.specs.Words.{names_after_scope, declared_meaning, ◌>>=◌, with_type}
 use Rattle.flow.specs.declared.site.Slot.{Slot}
 use Rattle.c_meaning.specs.Words.{Facts, Sites, facts_of, slot_of, struct_number, is_step_size, sites_by_table}
 use Rattle.c_meaning_laws.specs.Rules.{IsObject}
@@ -29,10 +26,10 @@ use Rattle.c_meaning_sound.proofs.Marking.{Marks, marks_here, marks_then, marks_
 
 -- the notes at a token are the same
 pub record Same (w v : Walk) (token : ℕ) : Type 0 where
-  pub types : noted v.types token ≡ noted w.types token
-  pub variables : noted v.variables_at token ≡ noted w.variables_at token
-  pub offsets : noted v.offsets_at token ≡ noted w.offsets_at token
-  pub functions : noted v.functions_at token ≡ noted w.functions_at token
+  pub types : note_at v.types token ≡ note_at w.types token
+  pub variables : note_at v.variables_at token ≡ note_at w.variables_at token
+  pub offsets : note_at v.offsets_at token ≡ note_at w.offsets_at token
+  pub functions : note_at v.functions_at token ≡ note_at w.functions_at token
 
 pub same_here : (w : Walk) (token : ℕ) → Same w w token
 same_here w token = record { types = refl; variables = refl; offsets = refl; functions = refl }
@@ -123,7 +120,7 @@ module _ (tree : SourceTree) (z : Walk) where
     pub structs : v.structs ≡ w.structs
     pub tags : v.tags ≡ w.tags
     pub functions : v.functions ≡ w.functions
-    pub scope : closed v.names ≡ closed w.names
+    pub scope : names_after_scope v.names ≡ names_after_scope w.names
     pub variables : Stays w.variables v.variables
     pub declared : Stays w.declared_types v.declared_types
     pub locals : w.locals ≤ v.locals
@@ -138,15 +135,15 @@ module _ (tree : SourceTree) (z : Walk) where
     pub variables_at : hi ≤ length w.variables_at
     pub offsets_at : hi ≤ length w.offsets_at
     pub functions_at : hi ≤ length w.functions_at
-    pub fresh : (token : ℕ) → lo ≤ token → noted w.functions_at token ≡ None
-    pub bare : (token : ℕ) → lo ≤ token → noted w.types token ≡ None
+    pub fresh : (token : ℕ) → lo ≤ token → note_at w.functions_at token ≡ None
+    pub bare : (token : ℕ) → lo ≤ token → note_at w.types token ≡ None
     pub wholes : AllWhole w.declared_types
     pub long : length w.declared_types ≡ length w.variables
     pub slots : AllSlots w.locals w.variables w.names
     pub grows : Grows w.structs z.structs
     pub structs : Stays w.structs z.structs
     pub functions : Stays w.functions z.functions
-    pub tags : (tag : List ℕ) (index : ℕ) → found tag w.tags ≡ Some (meaning.Struct index) → struct_number 0 tag tree.items ≡ Some index
+    pub tags : (tag : List ℕ) (index : ℕ) → declared_meaning tag w.tags ≡ Some (meaning.Struct index) → struct_number 0 tag tree.items ≡ Some index
 
   -- what is known later is known at the end, and nothing is noted there later
   pub record Agrees (count lo hi : ℕ) (v : Walk) : Type 0 where
@@ -165,7 +162,7 @@ module _ (tree : SourceTree) (z : Walk) where
     pub marks : Marks lo hi w v
 
 -- where no type is noted, as at a name that is declared
-pub slot_declared : (tree : SourceTree) (z : Walk) (token : ℕ) → noted z.types token ≡ None
+pub slot_declared : (tree : SourceTree) (z : Walk) (token : ℕ) → note_at z.types token ≡ None
     → (facts tree z).slot_at token ≡ option_map slot_of (variable_at z token)
 slot_declared tree z token h = ap (λ o. slot_named o (declared_at z token) (option_map slot_of (variable_at z token))) h
 
@@ -335,7 +332,7 @@ module _ {tree : SourceTree} {z : Walk} where
 
   -- the type of an expression at its own token
   pub type_noted : (token : ℕ) (of : TypeTree) (w : Walk) → token < length w.types
-      → Part tree z token (token + 1) w (with_type token of w) (λ c. noted z.types token ≡ Some of)
+      → Part tree z token (token + 1) w (with_type token of w) (λ c. note_at z.types token ≡ Some of)
   type_noted token of w h = record {
     keeps = typed_keeps token of w;
     below = λ q l. typed_same token q of w (λ x. omega (arith, x, l));

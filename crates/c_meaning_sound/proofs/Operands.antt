@@ -13,14 +13,14 @@ use Rattle.c_types_rules.specs.declared.library.Library.{Library}
 use Rattle.c_types_rules.specs.declared.library.Library.TheVariants as library
 use Rattle.c_types_rules.specs.declared.operand.Operand.{Operand}
 use Rattle.c_types_rules.specs.TypeTree as t
-use Rattle.c_types_rules.specs.Words.{TypeTree, is_struct, value_of, library_called, one_scalar, fits_parameters, is_complete, is_scalar_value, signed, stepped}
+use Rattle.c_types_rules.specs.Words.{TypeTree, is_struct, value_of, library_called, one_scalar, fits_parameters, is_complete, is_scalar_value, typed_unary_arithmetic, typed_increment}
 use Rattle.c_types_rules.specs.Functions as functions
 use Rattle.c_types_rules.specs.declared.fault.FaultKind.TheVariants as fault
 use Rattle.c_types_rules.specs.declared.function.FunctionType.{FunctionType}
 use Rattle.c_types_expressions.specs.declared.walk.FunctionEntry.{FunctionEntry}
 use Rattle.c_types_expressions.specs.declared.walk.Walk.{Walk}
-use Rattle.c_types.specs.Answers.{noted}
-use Rattle.c_types_expressions.specs.Words.{prefixed, with_type}
+use Rattle.c_types.specs.Answers.{note_at}
+use Rattle.c_types_expressions.specs.Words.{typed_prefix_operation, with_type}
 use Rattle.c_meaning.specs.declared.value_type.ValueType.{ValueType}
 use Rattle.c_meaning.specs.declared.value_type.ValueType.TheVariants as type
 use Rattle.c_meaning.specs.Conversions as mean
@@ -42,12 +42,12 @@ module _ (tree : SourceTree) (z : Walk) where
 
   -- the walk through an expression comes to this operand
   pub record Good (at : ℕ) (x : ExprTree) (w : Walk) (a : Operand) (v : Walk) : Type 0 where
-    pub part : Part tree z at (at + length (expr_kinds x)) w v (λ c. Fits c x × (noted z.types (token_of x) ≡ Some a.ctype))
+    pub part : Part tree z at (at + length (expr_kinds x)) w v (λ c. Fits c x × (note_at z.types (token_of x) ≡ Some a.ctype))
     pub place : is_place x ≡ a.place
     pub null : is_null_constant x ≡ a.null
     pub formed : Formed tree z a
 
-  pub typed_as : (token : ℕ) (of : TypeTree) → noted z.types token ≡ Some of → (facts tree z).type_at token ≡ known z.structs of
+  pub typed_as : (token : ℕ) (of : TypeTree) → note_at z.types token ≡ Some of → (facts tree z).type_at token ≡ known z.structs of
   typed_as token of h = ap (option_map (computed_type z.structs)) h
 
   -- an expression of one part
@@ -56,7 +56,7 @@ module _ (tree : SourceTree) (z : Walk) where
       → ((c : ℕ) → (facts tree z).type_at token ≡ known z.structs a.ctype → Fits c x) → Good at x w a (with_type token a.ctype w)
   leaf_good at token x a w p l e i n f r k = record {
     part = so (wider {lo = token} {hi = token + 1} (type_noted token a.ctype w (omega (arith, p, l, r))) (omega (arith, p)) (omega (arith, p, l)))
-        (λ c q. (k c (typed_as token a.ctype q), ap (λ t. noted z.types t) e ∙ q));
+        (λ c q. (k c (typed_as token a.ctype q), ap (λ t. note_at z.types t) e ∙ q));
     place = i;
     null = n;
     formed = f;
@@ -66,20 +66,20 @@ module _ (tree : SourceTree) (z : Walk) where
   pub unary_good : (at token from : ℕ) (x y : ExprTree) (a b : Operand) (w v : Walk) → token ≡ at → at + 1 ≤ from
       → from + length (expr_kinds y) ≤ at + length (expr_kinds x) → token_of x ≡ token → is_place x ≡ b.place
       → is_null_constant x ≡ b.null → Formed tree z b → Good from y w a v → token < length v.types
-      → ((c : ℕ) → Fits c y → noted z.types (token_of y) ≡ Some a.ctype → noted z.types token ≡ Some b.ctype → Fits c x)
+      → ((c : ℕ) → Fits c y → note_at z.types (token_of y) ≡ Some a.ctype → note_at z.types token ≡ Some b.ctype → Fits c x)
       → Good at x w b (with_type token b.ctype v)
   unary_good at token from x y a b w v p l m e i n f g h k = record {
     part = so (wider {lo = at} {hi = from + length (expr_kinds y)} (leftwards {lo = at} {mid = from} {hi = from + length (expr_kinds y)} g.part
         (wider {lo = token} {hi = token + 1} (type_noted token b.ctype v h) (omega (arith, p)) (omega (arith, p, l))) (omega (arith, l)) (omega arith))
         (omega arith) m)
-        (λ c q. (k c q.0.0 q.0.1 q.1, ap (λ t. noted z.types t) e ∙ q.1));
+        (λ c q. (k c q.0.0 q.0.1 q.1, ap (λ t. note_at z.types t) e ∙ q.1));
     place = i;
     null = n;
     formed = f;
   }
 
   -- what is accepted is taken
-  pub accepted : (wanted : Option ValueType) (x : ExprTree) (a : Operand) → is_null_constant x ≡ a.null → noted z.types (token_of x) ≡ Some a.ctype
+  pub accepted : (wanted : Option ValueType) (x : ExprTree) (a : Operand) → is_null_constant x ≡ a.null → note_at z.types (token_of x) ≡ Some a.ctype
       → TakesOrNull (mean.is_pointer_value wanted && a.null) wanted (known z.structs a.ctype) → Accepts (facts tree z) wanted x
   accepted wanted x a n h k = subst (λ b. TakesOrNull (mean.is_pointer_value wanted && b) wanted (type_of (facts tree z) x)) (sym n)
       (subst (λ u. TakesOrNull (mean.is_pointer_value wanted && a.null) wanted u) (sym (typed_as (token_of x) a.ctype h)) k)
@@ -87,7 +87,7 @@ module _ (tree : SourceTree) (z : Walk) where
   -- several expressions, and what they come to
   abbrev pub Matched : ℕ → ExprList → List Operand → Type 0
   Matched c e.no_exprs [] = Unit {0}
-  Matched c (e.more_exprs x rest) (a ∷ own) = Fits c x × (noted z.types (token_of x) ≡ Some a.ctype) × (is_null_constant x ≡ a.null) × Matched c rest own
+  Matched c (e.more_exprs x rest) (a ∷ own) = Fits c x × (note_at z.types (token_of x) ≡ Some a.ctype) × (is_null_constant x ≡ a.null) × Matched c rest own
   Matched c xs own = ⊥
 
   pub record GoodList (at : ℕ) (xs : ExprList) (before : List Operand) (w : Walk) (all : List Operand) (v : Walk) : Type 0 where
@@ -129,7 +129,7 @@ module _ (tree : SourceTree) (z : Walk) where
   Listed xs own b f = (c : ℕ) (u : Option ValueType) → Matched c xs own → u ≡ known z.structs b.ctype
       → CallsLibrary f (λ types. TypedArguments (facts tree z) none c types xs) (TypedLone (facts tree z) none c xs) u
 
-  pub called_formed : (f : FunctionType) (own : List Operand) (b : Operand) → Deep tree z f.gives → is_struct f.gives ≡ false → Is (functions.called f own) b
+  pub called_formed : (f : FunctionType) (own : List Operand) (b : Operand) → Deep tree z f.gives → is_struct f.gives ≡ false → Is (functions.typed_call f own) b
       → Formed tree z b × Plain b
   called_formed f own b d n h = tested (fits_parameters f.params own) h
     where
@@ -183,7 +183,7 @@ module _ (tree : SourceTree) (z : Walk) where
 
   -- an operator before its operand
   abbrev pub PrefixFits : PrefixOperator → ExprTree → Operand → Operand → Type 0
-  PrefixFits o x a b = (token c : ℕ) → noted z.types (token_of x) ≡ Some a.ctype → (facts tree z).type_at token ≡ known z.structs b.ctype
+  PrefixFits o x a b = (token c : ℕ) → note_at z.types (token_of x) ≡ Some a.ctype → (facts tree z).type_at token ≡ known z.structs b.ctype
       → Prefixes (facts tree z) none c token o x (type_of (facts tree z) x) ((facts tree z).type_at token)
 
   abbrev pub PrefixGood : ℕ → PrefixOperator → ExprTree → Operand → Operand → Type 0
@@ -192,7 +192,7 @@ module _ (tree : SourceTree) (z : Walk) where
   by_types : (P : Option ValueType → Option ValueType → Type 0) (u v r s : Option ValueType) → u ≡ r → v ≡ s → P r s → P u v
   by_types P u v r s h k q = subst (λ y. P y v) (sym h) (subst (λ y. P r y) (sym k) q)
 
-  stepped_good : (is_up : Bool) (token : ℕ) (x : ExprTree) (a b : Operand) → Is (stepped z.structs a) b → Formed tree z a → is_place x ≡ a.place
+  stepped_good : (is_up : Bool) (token : ℕ) (x : ExprTree) (a b : Operand) → Is (typed_increment z.structs a) b → Formed tree z a → is_place x ≡ a.place
       → (false ≡ b.place) × (false ≡ b.null) × Formed tree z b × IsTrue (is_place x) × (b.ctype ≡ a.ctype)
       × Changes (operation (step_of is_up) (known z.structs a.ctype) (Some (type.Number (one_kind (known z.structs a.ctype))))) (known z.structs a.ctype)
       (Some (type.Number (one_kind (known z.structs a.ctype))))
@@ -212,7 +212,7 @@ module _ (tree : SourceTree) (z : Walk) where
       (Some (type.Number (one_kind (known z.structs a.ctype)))) → (facts tree z).type_at token ≡ known z.structs b.ctype → StepsBy is_up token s u
   steps_fit is_up token s u a b h k e = subst (StepsBy is_up token s) (sym h) (k.1, tt, e ∙ ap (known z.structs) k.0)
 
-  turned_good : (token : ℕ) (o : PrefixOperator) (x : ExprTree) (a b : Operand) → Is (signed a) b
+  turned_good : (token : ℕ) (o : PrefixOperator) (x : ExprTree) (a b : Operand) → Is (typed_unary_arithmetic a) b
       → Formed tree z b × (false ≡ b.place) × (false ≡ b.null) × IsNumberType (known z.structs a.ctype) × IsPromoted (known z.structs b.ctype)
   turned_good token o x a b h =
       let n : Plain b = gives_plain _ _ b h in
@@ -229,7 +229,7 @@ module _ (tree : SourceTree) (z : Walk) where
   addressed_type true of b h = given (λ b. (true ≡ true) × (b.ctype ≡ t.Pointer of)) (value_of (t.Pointer of)) b (refl, refl) h
   addressed_type false of b h = cc
 
-  pub prefix_good : (token : ℕ) (o : PrefixOperator) (x : ExprTree) (a b : Operand) → Is (prefixed z.structs o a) b → Formed tree z a → is_place x ≡ a.place
+  pub prefix_good : (token : ℕ) (o : PrefixOperator) (x : ExprTree) (a b : Operand) → Is (typed_prefix_operation z.structs o a) b → Formed tree z a → is_place x ≡ a.place
       → PrefixGood token o x a b
   prefix_good token prefix.Increment x a b h f p = let k = stepped_good true token x a b h f p in (
     k.2,

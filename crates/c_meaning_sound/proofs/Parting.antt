@@ -1,8 +1,6 @@
 -- Lists in parts: what holds of both parts, and how many tokens there are.
 use Rattle.std.proofs.Common.{◌≡◌, ℕ, ◌≤◌, arith, List, [], ◌∷◌, ◌++◌, Some, None, ◌+◌, length, length-append}
-use Rattle.std.specs.Prelude.{Option, sum_by}
-use Rattle.std.specs.List.{AllByRecursion, flat_map}
-use Rattle.std.proofs.lemmas.List.Concat.{length-flat_map}
+use Rattle.std.specs.Prelude.{Option}
 use Rattle.cbi_base.specs.declared.operators.Binary.{Binary}
 use Rattle.c_syntax.specs.declared.token.Sign.{Sign}
 use Rattle.c_syntax.specs.declared.token.Sign.TheVariants as sign

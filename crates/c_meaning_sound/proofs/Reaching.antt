@@ -2,7 +2,7 @@
 use Rattle.std.proofs.Common.{◌≡◌, ℕ, zero, suc, ◌≤◌, ◌<◌, refl, ap, subst, sym, ◌∙◌, arith, List, [], ◌∷◌, ◌++◌, Some, None, ◌+◌, Bool, true, false, length}
 use Rattle.std.proofs.Common.{length-append}
 use Rattle.std.specs.List.{AllByRecursion}
-use Rattle.std.specs.Prelude.{IfSome, Option, nat_lt, slice_get, unwrap_or, is_some, ◌&&◌, ◌||◌, if◌then◌else◌}
+use Rattle.std.specs.Prelude.{IfSome, Option, nat_lt, unwrap_or, is_some, ◌&&◌, ◌||◌, if◌then◌else◌}
 use Rattle.std.proofs.lemmas.Bool.Decides.{nat_tests}
 use Rattle.std.proofs.lemmas.List.{append-nil, append_assoc}
 use Rattle.base_lists.proofs.Lists.{get_left, Stays}
@@ -15,7 +15,7 @@ use Rattle.c_syntax.specs.declared.parts.ParamName.{ParamName}
 use Rattle.c_syntax.specs.declared.parts.Params.{Params}
 use Rattle.c_syntax.specs.declared.parts.Params.TheVariants as params
 use Rattle.c_syntax.specs.declared.token.Sign.TheVariants as sign
-use Rattle.c_syntax.specs.Words.{EachAt, NameAt, ParamAt, ParamsAt, a_name, a_sign, after_commas, bound_kinds, optional, param_kinds, param_name_kinds}
+use Rattle.c_syntax.specs.Words.{EachAt, NameAt, ParamAt, ParamsAt, a_name, a_sign, after_commas, bound_kinds, optional_kinds, param_kinds, param_name_kinds}
 use Rattle.c_syntax.specs.Words.{params_kinds, type_kinds, with_commas, DeclarationTree, EntryList}
 use Rattle.c_syntax.specs.ItemTree as item
 use Rattle.c_types_rules.specs.declared.fault.FaultKind.{FaultKind}
@@ -28,8 +28,8 @@ use Rattle.c_types_expressions.specs.declared.names.Meaning.{Meaning}
 use Rattle.c_types_expressions.specs.declared.names.Meaning.TheVariants as meaning
 use Rattle.c_types_expressions.specs.declared.walk.Parameter.{Parameter}
 use Rattle.c_types_expressions.specs.declared.walk.Walk.{Walk}
-use Rattle.c_types_expressions.specs.Words.{base_type, tagged_type, with_stars, found, is_reserved, Walked, Fine, Faulty, Done, ◌>>=◌, closing}
-use Rattle.c_types_walk.specs.ItemWalk.{clashes, declares, entered, has_length, is_among, is_defined, listed_params, looked_param, param_type, typed_function, types_of}
+use Rattle.c_types_expressions.specs.Words.{base_type, tagged_type, with_stars, declared_meaning, is_reserved, Walked, Fine, Faulty, Done, ◌>>=◌, scope_closed}
+use Rattle.c_types_walk.specs.ItemWalk.{is_clashing_name, function_checked, body_scope_opened, has_length, is_among, is_defined, listed_params, looked_param, param_type, typed_function, types_of}
 use Rattle.c_types_walk.specs.ItemWalk.{walk_body, walk_item, walk_param, walk_params, with_definition, with_function}
 use Rattle.c_types.specs.Parts.{Part, Expression, Use, Declared, Begins, declaration_parts, entries_parts}
 use Rattle.c_types_walk.specs.StatementWalk.{walk_declaration, walk_entries}
@@ -170,7 +170,7 @@ tagged_named token (Some (meaning.Struct index)) w = (refl, tt)
 tagged_named token m w = tt
 
 pub base_gives : (b : Base) (w : Walk) → record_of.Gives (Named w) (base_type b w)
-base_gives (base.Struct token tag) w = tagged_named token (found tag w.tags) w
+base_gives (base.Struct token tag) w = tagged_named token (declared_meaning tag w.tags) w
 base_gives b w = (refl, tt)
 
 pub base_is : (b : Base) (w v : Walk) (of : TypeTree) → base_type b w ≡ Fine of v → (v ≡ w) × ((n : ℕ) → Flat (with_stars n of))
@@ -194,7 +194,7 @@ declared_by true c token w v a h = absurd (cc)
 declared_by false true token w v a h = absurd (cc)
 declared_by false false token w v a h = (refl, refl, sym (fine_known tt a w v h))
 
-pub declares_is : (token : ℕ) (b : Bool) (gives : TypeTree) (w v : Walk) (a : Done) → declares token b gives w ≡ Fine a v → Declares token b gives w v
+pub declares_is : (token : ℕ) (b : Bool) (gives : TypeTree) (w v : Walk) (a : Done) → function_checked token b gives w ≡ Fine a v → Declares token b gives w v
 declares_is token b gives w v a h =
     let k = declared_by b (is_struct gives) token w v a h in
     record { free = k.0; plain = k.1; same = k.2 }
@@ -211,20 +211,20 @@ function_grown name f None w = record {
 -- a function with a body, step by step
 pub record Defines (token : ℕ) (f : FunctionType) (name : List ℕ) (ps : List Parameter) (body : EntryList) (known : Option ℕ) (w v : Walk) : Type 0 where
   pub behind : Walk
-  pub walked : walk_entries f.gives false body (entered ps (with_function name f known w)) ≡ Fine tt behind
+  pub walked : walk_entries f.gives false body (body_scope_opened ps (with_function name f known w)) ≡ Fine tt behind
   pub plain : is_struct f.gives ≡ false
   pub last : Walk
-  pub closes : closing tt behind ≡ Fine tt last
+  pub closes : scope_closed tt behind ≡ Fine tt last
   pub is : v ≡ with_definition (unwrap_or known (length w.functions)) (length w.variables) last
 
 pub body_defines : (token : ℕ) (f : FunctionType) (name : List ℕ) (ps : List Parameter) (body : EntryList) (known : Option ℕ) (w v : Walk) (a : Done)
     → walk_body token f name ps body known w ≡ Fine a v → Defines token f name ps body known w v
 unfolding walk_body
 body_defines token f name ps body known w v a h =
-    let whole = comes (walk_entries f.gives false body (entered ps (with_function name f known w)) >>= closing) _ a v h in
-    let inner = comes (walk_entries f.gives false body (entered ps (with_function name f known w))) closing whole.value whole.known whole.first in
-    let own = comes (declares token
-    (clashes name known w || is_defined (unwrap_or known (length w.functions)) w.defined_as) f.gives whole.known) _ a v whole.rest in
+    let whole = comes (walk_entries f.gives false body (body_scope_opened ps (with_function name f known w)) >>= scope_closed) _ a v h in
+    let inner = comes (walk_entries f.gives false body (body_scope_opened ps (with_function name f known w))) scope_closed whole.value whole.known whole.first in
+    let own = comes (function_checked token
+    (is_clashing_name name known w || is_defined (unwrap_or known (length w.functions)) w.defined_as) f.gives whole.known) _ a v whole.rest in
     let d = declares_is token _ f.gives whole.known own.known own.value own.first in
     record {
       behind = inner.known;
@@ -241,8 +241,8 @@ pub defines_step : (token : ℕ) (f : FunctionType) (name : List ℕ) (ps : List
 defines_step token f name ps body known w v d =
     let u : Walk = with_function name f known w in
     let parts : List Part = Begins ∷ parts_from ps ++ entries_parts body in
-    taken (λ _ r. Step parts (stage u) (stage r)) (walk_entries f.gives false body (entered ps u) >>= closing) tt d.last
-    (inner_notes f.gives ps body u) (ap (λ m. m >>= closing) d.walked ∙ d.closes)
+    taken (λ _ r. Step parts (stage u) (stage r)) (walk_entries f.gives false body (body_scope_opened ps u) >>= scope_closed) tt d.last
+    (inner_notes f.gives ps body u) (ap (λ m. m >>= scope_closed) d.walked ∙ d.closes)
 
 -- from the function's declaration on
 pub defines_onward : (token : ℕ) (f : FunctionType) (name : List ℕ) (ps : List Parameter) (body : EntryList) (known : Option ℕ) (w v : Walk)
@@ -339,10 +339,10 @@ module _ (lo hi : ℕ) (w : Walk) where
       → IfSome o (NameAt (at + length (type_kinds p.base p.stars))) → IfSome o (λ n. (lo ≤ n.token) × (n.token < hi))
   param_placed at p l h None e k = tt
   param_placed at p l h (Some n) e k =
-      let long : length (param_kinds p) ≡ length (type_kinds p.base p.stars) + length (optional param_name_kinds p.name) =
-      length-append (type_kinds p.base p.stars) (optional param_name_kinds p.name) in
-      let own : length (optional param_name_kinds p.name) ≡ 1 + length (optional bound_kinds n.bound) =
-      ap (λ q. length (optional param_name_kinds q)) e ∙ omega (arith, length-append (a_name n.name) (optional bound_kinds n.bound)) in
+      let long : length (param_kinds p) ≡ length (type_kinds p.base p.stars) + length (optional_kinds param_name_kinds p.name) =
+      length-append (type_kinds p.base p.stars) (optional_kinds param_name_kinds p.name) in
+      let own : length (optional_kinds param_name_kinds p.name) ≡ 1 + length (optional_kinds bound_kinds n.bound) =
+      ap (λ q. length (optional_kinds param_name_kinds q)) e ∙ omega (arith, length-append (a_name n.name) (optional_kinds bound_kinds n.bound)) in
       (omega (arith, k, l), omega (arith, k, h, long, own))
 
   param_one : (body : Bool) (at : ℕ) (p : Param) (before : List Parameter) → ParamAt at p → lo ≤ at → at + length (param_kinds p) ≤ hi

@@ -7,7 +7,7 @@ use Rattle.std.proofs.lemmas.Bool.Decides.{nat_tests}
 use Rattle.base_lists.proofs.Numbers.{number_itself}
 use Rattle.c_syntax.specs.Words.{SourceTree, EachAt, ItemAt, ShapedItem, item_kinds}
 use Rattle.flow.specs.declared.program.Text.{Text}
-use Rattle.c_meaning.specs.Literals.{Literal, literals, number_from, texts_of}
+use Rattle.c_meaning.specs.Literals.{Literal, string_literals, number_from, texts_of}
 use Rattle.c_meaning_sound.proofs.Rising.{Rise, items_rise}
 use Rattle.c_meaning_sound.proofs.Texts.{Spelled}
 
@@ -50,8 +50,8 @@ with_lengths P Q (x ∷ xs) h k = ((h.0, k.0), with_lengths P Q xs h.1 k.1)
 
 -- the strings of a text whose parts stand in their places, where none is longer than an object
 pub all_spelled : (tree : SourceTree) → AllByRecursion ShapedItem tree.items → EachAt ItemAt item_kinds 0 0 tree.items
-    → AllByRecursion (λ s. length s.bytes ≤ 1048575) (literals tree) → AllByRecursion (Spelled tree) (literals tree)
+    → AllByRecursion (λ s. length s.bytes ≤ 1048575) (string_literals tree) → AllByRecursion (Spelled tree) (string_literals tree)
 all_spelled tree q p h =
-    with_lengths (Reads (slice_get (texts_of (literals tree))) 0 (literals tree)) (λ s. length s.bytes ≤ 1048575) (literals tree)
-    (all_read (literals tree) 0 0 _ (slice_get (texts_of (literals tree))) (items_rise tree.items 0 q p).by
-    (λ k. ap (slice_get (texts_of (literals tree))) (omega arith))) h
+    with_lengths (Reads (slice_get (texts_of (string_literals tree))) 0 (string_literals tree)) (λ s. length s.bytes ≤ 1048575) (string_literals tree)
+    (all_read (string_literals tree) 0 0 _ (slice_get (texts_of (string_literals tree))) (items_rise tree.items 0 q p).by
+    (λ k. ap (slice_get (texts_of (string_literals tree))) (omega arith))) h

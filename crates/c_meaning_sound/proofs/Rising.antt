@@ -7,20 +7,20 @@ use Rattle.c_syntax.specs.declared.token.Sign.TheVariants as sign
 use Rattle.c_syntax.specs.declared.token.Word.TheVariants as word
 use Rattle.c_syntax.specs.ExprTree as e
 use Rattle.c_syntax.specs.Words.{ExprTree, ExprList, LinkList, PostfixList, InitialTree, StartTree, DeclarationTree, ForStartTree, StatementTree, EntryList}
-use Rattle.c_syntax.specs.Words.{ItemTree, SourceTree, DeclarationAt, EachAt, EntriesAt, ExprAt, ExprsAt, ForStartAt, InitialAt, ItemAt, LinksAt, PostfixAt}
+use Rattle.c_syntax.specs.Words.{ItemTree, DeclarationAt, EachAt, EntriesAt, ExprAt, ExprsAt, ForStartAt, InitialAt, ItemAt, LinksAt, PostfixAt}
 use Rattle.c_syntax.specs.Words.{StartAt, StatementAt, ShapedDeclaration, ShapedEntries, ShapedExpr, ShapedExprs, ShapedForStart, ShapedInitial, ShapedItem}
-use Rattle.c_syntax.specs.Words.{ShapedLinks, ShapedPostfix, ShapedStart, ShapedStatement, a_name, a_sign, a_word, base_kinds, braced, declaration_kinds}
-use Rattle.c_syntax.specs.Words.{declarator_kinds, entry_kinds, expr_kinds, exprs_kinds, for_start_kinds, item_kinds, link_kinds, more_exprs_kinds, optional}
-use Rattle.c_syntax.specs.Words.{params_kinds, parenthesized, postfix_kinds, start_kinds, statement_kinds, type_kinds, with_commas}
+use Rattle.c_syntax.specs.Words.{ShapedLinks, ShapedPostfix, ShapedStart, ShapedStatement, a_name, a_sign, a_word, base_kinds, braced_kinds, declaration_kinds}
+use Rattle.c_syntax.specs.Words.{declarator_kinds, entry_kinds, expr_kinds, exprs_kinds, for_start_kinds, item_kinds, link_kinds, more_exprs_kinds, optional_kinds}
+use Rattle.c_syntax.specs.Words.{params_kinds, parenthesized_kinds, postfix_kinds, start_kinds, statement_kinds, type_kinds, with_commas}
 use Rattle.c_syntax.specs.StatementTree as s
 use Rattle.c_syntax.specs.ItemTree as i
 use Rattle.c_meaning.specs.Words.{Literal, strings_begun, strings_behind, strings_declared, strings_entered, strings_if, strings_in, strings_initial}
 use Rattle.c_meaning.specs.Words.{strings_of_all, strings_of_item, strings_of_links, strings_stated}
-use Rattle.c_meaning_sound.proofs.Calling.{around}
 use Rattle.c_meaning_sound.proofs.Declaring.{commas_long}
 use Rattle.c_meaning_sound.proofs.Parting.{infix_long, texts_long}
 use Rattle.c_meaning_sound.proofs.Initialising.{braced_long, equals_kinds}
 use Rattle.c_meaning_sound.proofs.Stating.{for_long}
+use Rattle.sites.proofs.Rises.{paren-length}
 
 -- the strings stand behind one another, from the first of these tokens on and before the second
 abbrev pub Rise : ℕ → ℕ → List Literal → Type 0
@@ -69,9 +69,9 @@ mutual
       two at (at + length (expr_kinds (e.Chain level first links))) (expr_rises first at q.3 p.0)
       (links_rise links level (at + length (expr_kinds first)) q.5 p.1) (omega arith) (omega arith) (omega (arith, long))
   expr_rises (e.Cast token b stars operand) at q p =
-      let long = length-append (parenthesized (type_kinds b stars)) (expr_kinds operand) in
+      let long = length-append (parenthesized_kinds (type_kinds b stars)) (expr_kinds operand) in
       broad at (at + length (expr_kinds (e.Cast token b stars operand))) (expr_rises operand (at + 1 + length (type_kinds b stars) + 1) q.1 p.2) (omega arith)
-      (omega (arith, long, around (type_kinds b stars)))
+      (omega (arith, long, paren-length (type_kinds b stars)))
   expr_rises (e.Prefix token o operand) at q p =
       broad at (at + length (expr_kinds (e.Prefix token o operand))) (expr_rises operand (at + 1) q.1 p.1) (omega arith) (omega arith)
   expr_rises (e.Postfix primary operators) at q p =
@@ -80,10 +80,10 @@ mutual
       (postfix_rise operators (at + length (expr_kinds primary)) q.3 p.1) (omega arith) (omega arith) (omega (arith, long))
   expr_rises (e.Call token name arguments) at q p =
       broad at (at + length (expr_kinds (e.Call token name arguments))) (exprs_rise arguments (at + 2) q p.1) (omega arith)
-      (omega (arith, around (exprs_kinds arguments)))
+      (omega (arith, paren-length (exprs_kinds arguments)))
   expr_rises (e.Strings token parts) at q p = record { by = (omega (arith, p), omega (arith, p, texts_long parts q)) }
   expr_rises (e.Paren token inner) at q p =
-      broad at (at + length (expr_kinds (e.Paren token inner))) (expr_rises inner (at + 1) q p.1) (omega arith) (omega (arith, around (expr_kinds inner)))
+      broad at (at + length (expr_kinds (e.Paren token inner))) (expr_rises inner (at + 1) q p.1) (omega arith) (omega (arith, paren-length (expr_kinds inner)))
   expr_rises x at q p = nothing at (at + length (expr_kinds x)) (omega arith)
 
   pub exprs_rise : (xs : ExprList) (at : ℕ) → ShapedExprs xs → ExprsAt at xs → Rises at (at + length (exprs_kinds xs)) (strings_of_all xs)
@@ -121,8 +121,8 @@ mutual
       broad at (at + length (postfix_kinds (e.decrement token rest))) (postfix_rise rest (at + 1) q p.1) (omega arith) (omega arith)
 
 -- declarations
-option_rises : (x : Option ExprTree) (at : ℕ) → IfSome x ShapedExpr → IfSome x (ExprAt at) → Rises at (at + length (optional expr_kinds x)) (strings_if x)
-option_rises None at q p = nothing at (at + length (optional expr_kinds None)) (omega arith)
+option_rises : (x : Option ExprTree) (at : ℕ) → IfSome x ShapedExpr → IfSome x (ExprAt at) → Rises at (at + length (optional_kinds expr_kinds x)) (strings_if x)
+option_rises None at q p = nothing at (at + length (optional_kinds expr_kinds None)) (omega arith)
 option_rises (Some x) at q p = expr_rises x at q p
 
 initial_rises : (x : Option InitialTree) (at : ℕ) → IfSome x ShapedInitial → IfSome x (InitialAt (at + 1))
@@ -161,7 +161,7 @@ declaration_rises x at q p =
 for_start_rises : (x : ForStartTree) (at : ℕ) → ShapedForStart x → ForStartAt at x → Rises at (at + length (for_start_kinds x)) (strings_begun x)
 for_start_rises (s.Declares declaration) at q p = declaration_rises declaration at q p
 for_start_rises (s.Computes x) at q p =
-    let long = length-append (optional expr_kinds x) (a_sign sign.Semicolon) in
+    let long = length-append (optional_kinds expr_kinds x) (a_sign sign.Semicolon) in
     broad at (at + length (for_start_kinds (s.Computes x))) (option_rises x at q p) (omega arith) (omega (arith, long))
 
 mutual
@@ -173,41 +173,41 @@ mutual
       broad at (at + length (statement_kinds (s.Expr token x))) (expr_rises x at q p.1) (omega arith)
       (omega (arith, length-append (expr_kinds x) (a_sign sign.Semicolon)))
   statement_rises (s.If token condition first) at q p =
-      let long = length-append (parenthesized (expr_kinds condition)) (statement_kinds first) in
+      let long = length-append (parenthesized_kinds (expr_kinds condition)) (statement_kinds first) in
       two at (at + length (statement_kinds (s.If token condition first))) (expr_rises condition (at + 2) q.0 p.1)
       (statement_rises first (at + 2 + length (expr_kinds condition) + 1) q.1 p.2) (omega arith) (omega arith)
-      (omega (arith, long, around (expr_kinds condition)))
+      (omega (arith, long, paren-length (expr_kinds condition)))
   statement_rises (s.IfElse token condition first second) at q p =
-      let a = length-append (parenthesized (expr_kinds condition) ++ statement_kinds first ++ a_word word.Else) (statement_kinds second) in
-      let b = length-append (parenthesized (expr_kinds condition) ++ statement_kinds first) (a_word word.Else) in
-      let c = length-append (parenthesized (expr_kinds condition)) (statement_kinds first) in
+      let a = length-append (parenthesized_kinds (expr_kinds condition) ++ statement_kinds first ++ a_word word.Else) (statement_kinds second) in
+      let b = length-append (parenthesized_kinds (expr_kinds condition) ++ statement_kinds first) (a_word word.Else) in
+      let c = length-append (parenthesized_kinds (expr_kinds condition)) (statement_kinds first) in
       two at (at + length (statement_kinds (s.IfElse token condition first second)))
       (two (at + 2) (at + 2 + length (expr_kinds condition) + 1 + length (statement_kinds first)) (expr_rises condition (at + 2) q.0 p.1)
       (statement_rises first (at + 2 + length (expr_kinds condition) + 1) q.1 p.2) (omega arith) (omega arith) (omega arith))
       (statement_rises second (at + 2 + length (expr_kinds condition) + 1 + length (statement_kinds first) + 1) q.3 p.3) (omega arith) (omega arith)
-      (omega (arith, a, b, c, around (expr_kinds condition)))
+      (omega (arith, a, b, c, paren-length (expr_kinds condition)))
   statement_rises (s.While token condition body) at q p =
-      let long = length-append (parenthesized (expr_kinds condition)) (statement_kinds body) in
+      let long = length-append (parenthesized_kinds (expr_kinds condition)) (statement_kinds body) in
       two at (at + length (statement_kinds (s.While token condition body))) (expr_rises condition (at + 2) q.0 p.1)
       (statement_rises body (at + 2 + length (expr_kinds condition) + 1) q.1 p.2) (omega arith) (omega arith)
-      (omega (arith, long, around (expr_kinds condition)))
+      (omega (arith, long, paren-length (expr_kinds condition)))
   statement_rises (s.Do token body condition) at q p =
-      let a = length-append (statement_kinds body ++ a_word word.While ++ parenthesized (expr_kinds condition)) (a_sign sign.Semicolon) in
-      let b = length-append (statement_kinds body ++ a_word word.While) (parenthesized (expr_kinds condition)) in
+      let a = length-append (statement_kinds body ++ a_word word.While ++ parenthesized_kinds (expr_kinds condition)) (a_sign sign.Semicolon) in
+      let b = length-append (statement_kinds body ++ a_word word.While) (parenthesized_kinds (expr_kinds condition)) in
       let c = length-append (statement_kinds body) (a_word word.While) in
       two at (at + length (statement_kinds (s.Do token body condition))) (statement_rises body (at + 1) q.0 p.1)
       (expr_rises condition (at + 1 + length (statement_kinds body) + 2) q.1 p.2) (omega arith) (omega arith)
-      (omega (arith, a, b, c, around (expr_kinds condition)))
+      (omega (arith, a, b, c, paren-length (expr_kinds condition)))
   statement_rises (s.For token start condition step body) at q p =
       let a = at + 2 + length (for_start_kinds start) in
-      let b = at + 2 + length (for_start_kinds start) + length (optional expr_kinds condition) in
-      let c = at + 2 + length (for_start_kinds start) + length (optional expr_kinds condition) + 1 + length (optional expr_kinds step) in
+      let b = at + 2 + length (for_start_kinds start) + length (optional_kinds expr_kinds condition) in
+      let c = at + 2 + length (for_start_kinds start) + length (optional_kinds expr_kinds condition) + 1 + length (optional_kinds expr_kinds step) in
       two at (at + length (statement_kinds (s.For token start condition step body)))
       (two (at + 2) c (two (at + 2) b (for_start_rises start (at + 2) q.0 p.1) (option_rises condition a q.1 p.2) (omega arith) (omega arith) (omega arith))
       (option_rises step (b + 1) q.2 p.3) (omega arith) (omega arith) (omega arith)) (statement_rises body (c + 1) q.3 p.4) (omega arith) (omega arith)
-      (omega (arith, for_long (for_start_kinds start) (optional expr_kinds condition) (optional expr_kinds step) (statement_kinds body)))
+      (omega (arith, for_long (for_start_kinds start) (optional_kinds expr_kinds condition) (optional_kinds expr_kinds step) (statement_kinds body)))
   statement_rises (s.Return token value) at q p =
-      let long = length-append (optional expr_kinds value) (a_sign sign.Semicolon) in
+      let long = length-append (optional_kinds expr_kinds value) (a_sign sign.Semicolon) in
       broad at (at + length (statement_kinds (s.Return token value))) (option_rises value (at + 1) q p.1) (omega arith) (omega (arith, long))
   statement_rises x at q p = nothing at (at + length (statement_kinds x)) (omega arith)
 
@@ -227,12 +227,12 @@ item_rises : (x : ItemTree) (at : ℕ) → ShapedItem x → ItemAt at x → Rise
 item_rises (i.Struct token tag members) at q p = nothing at (at + length (item_kinds (i.Struct token tag members))) (omega arith)
 item_rises (i.Function token b stars name ps None) at q p = nothing at (at + length (item_kinds (i.Function token b stars name ps None))) (omega arith)
 item_rises (i.Function token b stars name ps (Some body)) at q p =
-    let u = length-append (type_kinds b stars ++ a_name name ++ parenthesized (params_kinds ps)) (braced (entry_kinds body)) in
-    let v = length-append (type_kinds b stars ++ a_name name) (parenthesized (params_kinds ps)) in
+    let u = length-append (type_kinds b stars ++ a_name name ++ parenthesized_kinds (params_kinds ps)) (braced_kinds (entry_kinds body)) in
+    let v = length-append (type_kinds b stars ++ a_name name) (parenthesized_kinds (params_kinds ps)) in
     let w = length-append (type_kinds b stars) (a_name name) in
     broad at (at + length (item_kinds (i.Function token b stars name ps (Some body))))
     (entries_rise body (at + length (type_kinds b stars) + 2 + length (params_kinds ps) + 2) q.1 p.3) (omega arith)
-    (omega (arith, u, v, w, brace-length (entry_kinds body), around (params_kinds ps)))
+    (omega (arith, u, v, w, brace-length (entry_kinds body), paren-length (params_kinds ps)))
 item_rises (i.Declaration declaration) at q p = declaration_rises declaration at q p
 
 pub items_rise : (xs : List ItemTree) (at : ℕ) → AllByRecursion ShapedItem xs → EachAt ItemAt item_kinds 0 at xs

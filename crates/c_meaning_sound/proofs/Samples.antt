@@ -7,14 +7,14 @@ use Rattle.c_types_walk.specs.ItemWalk.{walk_body}
 use Rattle.c_types_walk.specs.StatementWalk.{walk_typed}
 use Rattle.c_types_expressions.specs.Walked.{Fine}
 use Rattle.c_meaning_sound.specs.Accepted.{IsAcceptedTree}
-use Rattle.c_meaning_sound.specs.Sample.{sample, sample_walk}
+use Rattle.c_meaning_sound.specs.Sample.{sample_tree, sample_walk}
 use Rattle.c_meaning_sound.specs.Sited.{IsLine, IsSited}
 
-sample_walked : walk_tree sample ≡ Fine tt sample_walk
+sample_walked : walk_tree sample_tree ≡ Fine tt sample_walk
 unfolding walk_body walk_typed
 sample_walked = refl
 
-pub sample_accepted : IsAcceptedTree sample sample_walk
+pub sample_accepted : IsAcceptedTree sample_tree sample_walk
 sample_accepted = record {
   formed = record {
     shaped = record {
@@ -51,7 +51,7 @@ getchar_named = record { begins = refl; runs = refl; short = omega arith }
 first_line : IsLine 1
 first_line = (omega arith, omega arith)
 
-pub sample_sited : IsSited sample
+pub sample_sited : IsSited sample_tree
 sample_sited = record {
   tokens = (
     tt,

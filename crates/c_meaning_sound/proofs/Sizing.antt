@@ -15,7 +15,7 @@ use Rattle.c_types_rules.specs.declared.layout.StructType.{StructType}
 use Rattle.c_types_rules.specs.TypeTree as t
 use Rattle.c_types_rules.specs.Words.{TypeTree, cells_of, empty_struct, is_complete, is_object, struct_cells}
 use Rattle.c_types_expressions.specs.declared.walk.Walk.{Walk}
-use Rattle.c_types_walk.specs.Declarators.{bounded, bounded_by, declared_type, first_bounded, is_bound, is_open, unbounded, with_bounds}
+use Rattle.c_types_walk.specs.Declarators.{bounded_array, bounded_by, declared_type, first_bounded, is_bound, is_open, unbounded_array, with_bounds}
 use Rattle.c_types_expressions.specs.ExprWalk.{with_stars}
 use Rattle.c_meaning.specs.Operation.{is_step_size}
 use Rattle.c_meaning_laws.specs.Rules.{IsObject}
@@ -40,20 +40,20 @@ bound_core None e of u k h = cc
 bound_core (Some c) None of u k h = cc
 bound_core (Some c) (Some v) of u k h = array_core (is_bound c) _ v u h ∙ k v refl
 
-bounded_core : (bs : List Bound) (of u : TypeTree) → bounded bs of ≡ Some u → core u ≡ core of
+bounded_core : (bs : List Bound) (of u : TypeTree) → bounded_array bs of ≡ Some u → core u ≡ core of
 bounded_core [] of u h = ap core (sym (same_Some of u h))
-bounded_core (b ∷ bs) of u h = bound_core b.length (bounded bs of) of u (λ v e. bounded_core bs of v e) h
+bounded_core (b ∷ bs) of u h = bound_core b.length (bounded_array bs of) of u (λ v e. bounded_core bs of v e) h
 
 first_core : (o : Option Constant) (e : Option TypeTree) (of u : TypeTree) → ((v : TypeTree) → e ≡ Some v → core v ≡ core of) → first_bounded o e ≡ Some u
     → core u ≡ core of
 first_core None None of u k h = cc
-first_core None (Some v) of u k h = ap core (sym (same_Some (unbounded v) u h)) ∙ k v refl
+first_core None (Some v) of u k h = ap core (sym (same_Some (unbounded_array v) u h)) ∙ k v refl
 first_core (Some c) None of u k h = cc
 first_core (Some c) (Some v) of u k h = array_core (is_bound c) _ v u h ∙ k v refl
 
 declared_by : (bs : List Bound) (d : Declarator) (of u : TypeTree) → d.bounds ≡ bs → declared_type d of ≡ Some u → core u ≡ core (with_stars d.stars of)
 declared_by [] d of u e h = ap core (sym (same_Some (with_stars d.stars of) u (subst (λ bs. with_bounds bs (with_stars d.stars of) ≡ Some u) e h)))
-declared_by (b ∷ bs) d of u e h = first_core b.length (bounded bs (with_stars d.stars of)) (with_stars d.stars of) u
+declared_by (b ∷ bs) d of u e h = first_core b.length (bounded_array bs (with_stars d.stars of)) (with_stars d.stars of) u
     (λ v k. bounded_core bs (with_stars d.stars of) v k) (subst (λ bs. with_bounds bs (with_stars d.stars of) ≡ Some u) e h)
 
 pub declared_core : (d : Declarator) (of u : TypeTree) → declared_type d of ≡ Some u → core u ≡ core (with_stars d.stars of)

@@ -2,7 +2,6 @@
 use Rattle.std.proofs.Common.{◌⊎◌, inl, inr, ◌≡◌, ℕ, ◌≤◌, ◌<◌, refl, ap, subst, sym, ◌∙◌, arith, Some, None, true, length}
 use Rattle.std.specs.Prelude.{Option, IsTrue, nat_lt, nat_le, slice_get}
 use Rattle.std.proofs.lemmas.Bool.{cases_lt, false≢true, and_parts}
-use Rattle.std.proofs.lemmas.Bool.Decides.{nat_tests}
 use Rattle.std.proofs.lemmas.Option.{slice_get_within}
 use Rattle.base_lists.proofs.Numbers.{is_less, is_most, less_is}
 use Rattle.c_types_expressions.specs.declared.walk.Variable.{Variable}
@@ -10,7 +9,7 @@ use Rattle.c_types_expressions.specs.declared.walk.Variable.TheVariants as varia
 use Rattle.c_types_expressions.specs.declared.walk.VariableEntry.{VariableEntry}
 use Rattle.c_types_expressions.specs.declared.walk.Walk.{Walk}
 use Rattle.c_types.specs.Answers.{ends_behind, scope_holds, span_holds}
-use Rattle.c_types_expressions.specs.Walked.{opened}
+use Rattle.c_types_expressions.specs.Walked.{scope_opened}
 use Rattle.flow.specs.Sites.{slot_fits}
 use Rattle.sites.specs.Visible.{slot_of}
 use Rattle.c_meaning_sound.proofs.Marking.{EndsBefore, IsGlobalBelow, IsLocalBelow, Marks, OuterMarks, after_scope, ends_later, global_more, marks_scoped}
@@ -87,7 +86,7 @@ steps_outer at hi w v m = record {
 }
 
 -- a function with its body
-pub steps_body : (at hi : ℕ) (w v : Walk) → Marks at hi (opened w) v → Steps at hi w (after_scope v)
+pub steps_body : (at hi : ℕ) (w v : Walk) → Marks at hi (scope_opened w) v → Steps at hi w (after_scope v)
 steps_body at hi w v m = record {
   latest = m.latest;
   globals = omega (arith, m.globals);

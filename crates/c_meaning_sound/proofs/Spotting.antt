@@ -8,7 +8,7 @@ use Rattle.c_syntax.specs.declared.token.Sign.TheVariants as sign
 use Rattle.c_syntax.specs.declared.expr.PrefixOperator.{PrefixOperator}
 use Rattle.c_syntax.specs.declared.expr.PrefixOperator.TheVariants as prefix
 use Rattle.c_syntax.specs.ExprTree as e
-use Rattle.c_syntax.specs.Words.{ExprTree, ExprList, LinkList, PostfixList, Kinds, a_sign, expr_kinds, exprs_kinds, link_kinds, more_exprs_kinds, parenthesized}
+use Rattle.c_syntax.specs.Words.{ExprTree, ExprList, LinkList, PostfixList, Kinds, a_sign, expr_kinds, exprs_kinds, link_kinds, more_exprs_kinds, parenthesized_kinds}
 use Rattle.c_syntax.specs.Words.{postfix_kinds, prefix_kinds, type_kinds}
 use Rattle.c_types_rules.specs.declared.library.Library.TheVariants as library
 use Rattle.flow.specs.declared.site.BranchWord.{BranchWord}
@@ -21,7 +21,7 @@ use Rattle.c_meaning.specs.declared.value_type.ValueType.{ValueType}
 use Rattle.c_meaning.specs.Words.{Facts, Signature, Sites, called_as}
 use Rattle.sites.specs.declared.spots.Spot.{Spot}
 use Rattle.sites.specs.declared.spots.Spot.TheVariants as spot
-use Rattle.sites.specs.Spots.{branched, changed, expr_spots, exprs_spots, is_sizeof, joined_spots, joining, links_spots, named_token, postfix_spots, stepped_spots}
+use Rattle.sites.specs.Spots.{branch_spots, change_spots, expr_spots, exprs_spots, is_sizeof, joined_spots, branch_of_sign, links_spots, named_token, postfix_spots, stepped_spots}
 use Rattle.c_meaning_laws.specs.Typed.{CallsFunction, HasSlot, Typed, TypedArguments, TypedCall, TypedLast, TypedLinks, TypedLone, TypedPostfix}
 use Rattle.c_meaning_laws.specs.TypedStatements.{TypedElements}
 use Rattle.c_meaning_sound.specs.Sited.{IsSitedToken}
@@ -30,7 +30,7 @@ use Rattle.c_meaning_sound.specs.Sited.{IsSitedToken}
 pub in_middle : (xs ys zs : Kinds) → AllByRecursion IsSitedToken (xs ++ ys ++ zs) → AllByRecursion IsSitedToken ys
 in_middle xs ys zs h = all_second IsSitedToken xs ys (all_first IsSitedToken (xs ++ ys) zs h)
 
-pub inside : (ks : Kinds) → AllByRecursion IsSitedToken (parenthesized ks) → AllByRecursion IsSitedToken ks
+pub inside : (ks : Kinds) → AllByRecursion IsSitedToken (parenthesized_kinds ks) → AllByRecursion IsSitedToken ks
 inside ks h = all_first IsSitedToken ks (a_sign sign.RightParen) h.1
 
 pub rest_kept : (rest : ExprList) → AllByRecursion IsSitedToken (more_exprs_kinds rest) → AllByRecursion IsSitedToken (exprs_kinds rest)
@@ -57,7 +57,7 @@ module _ (facts : Facts) (sites : Sites) (count : ℕ) where
   pub two_spots : (xs ys : List Spot) → SpotsFit xs → SpotsFit ys → SpotsFit (xs ++ ys)
   two_spots xs ys h k = all_join SpotFits xs ys h k
 
-  changed_fit : (token : ℕ) (target : Option ℕ) → TargetFits target → SpotsFit (changed token target)
+  changed_fit : (token : ℕ) (target : Option ℕ) → TargetFits target → SpotsFit (change_spots token target)
   changed_fit token None h = tt
   changed_fit token (Some target) h = (h, tt)
 
@@ -65,7 +65,7 @@ module _ (facts : Facts) (sites : Sites) (count : ℕ) where
   named_fits (e.Name token name) h = h.1
   named_fits x h = tt
 
-  branched_fit : (token : ℕ) (word : Option BranchWord) → SpotsFit (branched token word)
+  branched_fit : (token : ℕ) (word : Option BranchWord) → SpotsFit (branch_spots token word)
   branched_fit token None = tt
   branched_fit token (Some word) = (tt, tt)
 
@@ -111,8 +111,8 @@ module _ (facts : Facts) (sites : Sites) (count : ℕ) where
 
   stepped_fit : (o : PrefixOperator) (token : ℕ) (target : Option ℕ) (xs : List Spot) → TargetFits target → SpotsFit xs
       → SpotsFit (if is_sizeof o then [] else stepped_spots o token target ++ xs)
-  stepped_fit prefix.Increment token target xs h k = two_spots (changed token target) xs (changed_fit token target h) k
-  stepped_fit prefix.Decrement token target xs h k = two_spots (changed token target) xs (changed_fit token target h) k
+  stepped_fit prefix.Increment token target xs h k = two_spots (change_spots token target) xs (changed_fit token target h) k
+  stepped_fit prefix.Decrement token target xs h k = two_spots (change_spots token target) xs (changed_fit token target h) k
   stepped_fit prefix.SizeOf token target xs h k = tt
   stepped_fit o token target xs h k = k
 
@@ -120,8 +120,8 @@ module _ (facts : Facts) (sites : Sites) (count : ℕ) where
     pub expr_fit : (x : ExprTree) → Typed facts sites count x → AllByRecursion IsSitedToken (expr_kinds x) → SpotsFit (expr_spots x)
     expr_fit (e.Comma token operands) h n = exprs_fit operands (last_all (facts.type_at token) operands h) n
     expr_fit (e.Assign token o target value) h n =
-        two_spots (expr_spots target ++ changed token (named_token target)) (expr_spots value)
-        (two_spots (expr_spots target) (changed token (named_token target))
+        two_spots (expr_spots target ++ change_spots token (named_token target)) (expr_spots value)
+        (two_spots (expr_spots target) (change_spots token (named_token target))
         (expr_fit target h.0 (all_first IsSitedToken (expr_kinds target) (a_sign o) (all_first IsSitedToken (expr_kinds target ++ a_sign o) (expr_kinds value) n)))
         (changed_fit token (named_token target) (named_fits target h.0)))
         (expr_fit value h.1 (all_second IsSitedToken (expr_kinds target ++ a_sign o) (expr_kinds value) n))
@@ -137,7 +137,7 @@ module _ (facts : Facts) (sites : Sites) (count : ℕ) where
     expr_fit (e.Chain level first links) h n =
         two_spots (expr_spots first) (links_spots links) (expr_fit first h.0 (all_first IsSitedToken (expr_kinds first) (link_kinds links) n))
         (links_fit _ links h.2 (all_second IsSitedToken (expr_kinds first) (link_kinds links) n))
-    expr_fit (e.Cast token b stars operand) h n = expr_fit operand h.0 (all_second IsSitedToken (parenthesized (type_kinds b stars)) (expr_kinds operand) n)
+    expr_fit (e.Cast token b stars operand) h n = expr_fit operand h.0 (all_second IsSitedToken (parenthesized_kinds (type_kinds b stars)) (expr_kinds operand) n)
     expr_fit (e.Prefix token o operand) h n =
         stepped_fit o token (named_token operand) (expr_spots operand) (named_fits operand h.0)
         (expr_fit operand h.0 (all_second IsSitedToken (prefix_kinds o) (expr_kinds operand) n))
@@ -169,7 +169,7 @@ module _ (facts : Facts) (sites : Sites) (count : ℕ) where
     links_fit left e.no_links h n = tt
     links_fit left (e.more_links token o operand rest) h n =
         two_spots (joined_spots token o ++ expr_spots operand) (links_spots rest)
-        (two_spots (joined_spots token o) (expr_spots operand) (branched_fit token (joining o))
+        (two_spots (joined_spots token o) (expr_spots operand) (branched_fit token (branch_of_sign o))
         (expr_fit operand h.0 (all_first IsSitedToken (expr_kinds operand) (link_kinds rest) n.1)))
         (links_fit (facts.type_at token) rest h.3 (all_second IsSitedToken (expr_kinds operand) (link_kinds rest) n.1))
 
@@ -185,8 +185,8 @@ module _ (facts : Facts) (sites : Sites) (count : ℕ) where
     postfix_fit known slot of target (e.member token name rest) h n t = postfix_fit true None (facts.type_at token) None rest h.2 n.1.1 tt
     postfix_fit known slot of target (e.arrow token name rest) h n t = postfix_fit true None (facts.type_at token) None rest h.2 n.1.1 tt
     postfix_fit known slot of target (e.increment token rest) h n t =
-        two_spots (changed token target) (postfix_spots None rest) (changed_fit token target t)
+        two_spots (change_spots token target) (postfix_spots None rest) (changed_fit token target t)
         (postfix_fit false None (facts.type_at token) None rest h.2 n.1 tt)
     postfix_fit known slot of target (e.decrement token rest) h n t =
-        two_spots (changed token target) (postfix_spots None rest) (changed_fit token target t)
+        two_spots (change_spots token target) (postfix_spots None rest) (changed_fit token target t)
         (postfix_fit false None (facts.type_at token) None rest h.2 n.1 tt)

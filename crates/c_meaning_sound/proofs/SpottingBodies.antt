@@ -7,9 +7,9 @@ use Rattle.base_lists.proofs.Every.{all_first, all_second}
 use Rattle.c_syntax.specs.declared.token.Sign.TheVariants as sign
 use Rattle.c_syntax.specs.declared.token.Word.TheVariants as word
 use Rattle.c_syntax.specs.ExprTree as e
-use Rattle.c_syntax.specs.Words.{ExprTree, ExprList, LinkList, PostfixList, InitialTree, StartTree, DeclarationTree, ForStartTree, StatementTree, EntryList}
+use Rattle.c_syntax.specs.Words.{ExprTree, ExprList, InitialTree, StartTree, DeclarationTree, ForStartTree, StatementTree, EntryList}
 use Rattle.c_syntax.specs.Words.{Kinds, a_sign, a_word, after_commas, base_kinds, comma_kinds, declaration_kinds, declarator_kinds, entry_kinds, expr_kinds}
-use Rattle.c_syntax.specs.Words.{exprs_kinds, for_start_kinds, initial_kinds, more_exprs_kinds, optional, parenthesized, start_kinds, statement_kinds}
+use Rattle.c_syntax.specs.Words.{exprs_kinds, for_start_kinds, initial_kinds, more_exprs_kinds, optional_kinds, parenthesized_kinds, start_kinds, statement_kinds}
 use Rattle.c_syntax.specs.Words.{with_commas}
 use Rattle.c_syntax.specs.StatementTree as s
 use Rattle.c_types_rules.specs.declared.library.Library.TheVariants as library
@@ -45,7 +45,7 @@ module _ (facts : Facts) (sites : Sites) (count : ℕ) where
   value_fit token o x h n = expr_fit facts sites count x h.0 n
 
   initial_fit : (token : ℕ) (x : Option InitialTree) → IsLocal facts sites count (facts.slot_at token) → TypedInitial facts sites count token x
-      → AllByRecursion IsSitedToken (optional (λ y. a_sign sign.Equal ++ initial_kinds y) x) → SpotsFit facts sites count (initial_spots token x)
+      → AllByRecursion IsSitedToken (optional_kinds (λ y. a_sign sign.Equal ++ initial_kinds y) x) → SpotsFit facts sites count (initial_spots token x)
   initial_fit token None l h n = tt
   initial_fit token (Some (s.Value value)) l h n = (local_slot (facts.slot_at token) l, value_fit token (facts.declared_at token) value h n.1)
   initial_fit token (Some (s.Braced at items comma)) l h n =
@@ -58,12 +58,12 @@ module _ (facts : Facts) (sites : Sites) (count : ℕ) where
   starts_fit (x ∷ []) h n =
       two_spots facts sites count (start_spots x) []
       (initial_fit x.declarator.name_token x.initial h.0 h.1
-      (all_second IsSitedToken (declarator_kinds x.declarator) (optional (λ y. a_sign sign.Equal ++ initial_kinds y) x.initial)
+      (all_second IsSitedToken (declarator_kinds x.declarator) (optional_kinds (λ y. a_sign sign.Equal ++ initial_kinds y) x.initial)
       (all_first IsSitedToken (start_kinds x) [] n))) tt
   starts_fit (x ∷ y ∷ ys) h n =
       two_spots facts sites count (start_spots x) (starts_spots (y ∷ ys))
       (initial_fit x.declarator.name_token x.initial h.0 h.1
-      (all_second IsSitedToken (declarator_kinds x.declarator) (optional (λ y. a_sign sign.Equal ++ initial_kinds y) x.initial)
+      (all_second IsSitedToken (declarator_kinds x.declarator) (optional_kinds (λ y. a_sign sign.Equal ++ initial_kinds y) x.initial)
       (all_first IsSitedToken (start_kinds x) (after_commas start_kinds (y ∷ ys)) n)))
       (starts_fit (y ∷ ys) h.2 (all_second IsSitedToken (start_kinds x) (after_commas start_kinds (y ∷ ys)) n).1)
 
@@ -71,7 +71,7 @@ module _ (facts : Facts) (sites : Sites) (count : ℕ) where
       → SpotsFit facts sites count (declaration_spots x)
   declaration_fit x h n = starts_fit x.starts h (in_middle (base_kinds x.base) (with_commas start_kinds x.starts) (a_sign sign.Semicolon) n)
 
-  part_fit : (x : Option ExprTree) → TypedPart facts sites count x → AllByRecursion IsSitedToken (optional expr_kinds x) → SpotsFit facts sites count (part_spots x)
+  part_fit : (x : Option ExprTree) → TypedPart facts sites count x → AllByRecursion IsSitedToken (optional_kinds expr_kinds x) → SpotsFit facts sites count (part_spots x)
   part_fit None h n = tt
   part_fit (Some x) h n = expr_fit facts sites count x h n
 
@@ -82,7 +82,7 @@ module _ (facts : Facts) (sites : Sites) (count : ℕ) where
   begun_fit : (x : ForStartTree) → TypedBeginning facts sites count x → AllByRecursion IsSitedToken (for_start_kinds x) → SpotsFit facts sites count
       (for_start_spots x)
   begun_fit (s.Declares d) h n = declaration_fit d h n
-  begun_fit (s.Computes x) h n = part_fit x h (all_first IsSitedToken (optional expr_kinds x) (a_sign sign.Semicolon) n)
+  begun_fit (s.Computes x) h n = part_fit x h (all_first IsSitedToken (optional_kinds expr_kinds x) (a_sign sign.Semicolon) n)
 
   for_branch : (token : ℕ) (x : Option ExprTree) → SpotsFit facts sites count (for_spots token x)
   for_branch token None = tt
@@ -124,51 +124,51 @@ module _ (facts : Facts) (sites : Sites) (count : ℕ) where
       tt,
       two_spots facts sites count (expr_spots condition) (statement_spots first)
           (expr_fit facts sites count condition h.0.0
-          (inside (expr_kinds condition) (all_first IsSitedToken (parenthesized (expr_kinds condition)) (statement_kinds first) n.1)))
-          (statement_fit result looping first h.1 (all_second IsSitedToken (parenthesized (expr_kinds condition)) (statement_kinds first) n.1)),
+          (inside (expr_kinds condition) (all_first IsSitedToken (parenthesized_kinds (expr_kinds condition)) (statement_kinds first) n.1)))
+          (statement_fit result looping first h.1 (all_second IsSitedToken (parenthesized_kinds (expr_kinds condition)) (statement_kinds first) n.1)),
     )
     statement_fit result looping (s.IfElse token condition first second) h n =
-        let heads = all_first IsSitedToken (parenthesized (expr_kinds condition) ++ statement_kinds first ++ a_word word.Else) (statement_kinds second) n.1 in
-        let two = all_first IsSitedToken (parenthesized (expr_kinds condition) ++ statement_kinds first) (a_word word.Else) heads in (
+        let heads = all_first IsSitedToken (parenthesized_kinds (expr_kinds condition) ++ statement_kinds first ++ a_word word.Else) (statement_kinds second) n.1 in
+        let two = all_first IsSitedToken (parenthesized_kinds (expr_kinds condition) ++ statement_kinds first) (a_word word.Else) heads in (
           tt,
           two_spots facts sites count (expr_spots condition ++ statement_spots first) (statement_spots second)
               (two_spots facts sites count (expr_spots condition) (statement_spots first)
               (expr_fit facts sites count condition h.0.0
-              (inside (expr_kinds condition) (all_first IsSitedToken (parenthesized (expr_kinds condition)) (statement_kinds first) two)))
-              (statement_fit result looping first h.1 (all_second IsSitedToken (parenthesized (expr_kinds condition)) (statement_kinds first) two)))
+              (inside (expr_kinds condition) (all_first IsSitedToken (parenthesized_kinds (expr_kinds condition)) (statement_kinds first) two)))
+              (statement_fit result looping first h.1 (all_second IsSitedToken (parenthesized_kinds (expr_kinds condition)) (statement_kinds first) two)))
               (statement_fit result looping second h.2
-              (all_second IsSitedToken (parenthesized (expr_kinds condition) ++ statement_kinds first ++ a_word word.Else) (statement_kinds second) n.1)),
+              (all_second IsSitedToken (parenthesized_kinds (expr_kinds condition) ++ statement_kinds first ++ a_word word.Else) (statement_kinds second) n.1)),
         )
     statement_fit result looping (s.While token condition body) h n = (
       tt,
       two_spots facts sites count (expr_spots condition) (statement_spots body)
           (expr_fit facts sites count condition h.0.0
-          (inside (expr_kinds condition) (all_first IsSitedToken (parenthesized (expr_kinds condition)) (statement_kinds body) n.1)))
-          (statement_fit result true body h.1 (all_second IsSitedToken (parenthesized (expr_kinds condition)) (statement_kinds body) n.1)),
+          (inside (expr_kinds condition) (all_first IsSitedToken (parenthesized_kinds (expr_kinds condition)) (statement_kinds body) n.1)))
+          (statement_fit result true body h.1 (all_second IsSitedToken (parenthesized_kinds (expr_kinds condition)) (statement_kinds body) n.1)),
     )
     statement_fit result looping (s.Do token body condition) h n =
-        let heads = all_first IsSitedToken (statement_kinds body ++ a_word word.While ++ parenthesized (expr_kinds condition)) (a_sign sign.Semicolon) n.1 in (
+        let heads = all_first IsSitedToken (statement_kinds body ++ a_word word.While ++ parenthesized_kinds (expr_kinds condition)) (a_sign sign.Semicolon) n.1 in (
           tt,
           two_spots facts sites count (statement_spots body) (expr_spots condition)
               (statement_fit result true body h.1 (all_first IsSitedToken (statement_kinds body) (a_word word.While)
-              (all_first IsSitedToken (statement_kinds body ++ a_word word.While) (parenthesized (expr_kinds condition)) heads)))
+              (all_first IsSitedToken (statement_kinds body ++ a_word word.While) (parenthesized_kinds (expr_kinds condition)) heads)))
               (expr_fit facts sites count condition h.0.0
-              (inside (expr_kinds condition) (all_second IsSitedToken (statement_kinds body ++ a_word word.While) (parenthesized (expr_kinds condition)) heads))),
+              (inside (expr_kinds condition) (all_second IsSitedToken (statement_kinds body ++ a_word word.While) (parenthesized_kinds (expr_kinds condition)) heads))),
         )
     statement_fit result looping (s.For token start condition step body) h n =
-        let head : Kinds = for_start_kinds start ++ optional expr_kinds condition ++ a_sign sign.Semicolon ++ optional expr_kinds step in
-        let parts = inside head (all_first IsSitedToken (parenthesized head) (statement_kinds body) n.1) in
-        let three = all_first IsSitedToken (for_start_kinds start ++ optional expr_kinds condition ++ a_sign sign.Semicolon) (optional expr_kinds step) parts in
-        let two = all_first IsSitedToken (for_start_kinds start ++ optional expr_kinds condition) (a_sign sign.Semicolon) three in
+        let head : Kinds = for_start_kinds start ++ optional_kinds expr_kinds condition ++ a_sign sign.Semicolon ++ optional_kinds expr_kinds step in
+        let parts = inside head (all_first IsSitedToken (parenthesized_kinds head) (statement_kinds body) n.1) in
+        let three = all_first IsSitedToken (for_start_kinds start ++ optional_kinds expr_kinds condition ++ a_sign sign.Semicolon) (optional_kinds expr_kinds step) parts in
+        let two = all_first IsSitedToken (for_start_kinds start ++ optional_kinds expr_kinds condition) (a_sign sign.Semicolon) three in
         two_spots facts sites count (for_spots token condition ++ for_start_spots start ++ part_spots condition ++ part_spots step) (statement_spots body)
         (two_spots facts sites count (for_spots token condition ++ for_start_spots start ++ part_spots condition) (part_spots step)
         (two_spots facts sites count (for_spots token condition ++ for_start_spots start) (part_spots condition)
         (two_spots facts sites count (for_spots token condition) (for_start_spots start) (for_branch token condition)
-        (begun_fit start h.0 (all_first IsSitedToken (for_start_kinds start) (optional expr_kinds condition) two)))
-        (part_fit condition (test_part condition h.1) (all_second IsSitedToken (for_start_kinds start) (optional expr_kinds condition) two)))
-        (part_fit step h.2 (all_second IsSitedToken (for_start_kinds start ++ optional expr_kinds condition ++ a_sign sign.Semicolon)
-        (optional expr_kinds step) parts)))
-        (statement_fit result true body h.3 (all_second IsSitedToken (parenthesized head) (statement_kinds body) n.1))
+        (begun_fit start h.0 (all_first IsSitedToken (for_start_kinds start) (optional_kinds expr_kinds condition) two)))
+        (part_fit condition (test_part condition h.1) (all_second IsSitedToken (for_start_kinds start) (optional_kinds expr_kinds condition) two)))
+        (part_fit step h.2 (all_second IsSitedToken (for_start_kinds start ++ optional_kinds expr_kinds condition ++ a_sign sign.Semicolon)
+        (optional_kinds expr_kinds step) parts)))
+        (statement_fit result true body h.3 (all_second IsSitedToken (parenthesized_kinds head) (statement_kinds body) n.1))
     statement_fit result looping (s.Return token None) h n = tt
     statement_fit result looping (s.Return token (Some x)) h n = expr_fit facts sites count x h.0 (all_first IsSitedToken (expr_kinds x) (a_sign sign.Semicolon) n.1)
     statement_fit result looping (s.Break token) h n = tt

@@ -1,10 +1,9 @@
 -- Each site of an accepted text stands in one of its functions, at a line and a token that programs have, and looks at what is there.
 use Rattle.std.proofs.Common.{◌≡◌, ℕ, zero, suc, ◌≤◌, ◌<◌, refl, ap, subst, sym, ◌∙◌, arith, List, [], ◌∷◌, ◌++◌, Some, None, ◌+◌, Bool, true, false, length}
-use Rattle.std.specs.Prelude.{Option, ℤ, IsTrue, map, sum_by, slice_get, not, nat_lt, ◌==◌, ◌&&◌, if◌then◌else◌, option_map}
+use Rattle.std.specs.Prelude.{Option, ℤ, IsTrue, map, sum_by, slice_get, not, ◌==◌, ◌&&◌, if◌then◌else◌, option_map}
 use Rattle.std.specs.List.{All, AllByRecursion, flat_map, list_any}
 use Rattle.std.specs.Ordering.{int_eq}
 use Rattle.std.specs.Option.{option_and_then}
-use Rattle.std.proofs.lemmas.Bool.Decides.{nat_tests}
 use Rattle.std.proofs.lemmas.List.Elements.{All-append, All-map, All-nil, All-cons, All-weaker}
 use Rattle.std.proofs.lemmas.Option.{slice_get_within}
 use Rattle.std.proofs.lemmas.Bool.{and_parts}
@@ -14,7 +13,7 @@ use Rattle.base_lists.proofs.Every.{all_first, all_second}
 use Rattle.cbi_base.specs.Name.{IsName}
 use Rattle.c_syntax.specs.declared.token.Sign.TheVariants as sign
 use Rattle.c_syntax.specs.Words.{EntryList, ItemTree, SourceTree, EachAt, EntriesAt, ItemAt, a_name, a_sign, body_kinds, entry_kinds, item_kinds, params_kinds}
-use Rattle.c_syntax.specs.Words.{parenthesized, tree_kinds, type_kinds, kind_text_len, IsShaped}
+use Rattle.c_syntax.specs.Words.{parenthesized_kinds, tree_kinds, type_kinds, kind_text_len, IsShaped}
 use Rattle.c_syntax.specs.ItemTree as item
 use Rattle.c_types_rules.specs.Words.{is_arithmetic, TypeTree}
 use Rattle.c_types_expressions.specs.declared.walk.Definition.{Definition}
@@ -23,7 +22,7 @@ use Rattle.c_types_expressions.specs.declared.walk.Variable.TheVariants as varia
 use Rattle.c_types_expressions.specs.declared.walk.VariableEntry.{VariableEntry}
 use Rattle.c_types_expressions.specs.declared.walk.Walk.{Walk}
 use Rattle.c_types.specs.Answers.{declared_at, place_at, scope_holds, type_at, variable_at, variable_of}
-use Rattle.c_types_expressions.specs.Words.{beginning, Fine}
+use Rattle.c_types_expressions.specs.Words.{empty_walk, Fine}
 use Rattle.c_types.specs.Fault.{walk_tree}
 use Rattle.c_types.proofs.NotedItems.{text_notes}
 use Rattle.c_types.proofs.NumberLaws.{variables_are}
@@ -245,7 +244,7 @@ module _ (tree : SourceTree) (z : Walk) (ends : Ended tree z) (sums : Sums z) (s
   item_stands : (x : ItemTree) (n at : ℕ) → Own n at (at + length (item_kinds x) + 0) x → ItemAt at x → AllByRecursion IsSitedToken (item_kinds x)
       → Every (item_sites z tree.lines schemes n x)
   item_stands (item.Function token b stars name ps (Some body)) n at k p q =
-      let behind = all_second IsSitedToken (type_kinds b stars ++ a_name name ++ parenthesized (params_kinds ps)) (body_kinds (Some body)) q in
+      let behind = all_second IsSitedToken (type_kinds b stars ++ a_name name ++ parenthesized_kinds (params_kinds ps)) (body_kinds (Some body)) q in
       body_stands n at (at + length (item_kinds (item.Function token b stars name ps (Some body))) + 0)
       (at + length (type_kinds b stars) + 2 + length (params_kinds ps) + 2) body k (omega arith)
       (omega (arith, body_long tree z b stars name ps token body)) p.3
@@ -277,8 +276,8 @@ sites_stand tree z schemes s h l q n lined few =
     let ends : Ended tree z = tree_ended tree z s h in
     let sums : Sums z = tree_sums tree z s h in
     let long : length z.declared_types ≡ length z.variables = (text_notes tree z h).1.0 in
-    let k : Extended tree z ends sums (body_good tree z ends) (global_good tree z ends) long 0 (beginning (length tree.lines)) tree.items =
-    items_extent tree z ends sums (body_good tree z ends) (global_good tree z ends) long tree.items (length tree.lines) 0 (beginning (length tree.lines)) tt
+    let k : Extended tree z ends sums (body_good tree z ends) (global_good tree z ends) long 0 (empty_walk (length tree.lines)) tree.items =
+    items_extent tree z ends sums (body_good tree z ends) (global_good tree z ends) long tree.items (length tree.lines) 0 (empty_walk (length tree.lines)) tt
     s.items s.placed (all_spelled tree s.items s.placed (strings_short tree 1048575 l)) q (record { structs = tt; functions = tt })
     (begins_standing tree z (length tree.lines)) (begins_tagged tree z (length tree.lines))
     (record { long = refl; latest = λ n p q. q; past = λ i entry e. cc }) (omega (arith, s.lines)) (tree_is tree z h).items in

@@ -6,13 +6,13 @@ use Rattle.c_syntax.specs.declared.parts.Params.TheVariants as params
 use Rattle.c_syntax.specs.ItemTree as item
 use Rattle.c_syntax.specs.ItemTree.{SourceTree}
 use Rattle.c_types_expressions.specs.declared.walk.Walk.{Walk}
-use Rattle.c_types_expressions.specs.Beginning.{beginning}
+use Rattle.c_types_expressions.specs.Beginning.{empty_walk}
 use Rattle.c_types.specs.Fault.{known_at_end, walk_tree}
 use Rattle.c_meaning_laws.specs.Example.{example_body}
 
-abbrev pub sample : SourceTree
-sample = record { items = item.Function 0 (base.Int 0) 0 (codes "main") params.Void (Some example_body) ∷ []; lines = replicate 24 1 }
+abbrev pub sample_tree : SourceTree
+sample_tree = record { items = item.Function 0 (base.Int 0) 0 (codes "main") params.Void (Some example_body) ∷ []; lines = replicate 24 1 }
 
 -- what the walk through it comes to
 abbrev pub sample_walk : Walk
-sample_walk = unwrap_or (known_at_end (walk_tree sample)) (beginning 24)
+sample_walk = unwrap_or (known_at_end (walk_tree sample_tree)) (empty_walk 24)

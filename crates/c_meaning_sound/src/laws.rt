@@ -10,7 +10,7 @@ ghost use Rattle.flow.specs.declared.choice.Schemes.{Schemes};
 ghost use Rattle.sites.specs.Table.{sites_of};
 ghost use Rattle.c_meaning_laws.specs.TypedText.{TypedText};
 ghost use Rattle.c_meaning_sound.specs.Accepted.{IsAcceptedTree};
-ghost use Rattle.c_meaning_sound.specs.Sample.{sample, sample_walk};
+ghost use Rattle.c_meaning_sound.specs.Sample.{sample_tree, sample_walk};
 ghost use Rattle.c_meaning_sound.specs.Sited.{IsSited, local_counts};
 
 /// The types of an accepted text fit, with its site table for any schemes and without sites. So no run of it comes to trap Internal, on any
@@ -27,7 +27,7 @@ pub fn an_accepted_text_never_faults()
         → (text_meaning tree walk (sites_of tree walk schemes) input turns).outcome ≡ (text_meaning tree walk [] input turns).outcome }
     ensures output { (tree : SourceTree) (walk : Walk) (schemes : Schemes) (input : List ℕ) (turns : ℕ) → IsAcceptedTree tree walk
         → (text_meaning tree walk (sites_of tree walk schemes) input turns).output ≡ (text_meaning tree walk [] input turns).output }
-    ensures example { IsAcceptedTree sample sample_walk }
+    ensures example { IsAcceptedTree sample_tree sample_walk }
 {}
 
 /// Each site of an accepted text is one that a program takes, where the text's tokens keep names, constants and lines: it stands in one of the
@@ -35,5 +35,5 @@ pub fn an_accepted_text_never_faults()
 pub fn sites_of_an_accepted_text_stand()
     ensures stand { (tree : SourceTree) (walk : Walk) (schemes : Schemes) → IsAcceptedTree tree walk → IsSited tree
         → All (IsSite (local_counts walk) walk.globals) (sites_of tree walk schemes) }
-    ensures example { IsSited sample }
+    ensures example { IsSited sample_tree }
 {}

@@ -6,7 +6,7 @@ use Rattle.c_syntax.specs.declared.tree.Tree.{Tree}
 use Rattle.c_syntax.specs.Words.{ItemTree, SourceTree, Kinds, tree_kinds, tree_nesting, IsShaped, plain_tree}
 use Rattle.c_parser.specs.declared.error.ParseError.{ParseError}
 use Rattle.c_parser.specs.declared.error.ParseError.TheVariants as error
-use Rattle.c_parser_expressions.specs.Reading.{Cursor, Same, Read, Outcome}
+use Rattle.c_parser_expressions.specs.Reading.{Cursor, SameUpTo, Read, Outcome}
 use Rattle.c_parser_expressions.specs.Steps.{Step, all_of}
 use Rattle.c_parser_items.specs.Items.{item, AreItems, items}
 use Rattle.c_parser_items.specs.ItemParser.{item_by}
@@ -39,13 +39,13 @@ listing d le = record { is = λ c. step-is d c c.rest le refl }
 same-items : (d : ℕ) (xs ys : List ItemTree) (r : Read (List ItemTree)) → Outcome (items d) (record { at = 0; rest = kinds xs }) r → AreItems d 0 xs
     → AreItems d 0 ys → kinds xs ≡ kinds ys → xs ≡ ys
 same-items d xs ys (Ok p) f x_are y_are h =
-    let x_same : Same p.1.at 0 (kinds xs) (kinds xs ++ []) =
-    subst (λ (v : Kinds). Same p.1.at 0 (kinds xs) v) (sym (append-nil (kinds xs))) (same-all p.1.at 0 (kinds xs)) in
-    let y_same : Same p.1.at 0 (kinds xs) (kinds ys ++ []) =
-    subst (λ (v : Kinds). Same p.1.at 0 (kinds xs) v) (h ∙ sym (append-nil (kinds ys))) (same-all p.1.at 0 (kinds xs)) in
+    let x_same : SameUpTo p.1.at 0 (kinds xs) (kinds xs ++ []) =
+    subst (λ (v : Kinds). SameUpTo p.1.at 0 (kinds xs) v) (sym (append-nil (kinds xs))) (same-all p.1.at 0 (kinds xs)) in
+    let y_same : SameUpTo p.1.at 0 (kinds xs) (kinds ys ++ []) =
+    subst (λ (v : Kinds). SameUpTo p.1.at 0 (kinds xs) v) (h ∙ sym (append-nil (kinds ys))) (same-all p.1.at 0 (kinds xs)) in
     f.only xs [] p.1.at x_are (record { none = refl }) (omega arith) x_same ∙ sym (f.only ys [] p.1.at y_are (record { none = refl }) (omega arith) y_same)
 same-items d xs ys (Err i) f x_are y_are h =
-    absurd (f.none xs [] x_are (record { none = refl }) (subst (λ (v : Kinds). Same i 0 (kinds xs) v) (sym (append-nil (kinds xs)))
+    absurd (f.none xs [] x_are (record { none = refl }) (subst (λ (v : Kinds). SameUpTo i 0 (kinds xs) v) (sym (append-nil (kinds xs)))
     (same-all i 0 (kinds xs))))
 
 shaped-items : (d : ℕ) (t : SourceTree) → IsShaped t → tree_nesting t ≤ d → AreItems d 0 t.items

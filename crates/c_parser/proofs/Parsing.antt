@@ -6,7 +6,7 @@ use Rattle.std.proofs.Math.Seq.{take-append_seam}
 use Rattle.c_syntax.specs.declared.token.Token.{Token}
 use Rattle.c_syntax.specs.declared.token.TokenKind.{TokenKind}
 use Rattle.c_syntax.specs.Words.{ItemTree, SourceTree, Kinds, tree_kinds, HasOne, kinds_of, lines_of, IsWellFormed}
-use Rattle.c_parser_expressions.specs.Reading.{Cursor, Same, Found, Fails}
+use Rattle.c_parser_expressions.specs.Reading.{Cursor, SameUpTo, Found, Fails}
 use Rattle.c_parser_items.specs.Items.{item, AreItems, items}
 use Rattle.c_parser.specs.Parsed.{IsTreeOf, FirstHaveTree, IsDead, Refuses}
 use Rattle.c_parser_expressions.proofs.Laws.{same-all}
@@ -16,16 +16,16 @@ abbrev pub beginning : List Token → Cursor
 beginning ts = record { at = 0; rest = kinds_of ts }
 
 -- tokens that begin as others do agree with them so far
-begin-same : (n at : ℕ) (ks more : Kinds) → n < length ks → Same (at + n) at ks (take (n + 1) ks ++ more)
+begin-same : (n at : ℕ) (ks more : Kinds) → n < length ks → SameUpTo (at + n) at ks (take (n + 1) ks ++ more)
 begin-same n at [] more h = absurd (omega arith)
 begin-same zero at (x ∷ ks) more h = (refl, λ below. absurd (omega arith))
 begin-same (suc n) at (x ∷ ks) more h =
     let one : suc n + 1 ≡ suc (n + 1) = omega arith in
     let here : at + 1 + n ≡ at + suc n = omega arith in
-    let tail : Same (at + 1 + n) (at + 1) ks (take (n + 1) ks ++ more) = begin-same n (at + 1) ks more (omega arith) in
-    let tail2 : Same (at + suc n) (at + 1) ks (take (n + 1) ks ++ more) = subst (λ (m : ℕ). Same m (at + 1) ks (take (n + 1) ks ++ more)) here tail in
-    let whole : Same (at + suc n) at (x ∷ ks) (take (suc (n + 1)) (x ∷ ks) ++ more) = (refl, λ below. tail2) in
-    subst (λ (m : ℕ). Same (at + suc n) at (x ∷ ks) (take m (x ∷ ks) ++ more)) (sym one) whole
+    let tail : SameUpTo (at + 1 + n) (at + 1) ks (take (n + 1) ks ++ more) = begin-same n (at + 1) ks more (omega arith) in
+    let tail2 : SameUpTo (at + suc n) (at + 1) ks (take (n + 1) ks ++ more) = subst (λ (m : ℕ). SameUpTo m (at + 1) ks (take (n + 1) ks ++ more)) here tail in
+    let whole : SameUpTo (at + suc n) at (x ∷ ks) (take (suc (n + 1)) (x ∷ ks) ++ more) = (refl, λ below. tail2) in
+    subst (λ (m : ℕ). SameUpTo (at + suc n) at (x ∷ ks) (take m (x ∷ ks) ++ more)) (sym one) whole
 
 items-of : (t : SourceTree) → IsWellFormed t → AreItems 200 0 t.items
 items-of t w = record { shaped = w.shaped.items; nests = w.nests; placed = w.shaped.placed }
@@ -38,8 +38,8 @@ tree-of xs lines some are long = record { shaped = record { has_item = some; ite
 -- no tree has the tokens
 none-has : (ts : List Token) (last : ℕ) → Fails (items 200) (beginning ts) last → (t : SourceTree) → IsWellFormed t → tree_kinds t ≡ kinds_of ts → ⊥
 none-has ts last f t w h =
-    let same : Same last 0 (kinds_of ts) (tree_kinds t ++ []) =
-    subst (λ (v : Kinds). Same last 0 (kinds_of ts) v) (sym h ∙ sym (append-nil (tree_kinds t))) (same-all last 0 (kinds_of ts)) in
+    let same : SameUpTo last 0 (kinds_of ts) (tree_kinds t ++ []) =
+    subst (λ (v : Kinds). SameUpTo last 0 (kinds_of ts) v) (sym h ∙ sym (append-nil (tree_kinds t))) (same-all last 0 (kinds_of ts)) in
     f.none t.items [] (items-of t w) (record { none = refl }) same
 
 -- nor begins with those up to the index
@@ -47,11 +47,11 @@ dead-at : (ts : List Token) (index : ℕ) → Fails (items 200) (beginning ts) i
 dead-at ts index f low = record {
   none = λ t more w h.
       (let few : index < length (kinds_of ts) = omega (arith, length-map ts (λ (t : Token). t.kind)) in
-      let same : Same (0 + index) 0 (kinds_of ts) (take (index + 1) (kinds_of ts) ++ more) = begin-same index 0 (kinds_of ts) more few in
+      let same : SameUpTo (0 + index) 0 (kinds_of ts) (take (index + 1) (kinds_of ts) ++ more) = begin-same index 0 (kinds_of ts) more few in
       let here : 0 + index ≡ index = omega arith in
-      let same2 : Same index 0 (kinds_of ts) (take (index + 1) (kinds_of ts) ++ more) =
-      subst (λ (m : ℕ). Same m 0 (kinds_of ts) (take (index + 1) (kinds_of ts) ++ more)) here same in
-      f.none t.items [] (items-of t w) (record { none = refl }) (subst (λ (v : Kinds). Same index 0 (kinds_of ts) v)
+      let same2 : SameUpTo index 0 (kinds_of ts) (take (index + 1) (kinds_of ts) ++ more) =
+      subst (λ (m : ℕ). SameUpTo m 0 (kinds_of ts) (take (index + 1) (kinds_of ts) ++ more)) here same in
+      f.none t.items [] (items-of t w) (record { none = refl }) (subst (λ (v : Kinds). SameUpTo index 0 (kinds_of ts) v)
       (sym h ∙ sym (append-nil (tree_kinds t))) same2));
 }
 

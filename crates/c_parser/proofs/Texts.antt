@@ -8,7 +8,7 @@ use Rattle.c_syntax.specs.declared.parts.Base.{Base}
 use Rattle.c_syntax.specs.declared.parts.Base.TheVariants as base_is
 use Rattle.c_syntax.specs.ItemTree as i
 use Rattle.c_syntax.specs.Words.{ItemTree, Kinds, item_kinds, base_kinds, EachAt, ItemAt}
-use Rattle.c_parser_expressions.specs.Reading.{Cursor, Same, Found, Fails}
+use Rattle.c_parser_expressions.specs.Reading.{Cursor, SameUpTo, Found, Fails}
 use Rattle.c_parser_items.specs.Items.{IsItem, item, AreItems, IsEnd, items}
 use Rattle.c_parser_expressions.proofs.Laws.{same-all, Leads, leads-found, leads-fails, leads-trans, leads-wrap, found-takes}
 
@@ -31,15 +31,15 @@ item-some (i.Declaration d) = longer _ _ (longer (base_kinds d.base) _ (base-som
 abbrev pub kinds : List ItemTree → Kinds
 kinds xs = flat_map item_kinds xs
 
-nothing-longer : (last at : ℕ) (a k : Kinds) → 1 ≤ length a → Same last at [] (a ++ k) → ⊥
+nothing-longer : (last at : ℕ) (a k : Kinds) → 1 ≤ length a → SameUpTo last at [] (a ++ k) → ⊥
 nothing-longer last at [] k h same = absurd (omega arith)
 nothing-longer last at (x ∷ a) k h same = same
 
-no-item : (last at : ℕ) (xs : List ItemTree) (k : Kinds) → Same last at [] (kinds xs ++ k) → xs ≡ []
+no-item : (last at : ℕ) (xs : List ItemTree) (k : Kinds) → SameUpTo last at [] (kinds xs ++ k) → xs ≡ []
 no-item last at [] k same = refl
 no-item last at (x ∷ xs) k same =
     absurd (nothing-longer last at (item_kinds x) (kinds xs ++ k) (item-some x)
-    (subst (λ (v : Kinds). Same last at [] v) (append_assoc (item_kinds x) (kinds xs) k) same))
+    (subst (λ (v : Kinds). SameUpTo last at [] v) (append_assoc (item_kinds x) (kinds xs) k) same))
 
 -- at the end
 pub items-end : (d : ℕ) (c : Cursor) → c.rest ≡ [] → Found (items d) c [] c
@@ -47,7 +47,7 @@ items-end d c h = record {
   is = record { shaped = tt; nests = omega arith; placed = tt };
   spelled = refl;
   moved = (let e : c.at ≡ c.at + length {A = TokenKind} [] = omega arith in e);
-  only = λ xs k last are ends le same. no-item last c.at xs k (subst (λ (v : Kinds). Same last c.at v (kinds xs ++ k)) h same);
+  only = λ xs k last are ends le same. no-item last c.at xs k (subst (λ (v : Kinds). SameUpTo last c.at v (kinds xs ++ k)) h same);
 }
 
 head-is : (d at : ℕ) (x : ItemTree) (xs : List ItemTree) → AreItems d at (x ∷ xs) → IsItem d at x
@@ -77,7 +77,7 @@ both-are d at x xs is are =
       );
     }
 
-end-same : (last at : ℕ) (ks k : Kinds) → IsEnd k → Same last at ks k → ks ≡ []
+end-same : (last at : ℕ) (ks k : Kinds) → IsEnd k → SameUpTo last at ks k → ks ≡ []
 end-same last at [] k ends same = refl
 end-same last at (t ∷ ks) [] ends same = absurd same
 end-same last at (t ∷ ks) (u ∷ k) ends same = let none = ends.none in cc
@@ -90,12 +90,12 @@ not-end c to x d f h =
 
 -- an item that was read is the first of what agrees
 item-back : (d : ℕ) (c to : Cursor) (x : ItemTree) (ys : List ItemTree) (k : Kinds) (last : ℕ) → Found (item d) c x to → (c.rest ≡ [] → ⊥)
-    → AreItems d c.at ys → IsEnd k → to.at ≤ last → Same last c.at c.rest (kinds ys ++ k)
+    → AreItems d c.at ys → IsEnd k → to.at ≤ last → SameUpTo last c.at c.rest (kinds ys ++ k)
     → (zs : List ItemTree) × (ys ≡ x ∷ zs) × AreItems d to.at zs × IsEnd k
 item-back d c to x [] k last f some are ends le same = absurd (some (end-same last c.at c.rest k ends same))
 item-back d c to x (y ∷ ys) k last f some are ends le same =
-    let s : Same last c.at c.rest (item_kinds y ++ (kinds ys ++ k)) =
-    subst (λ (v : Kinds). Same last c.at c.rest v) (append_assoc (item_kinds y) (kinds ys) k) same in
+    let s : SameUpTo last c.at c.rest (item_kinds y ++ (kinds ys ++ k)) =
+    subst (λ (v : Kinds). SameUpTo last c.at c.rest v) (append_assoc (item_kinds y) (kinds ys) k) same in
     let one : y ≡ x = f.only y (kinds ys ++ k) last (head-is d c.at y ys are) (record {}) le s in
     let at : c.at + length (item_kinds y) ≡ to.at = ap (λ (v : ItemTree). c.at + length (item_kinds v)) one ∙ sym f.moved in
     (ys, ap (λ (v : ItemTree). v ∷ ys) one, subst (λ (n : ℕ). AreItems d n ys) at (tail-are d c.at y ys are), ends)
@@ -111,10 +111,10 @@ item-leads d c to x f = record {
 }
 
 none-of : (d : ℕ) (c : Cursor) (last : ℕ) (ys : List ItemTree) (k : Kinds) → (c.rest ≡ [] → ⊥) → Fails (item d) c last → AreItems d c.at ys → IsEnd k
-    → Same last c.at c.rest (kinds ys ++ k) → ⊥
+    → SameUpTo last c.at c.rest (kinds ys ++ k) → ⊥
 none-of d c last [] k some f are ends same = some (end-same last c.at c.rest k ends same)
 none-of d c last (y ∷ ys) k some f are ends same =
-    f.none y (kinds ys ++ k) (head-is d c.at y ys are) (record {}) (subst (λ (v : Kinds). Same last c.at c.rest v)
+    f.none y (kinds ys ++ k) (head-is d c.at y ys are) (record {}) (subst (λ (v : Kinds). SameUpTo last c.at c.rest v)
     (append_assoc (item_kinds y) (kinds ys) k) same)
 
 -- a refusal of an item is one of the items
@@ -139,8 +139,8 @@ further : (d : ℕ) (c to : Cursor) (x : ItemTree) (total : ℕ) (k : Kinds) (zs
 further d c to x total k [] f are h sum = let moved = f.moved in inl (omega arith)
 further d c to x total k (y ∷ zs) f are h sum =
     let whole : c.rest ≡ item_kinds y ++ (kinds zs ++ k) = h ∙ append_assoc (item_kinds y) (kinds zs) k in
-    let same : Same to.at c.at c.rest (item_kinds y ++ (kinds zs ++ k)) =
-    subst (λ (v : Kinds). Same to.at c.at c.rest v) whole (same-all to.at c.at c.rest) in
+    let same : SameUpTo to.at c.at c.rest (item_kinds y ++ (kinds zs ++ k)) =
+    subst (λ (v : Kinds). SameUpTo to.at c.at c.rest v) whole (same-all to.at c.at c.rest) in
     let one : y ≡ x = f.only y (kinds zs ++ k) to.at (head-is d c.at y zs are) (record {}) (omega arith) same in
     let moved : to.at ≡ c.at + length (item_kinds y) = f.moved ∙ ap (λ (v : ItemTree). c.at + length (item_kinds v)) (sym one) in
     let both : item_kinds y ++ to.rest ≡ item_kinds y ++ (kinds zs ++ k) = ap (λ (v : ItemTree). item_kinds v ++ to.rest) one ∙ sym f.spelled ∙ whole in
@@ -178,7 +178,7 @@ none-longer : (d : ℕ) (c : Cursor) (last : ℕ) (zs : List ItemTree) (k : Kind
 none-longer d c last [] k f are h = refl
 none-longer d c last (y ∷ zs) k f are h =
     let whole : c.rest ≡ item_kinds y ++ (kinds zs ++ k) = h ∙ append_assoc (item_kinds y) (kinds zs) k in
-    absurd (f.none y (kinds zs ++ k) (head-is d c.at y zs are) (record {}) (subst (λ (v : Kinds). Same last c.at c.rest v) whole (same-all last c.at c.rest)))
+    absurd (f.none y (kinds zs ++ k) (head-is d c.at y zs are) (record {}) (subst (λ (v : Kinds). SameUpTo last c.at c.rest v) whole (same-all last c.at c.rest)))
 
 pub reached-longest : (d : ℕ) (start c : Cursor) (xs : List ItemTree) (last : ℕ) → Reached d start c xs → Fails (item d) c last
     → (ys : List ItemTree) (k : Kinds) → AreItems d start.at ys → start.rest ≡ kinds ys ++ k → start.at + length (kinds ys) ≤ c.at

@@ -1,5 +1,5 @@
 -- What the loops over parts of declarations keep.
-use Rattle.std.proofs.Common.{◌≡◌, ℕ, zero, suc, ◌-◌, ◌≤◌, ◌<◌, true, List, [], ◌∷◌, ◌++◌, Bool, Ok, Err, refl, sym, ap, ◌∙◌, subst, append_assoc, arith}
+use Rattle.std.proofs.Common.{◌≡◌, ℕ, zero, suc, ◌-◌, ◌≤◌, ◌<◌, true, List, [], ◌∷◌, ◌++◌, Bool, Ok, Err, refl, sym, ap, ◌∙◌, subst, arith}
 use Rattle.c_parser_expressions.proofs.Many.{front_more}
 use Rattle.base_lists.proofs.Numbers.{suc_zero_test}
 use Rattle.c_syntax.specs.declared.token.Sign.TheVariants as sign_is
@@ -7,8 +7,8 @@ use Rattle.c_syntax.specs.declared.parts.Bound.{Bound}
 use Rattle.c_syntax.specs.Words.{ExprTree, expr_list}
 use Rattle.c_syntax.specs.StatementTree as s
 use Rattle.c_parser_expressions.specs.declared.stop.Stop.TheVariants as stop
-use Rattle.c_parser_expressions.specs.Reading.{Cursor, Read, after}
-use Rattle.c_parser_expressions.specs.Marks.{stands}
+use Rattle.c_parser_expressions.specs.Reading.{Cursor, Read, next_cursor}
+use Rattle.c_parser_expressions.specs.Marks.{begins_with_sign}
 use Rattle.c_parser_expressions.specs.Steps.{◌>>=◌, with_front, all_of, Advances, the_sign}
 use Rattle.c_parser_expressions.specs.ExpressionParser.{deeper_than, assignment_by}
 use Rattle.c_parser_declarations.specs.Declarations.{items_end, start_rule, starts_end}
@@ -37,13 +37,13 @@ one-bound r more x to h = ap (λ (v : Read Bound). ◌>>=◌ {A = Bound × Curso
     (λ p. ◌>>=◌ {A = List Bound × Cursor} {B = List Bound × Cursor} (more p.1) (λ q. Ok (p.0 ∷ q.0, q.1)))) h ∙ bound-front x (more to)
 
 pub bounds_more : (left : ℕ) (c to : Cursor) (xs ys : List Bound) (x : Bound) (whole : Read (List Bound)) → Bounds left c xs whole → 0 < left
-    → stands sign_is.LeftBracket c.rest ≡ true → the_bound (after c) ≡ Ok (x, to) → ys ≡ xs ++ x ∷ []
+    → begins_with_sign sign_is.LeftBracket c.rest ≡ true → the_bound (next_cursor c) ≡ Ok (x, to) → ys ≡ xs ++ x ∷ []
     → Bounds (left - 1) to ys whole
 unfolding the_bounds
 bounds_more zero c to xs ys x whole b some t h pushed = absurd (omega arith)
 bounds_more (suc n) c to xs ys x whole b some t h pushed =
     let e : n ≡ suc n - 1 = omega arith in
-    let step : the_bounds (suc n) c ≡ with_front (x ∷ []) (the_bounds n to) = rw t (one-bound (the_bound (after c)) (the_bounds n) x to h) in
+    let step : the_bounds (suc n) c ≡ with_front (x ∷ []) (the_bounds n to) = rw t (one-bound (the_bound (next_cursor c)) (the_bounds n) x to h) in
     record {
       all = ap (λ (m : ℕ). with_front ys (the_bounds m to)) (sym e) ∙ ap (λ (v : List Bound). with_front v (the_bounds n to)) pushed
           ∙ front_more xs x (the_bounds n to) ∙ ap (with_front xs) (sym step) ∙ b.all;
@@ -68,14 +68,14 @@ starts_advance by d le =
 
 -- a braced list, part by part
 pub braced_reads : (d : ℕ) (c to next end : Cursor) (x : ExprTree) (xs : List ExprTree) (comma : Bool) → (d ≡ 0 → ⊥)
-    → assignment_by (d - 1) (deeper_than (d - 1)) (after c) ≡ Ok (x, to)
+    → assignment_by (d - 1) (deeper_than (d - 1)) (next_cursor c) ≡ Ok (x, to)
     → with_front (x ∷ []) (all_of (item_step (assignment_by (d - 1) (deeper_than (d - 1)))) to) ≡ Ok (xs, next)
     → end_of_list next ≡ Ok (comma, end) → braced_by d c ≡ Ok (s.Braced c.at (expr_list xs) comma, end)
 unfolding braced_by
 braced_reads zero c to next end x xs comma ne h more ends = absurd (ne refl)
 braced_reads (suc n) c to next end x xs comma ne h more ends =
     let is : (deeper_than (suc n)).assignment ≡ assignment_by (suc n - 1) (deeper_than (suc n - 1)) = deeper_assignment (suc n) ne in
-    let one : (deeper_than (suc n)).assignment (after c) ≡ Ok (x, to) = subst (λ (f : Cursor → Read ExprTree). f (after c) ≡ Ok (x, to)) (sym is) h in
+    let one : (deeper_than (suc n)).assignment (next_cursor c) ≡ Ok (x, to) = subst (λ (f : Cursor → Read ExprTree). f (next_cursor c) ≡ Ok (x, to)) (sym is) h in
     let all : with_front (x ∷ []) (all_of (item_step (deeper_than (suc n)).assignment) to) ≡ Ok (xs, next) =
     subst (λ (f : Cursor → Read ExprTree). with_front (x ∷ []) (all_of (item_step f) to) ≡ Ok (xs, next)) (sym is) more in
     rw (suc_zero_test n, one, all, ends) refl

@@ -10,9 +10,9 @@ use Rattle.c_syntax.specs.declared.token.TokenKind.TheVariants as kind
 use Rattle.c_syntax.specs.declared.parts.Bound.{Bound}
 use Rattle.c_syntax.specs.declared.parts.Constant.{Constant}
 use Rattle.c_syntax.specs.declared.parts.Declarator.{Declarator}
-use Rattle.c_syntax.specs.Spelling.{Kinds, a_sign, a_name, optional, constant_kinds, bound_kinds, star_kinds}
-use Rattle.c_parser_expressions.specs.Reading.{Cursor, Same, Rule, Found, Outcome, seq, sign, name, first, after, behind, sign_at}
-use Rattle.c_parser_expressions.specs.Marks.{stands}
+use Rattle.c_syntax.specs.Spelling.{Kinds, a_sign, a_name, optional_kinds, constant_kinds, bound_kinds, star_kinds}
+use Rattle.c_parser_expressions.specs.Reading.{Cursor, SameUpTo, Rule, Found, Outcome, sequence_rule, sign_rule, name_rule, first_kind, next_cursor, kinds_behind_first, sign_at}
+use Rattle.c_parser_expressions.specs.Marks.{begins_with_sign}
 use Rattle.c_parser_expressions.specs.Steps.{◌>>=◌, the_sign, the_name}
 use Rattle.c_parser_expressions.specs.Expressions.{stars, EndsType}
 use Rattle.c_parser_expressions.specs.ExpressionParser.{the_stars}
@@ -26,7 +26,7 @@ use Rattle.c_parser_expressions.proofs.TypeNames.{stars-found}
 -- behind a bracket
 
 constant-back : (last at : ℕ) (ks k : Kinds) (m : Kind) (v : _) (o : Option Constant)
-    → Same last at (kind.Constant m v ∷ ks) ((optional constant_kinds o ++ a_sign sign_is.RightBracket) ++ k) → o ≡ Some (record { kind = m; value = v })
+    → SameUpTo last at (kind.Constant m v ∷ ks) ((optional_kinds constant_kinds o ++ a_sign sign_is.RightBracket) ++ k) → o ≡ Some (record { kind = m; value = v })
 constant-back last at ks k m v None same = let h = same.0 in cc
 constant-back last at ks k m v (Some x) same =
     let h : kind.Constant m v ≡ kind.Constant x.kind x.value = same.0 in
@@ -34,17 +34,17 @@ constant-back last at ks k m v (Some x) same =
     let v_is : x.value ≡ v = cc in
     λ i. Some (record { kind = m_is i; value = v_is i })
 
-no-constant : (last at : ℕ) (ks k : Kinds) (o : Option Constant) → constant_of (first ks) ≡ None
-    → Same last at ks ((optional constant_kinds o ++ a_sign sign_is.RightBracket) ++ k) → o ≡ None
+no-constant : (last at : ℕ) (ks k : Kinds) (o : Option Constant) → constant_of (first_kind ks) ≡ None
+    → SameUpTo last at ks ((optional_kinds constant_kinds o ++ a_sign sign_is.RightBracket) ++ k) → o ≡ None
 no-constant last at ks k None h same = refl
 no-constant last at [] k (Some x) h same = absurd same
 no-constant last at (y ∷ ks) k (Some x) h same =
     let e : constant_of (Some y) ≡ constant_of (Some (kind.Constant x.kind x.value)) = ap (λ (t : TokenKind). constant_of (Some t)) same.0 in cc
 
-constant-leads : (c : Cursor) (m : Kind) (v : _) → first c.rest ≡ Some (kind.Constant m v)
-    → Leads bound_end (sign sign_is.RightBracket) c (after c) (λ u. record { length = Some (record { kind = m; value = v }) })
+constant-leads : (c : Cursor) (m : Kind) (v : _) → first_kind c.rest ≡ Some (kind.Constant m v)
+    → Leads bound_end (sign_rule sign_is.RightBracket) c (next_cursor c) (λ u. record { length = Some (record { kind = m; value = v }) })
 constant-leads c m v h =
-    let whole : c.rest ≡ kind.Constant m v ∷ behind c.rest = first-head c.rest (kind.Constant m v) h in
+    let whole : c.rest ≡ kind.Constant m v ∷ kinds_behind_first c.rest = first-head c.rest (kind.Constant m v) h in
     record {
       front = kind.Constant m v ∷ [];
       whole = whole;
@@ -52,40 +52,40 @@ constant-leads c m v h =
       build = λ u is. tt;
       spelled = λ u. refl;
       back = λ x k last is ends le same.
-          (let e = constant-back last c.at (behind c.rest) k m v x.length (subst
-          (λ (t : Kinds). Same last c.at t ((optional constant_kinds x.length ++ a_sign sign_is.RightBracket) ++ k)) whole same) in
+          (let e = constant-back last c.at (kinds_behind_first c.rest) k m v x.length (subst
+          (λ (t : Kinds). SameUpTo last c.at t ((optional_kinds constant_kinds x.length ++ a_sign sign_is.RightBracket) ++ k)) whole same) in
           (tt, λ i. record { length = e i }, tt, record {}));
     }
 
-bare-leads : (c : Cursor) → constant_of (first c.rest) ≡ None → Leads bound_end (sign sign_is.RightBracket) c c (λ u. record { length = None })
-bare-leads c h = leads-here bound_end (sign sign_is.RightBracket) c (λ u. record { length = None }) (λ u is. tt) (λ u. refl)
+bare-leads : (c : Cursor) → constant_of (first_kind c.rest) ≡ None → Leads bound_end (sign_rule sign_is.RightBracket) c c (λ u. record { length = None })
+bare-leads c h = leads-here bound_end (sign_rule sign_is.RightBracket) c (λ u. record { length = None }) (λ u is. tt) (λ u. refl)
     (λ x k last is ends le same. (let e = no-constant last c.at c.rest k x.length h same in (tt, λ i. record { length = e i }, tt, record {})))
 
-bound-of : (c : Cursor) (t : Option TokenKind) → first c.rest ≡ t
+bound-of : (c : Cursor) (t : Option TokenKind) → first_kind c.rest ≡ t
     → Outcome bound_end c (the_sign sign_is.RightBracket (past_constant (constant_of t) c) >>= (λ y. Ok (record { length = constant_of t }, y.1)))
 bound-of c (Some (kind.Constant m v)) h =
-    finish bound_end (sign sign_is.RightBracket) c (after c) (λ u. record { length = Some (record { kind = m; value = v }) })
-    (the_sign sign_is.RightBracket (after c)) (constant-leads c m v h) (sign-parses sign_is.RightBracket (after c) (omega arith))
+    finish bound_end (sign_rule sign_is.RightBracket) c (next_cursor c) (λ u. record { length = Some (record { kind = m; value = v }) })
+    (the_sign sign_is.RightBracket (next_cursor c)) (constant-leads c m v h) (sign-parses sign_is.RightBracket (next_cursor c) (omega arith))
 bound-of c t h =
-    finish bound_end (sign sign_is.RightBracket) c c (λ u. record { length = None }) (the_sign sign_is.RightBracket c) (bare-leads c (ap constant_of h))
+    finish bound_end (sign_rule sign_is.RightBracket) c c (λ u. record { length = None }) (the_sign sign_is.RightBracket c) (bare-leads c (ap constant_of h))
     (sign-parses sign_is.RightBracket c (omega arith))
 
 pub bound-parses : (c : Cursor) → Outcome bound_end c (the_bound c)
 unfolding the_bound
-bound-parses c = bound-of c (first c.rest) refl
+bound-parses c = bound-of c (first_kind c.rest) refl
 
 -- bounds
 
 bounds-back : (most at last : ℕ) (ks k : Kinds) (xs : List Bound) → length xs ≤ suc most → NoBracket k
-    → Same last at (kind.Punctuator sign_is.LeftBracket ∷ ks) (flat_map bound_kinds xs ++ k)
+    → SameUpTo last at (kind.Punctuator sign_is.LeftBracket ∷ ks) (flat_map bound_kinds xs ++ k)
     → (p : Bound × List Bound) × (xs ≡ p.0 ∷ p.1) × (length p.1 ≤ most)
 bounds-back most at last ks k [] is ends same = absurd (ends.not (sign-same last at k ks sign_is.LeftBracket same))
 bounds-back most at last ks k (x ∷ xs) is ends same = ((x, xs), refl, omega arith)
 
 bounds-leads : (most : ℕ) (c : Cursor) → sign_at c.rest ≡ Some sign_is.LeftBracket
-    → Leads (bounds (suc most)) (seq bound_end (λ x. bounds most)) c (after c) (λ p. p.0 ∷ p.1)
+    → Leads (bounds (suc most)) (sequence_rule bound_end (λ x. bounds most)) c (next_cursor c) (λ p. p.0 ∷ p.1)
 bounds-leads most c h =
-    let whole : c.rest ≡ kind.Punctuator sign_is.LeftBracket ∷ behind c.rest = sign-head c.rest sign_is.LeftBracket h in
+    let whole : c.rest ≡ kind.Punctuator sign_is.LeftBracket ∷ kinds_behind_first c.rest = sign-head c.rest sign_is.LeftBracket h in
     record {
       front = a_sign sign_is.LeftBracket;
       whole = whole;
@@ -93,7 +93,7 @@ bounds-leads most c h =
       build = λ p is. (let few : length p.1 ≤ most = is.1 in omega arith);
       spelled = λ p. refl;
       back = λ xs k last is ends le same.
-          (let b = bounds-back most c.at last (behind c.rest) k xs is ends (subst (λ (v : Kinds). Same last c.at v (flat_map bound_kinds xs ++ k)) whole same) in
+          (let b = bounds-back most c.at last (kinds_behind_first c.rest) k xs is ends (subst (λ (v : Kinds). SameUpTo last c.at v (flat_map bound_kinds xs ++ k)) whole same) in
           (b.0, b.1, (tt, b.2), ends));
     }
 
@@ -101,13 +101,13 @@ no-bounds : (xs : List Bound) → length xs ≤ 0 → xs ≡ []
 no-bounds [] h = refl
 no-bounds (x ∷ xs) h = absurd (omega arith)
 
-no-bracket : (at last : ℕ) (ks k : Kinds) (xs : List Bound) → (sign_at ks ≡ Some sign_is.LeftBracket → ⊥) → Same last at ks (flat_map bound_kinds xs ++ k)
+no-bracket : (at last : ℕ) (ks k : Kinds) (xs : List Bound) → (sign_at ks ≡ Some sign_is.LeftBracket → ⊥) → SameUpTo last at ks (flat_map bound_kinds xs ++ k)
     → xs ≡ []
 no-bracket at last ks k [] other same = refl
 no-bracket at last ks k (x ∷ xs) other same = absurd (other (same-sign last at ks _ sign_is.LeftBracket same))
 
 bounds-none : (most : ℕ) (c : Cursor) → ((xs : List Bound) (k : Kinds) (last : ℕ) → length xs ≤ most → NoBracket k → c.at ≤ last
-    → Same last c.at c.rest (flat_map bound_kinds xs ++ k) → xs ≡ []) → Found (bounds most) c [] c
+    → SameUpTo last c.at c.rest (flat_map bound_kinds xs ++ k) → xs ≡ []) → Found (bounds most) c [] c
 bounds-none most c only = record {
   is = omega arith;
   spelled = refl;
@@ -118,10 +118,10 @@ bounds-none most c only = record {
 pub bounds-parses : (most : ℕ) (c : Cursor) → Outcome (bounds most) c (the_bounds most c)
 unfolding the_bounds
 bounds-parses zero c = bounds-none 0 c (λ xs k last is ends le same. no-bounds xs is)
-bounds-parses (suc most) c = elim (cases_Bool (stands sign_is.LeftBracket c.rest)) [
-  | inl t ↦ rw t (part (bounds (suc most)) bound_end (λ x. bounds most) c (after c) (λ p. p.0 ∷ p.1) (the_bound (after c))
+bounds-parses (suc most) c = elim (cases_Bool (begins_with_sign sign_is.LeftBracket c.rest)) [
+  | inl t ↦ rw t (part (bounds (suc most)) bound_end (λ x. bounds most) c (next_cursor c) (λ p. p.0 ∷ p.1) (the_bound (next_cursor c))
       (λ x. the_bounds most x.1 >>= (λ xs. Ok (x.0 ∷ xs.0, xs.1)))
-      (λ at v y k v_is y_is ends. record {}) (bounds-leads most c (stands-sign sign_is.LeftBracket c.rest (omega arith) t)) (bound-parses (after c))
+      (λ at v y k v_is y_is ends. record {}) (bounds-leads most c (stands-sign sign_is.LeftBracket c.rest (omega arith) t)) (bound-parses (next_cursor c))
       (λ x to found l. finish (bounds (suc most)) (bounds most) c to (λ xs. x ∷ xs) (the_bounds most to) l (bounds-parses most to)))
   | inr f ↦ rw f (bounds-none (suc most) c (λ xs k last is ends le same. no-bracket c.at last c.rest k xs
       (λ e. let t = sign-stands sign_is.LeftBracket c.rest e in cc) same))
@@ -137,10 +137,10 @@ abbrev pub named : (token stars name_token : ℕ) → List ℕ × List Bound →
 named token stars name_token p = record { token = token; stars = stars; name_token = name_token; name = p.0; bounds = p.1 }
 
 abbrev pub behind_stars : (d n : ℕ) → Rule (List ℕ × List Bound)
-behind_stars d n = seq name (λ x. bounds (d - n))
+behind_stars d n = sequence_rule name_rule (λ x. bounds (d - n))
 
-pub declarator-leads : (d : ℕ) (c : Cursor) → Leads (declarator d) (seq (stars d) (behind_stars d)) c c (λ p. named c.at p.0 (c.at + p.0) p.1)
-declarator-leads d c = leads-here (declarator d) (seq (stars d) (behind_stars d)) c (λ p. named c.at p.0 (c.at + p.0) p.1)
+pub declarator-leads : (d : ℕ) (c : Cursor) → Leads (declarator d) (sequence_rule (stars d) (behind_stars d)) c c (λ p. named c.at p.0 (c.at + p.0) p.1)
+declarator-leads d c = leads-here (declarator d) (sequence_rule (stars d) (behind_stars d)) c (λ p. named c.at p.0 (c.at + p.0) p.1)
     (λ p is. (let n : p.0 ≤ d = is.0 in let few : length p.1.1 ≤ d - p.0 = is.1.1 in record { nests = omega arith; placed = (refl, refl) }))
     (λ p. append_assoc (star_kinds p.0) (a_name p.1.0) (flat_map bound_kinds p.1.1))
     (λ x k last is ends le same.
@@ -158,14 +158,14 @@ named-leads : (d : ℕ) (c to : Cursor) (n : ℕ) → Found (stars d) c n to →
 named-leads d c to n found =
     let moved : to.at ≡ c.at + n = found.moved ∙ ap (λ (m : ℕ). c.at + m) (length-stars n) in
     leads-wrap (declarator d) (behind_stars d n) c to (named c.at n (c.at + n)) (named c.at n to.at) (λ p. ap (λ (m : ℕ). named c.at n m p) (sym moved))
-    (leads-trans (declarator d) (seq (stars d) (behind_stars d)) (behind_stars d n) c c to (λ p. named c.at p.0 (c.at + p.0) p.1) (λ y. (n, y))
+    (leads-trans (declarator d) (sequence_rule (stars d) (behind_stars d)) (behind_stars d n) c c to (λ p. named c.at p.0 (c.at + p.0) p.1) (λ y. (n, y))
     (declarator-leads d c)
     (seq-leads (stars d) (behind_stars d) c to n (λ at v y k v_is y_is ends. stars-before d at v y k) found))
 
 named-parses : (d : ℕ) (c : Cursor) (s : ℕ × Cursor) → Found (stars d) c s.0 s.1 → Outcome (declarator d) c (declarator_by d c.at s)
 unfolding declarator_by
 named-parses d c s found =
-    part (declarator d) name (λ x. bounds (d - s.0)) c s.1 (named c.at s.0 s.1.at) (the_name s.1)
+    part (declarator d) name_rule (λ x. bounds (d - s.0)) c s.1 (named c.at s.0 s.1.at) (the_name s.1)
     (λ x. the_bounds (d - s.0) x.1 >>= (λ y. Ok (record { token = c.at; stars = s.0; name_token = s.1.at; name = x.0; bounds = y.0 }, y.1)))
     (λ at v y k v_is y_is ends. record {}) (named-leads d c s.1 s.0 found) (name-parses s.1)
     (λ x to name_found l. finish (declarator d) (bounds (d - s.0)) c to (λ y. named c.at s.0 s.1.at (x, y)) (the_bounds (d - s.0) to) l

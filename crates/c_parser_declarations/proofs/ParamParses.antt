@@ -13,9 +13,9 @@ use Rattle.c_syntax.specs.declared.parts.Base.TheVariants as base_is
 use Rattle.c_syntax.specs.declared.parts.Bound.{Bound}
 use Rattle.c_syntax.specs.declared.parts.Param.{Param}
 use Rattle.c_syntax.specs.declared.parts.ParamName.{ParamName}
-use Rattle.c_syntax.specs.Words.{Kinds, a_sign, a_name, optional, bound_kinds, param_name_kinds, deep, name_nesting, ShapedParamOf, NameAt}
-use Rattle.c_parser_expressions.specs.Reading.{Cursor, Same, Found, Outcome, seq, after, behind, sign_at, word_at, name_at}
-use Rattle.c_parser_expressions.specs.Marks.{stands}
+use Rattle.c_syntax.specs.Words.{Kinds, a_sign, a_name, optional_kinds, bound_kinds, param_name_kinds, optional_nesting, name_nesting, ShapedParamOf, NameAt}
+use Rattle.c_parser_expressions.specs.Reading.{Cursor, SameUpTo, Found, Outcome, sequence_rule, next_cursor, kinds_behind_first, sign_at, word_at, name_at}
+use Rattle.c_parser_expressions.specs.Marks.{begins_with_sign}
 use Rattle.c_parser_declarations.specs.Lists.{Separates, comma, closed}
 use Rattle.c_parser_expressions.specs.Expressions.{EndsType, type_name}
 use Rattle.c_parser_expressions.specs.ExpressionParser.{the_type}
@@ -61,13 +61,13 @@ separates-type k (closed h) = record {
 -- a bound, or none
 
 bracket-back : (most at last : ℕ) (ks k : Kinds) (o : Option Bound) → NoBracket k
-    → Same last at (kind.Punctuator sign_is.LeftBracket ∷ ks) (optional bound_kinds o ++ k) → (x : Bound) × (o ≡ Some x)
+    → SameUpTo last at (kind.Punctuator sign_is.LeftBracket ∷ ks) (optional_kinds bound_kinds o ++ k) → (x : Bound) × (o ≡ Some x)
 bracket-back most at last ks k None ends same = absurd (ends.not (sign-same last at k ks sign_is.LeftBracket same))
 bracket-back most at last ks k (Some x) ends same = (x, refl)
 
-bracket-leads : (most : ℕ) (c : Cursor) → sign_at c.rest ≡ Some sign_is.LeftBracket → Leads (bound_or_none (suc most)) bound_end c (after c) Some
+bracket-leads : (most : ℕ) (c : Cursor) → sign_at c.rest ≡ Some sign_is.LeftBracket → Leads (bound_or_none (suc most)) bound_end c (next_cursor c) Some
 bracket-leads most c h =
-    let whole : c.rest ≡ kind.Punctuator sign_is.LeftBracket ∷ behind c.rest = sign-head c.rest sign_is.LeftBracket h in
+    let whole : c.rest ≡ kind.Punctuator sign_is.LeftBracket ∷ kinds_behind_first c.rest = sign-head c.rest sign_is.LeftBracket h in
     record {
       front = a_sign sign_is.LeftBracket;
       whole = whole;
@@ -75,11 +75,11 @@ bracket-leads most c h =
       build = λ x is. omega arith;
       spelled = λ x. refl;
       back = λ o k last is ends le same.
-          (let b = bracket-back most c.at last (behind c.rest) k o ends (subst (λ (v : Kinds). Same last c.at v (optional bound_kinds o ++ k)) whole same) in
+          (let b = bracket-back most c.at last (kinds_behind_first c.rest) k o ends (subst (λ (v : Kinds). SameUpTo last c.at v (optional_kinds bound_kinds o ++ k)) whole same) in
           (b.0, b.1, tt, record {}));
     }
 
-bare-found : (most : ℕ) (c : Cursor) → ((o : Option Bound) (k : Kinds) (last : ℕ) → deep (λ b. 1) o ≤ most → Same last c.at c.rest (optional bound_kinds o ++ k)
+bare-found : (most : ℕ) (c : Cursor) → ((o : Option Bound) (k : Kinds) (last : ℕ) → optional_nesting (λ b. 1) o ≤ most → SameUpTo last c.at c.rest (optional_kinds bound_kinds o ++ k)
     → o ≡ None) → Found (bound_or_none most) c None c
 bare-found most c only = record {
   is = omega arith;
@@ -88,11 +88,11 @@ bare-found most c only = record {
   only = λ o k last is ends le same. only o k last is same;
 }
 
-no-bound : (o : Option Bound) → deep (λ b. 1) o ≤ 0 → o ≡ None
+no-bound : (o : Option Bound) → optional_nesting (λ b. 1) o ≤ 0 → o ≡ None
 no-bound None h = refl
 no-bound (Some x) h = absurd (omega arith)
 
-no-bracket : (at last : ℕ) (ks k : Kinds) (o : Option Bound) → (sign_at ks ≡ Some sign_is.LeftBracket → ⊥) → Same last at ks (optional bound_kinds o ++ k)
+no-bracket : (at last : ℕ) (ks k : Kinds) (o : Option Bound) → (sign_at ks ≡ Some sign_is.LeftBracket → ⊥) → SameUpTo last at ks (optional_kinds bound_kinds o ++ k)
     → o ≡ None
 no-bracket at last ks k None other same = refl
 no-bracket at last ks k (Some x) other same = absurd (other (same-sign last at ks _ sign_is.LeftBracket same))
@@ -100,9 +100,9 @@ no-bracket at last ks k (Some x) other same = absurd (other (same-sign last at k
 bound-parses-or : (most : ℕ) (c : Cursor) → Outcome (bound_or_none most) c (one_bound most c)
 unfolding one_bound
 bound-parses-or zero c = bare-found 0 c (λ o k last is same. no-bound o is)
-bound-parses-or (suc most) c = elim (cases_Bool (stands sign_is.LeftBracket c.rest)) [
-  | inl t ↦ rw t (finish (bound_or_none (suc most)) bound_end c (after c) Some (the_bound (after c))
-      (bracket-leads most c (stands-sign sign_is.LeftBracket c.rest (omega arith) t)) (bound-parses (after c)))
+bound-parses-or (suc most) c = elim (cases_Bool (begins_with_sign sign_is.LeftBracket c.rest)) [
+  | inl t ↦ rw t (finish (bound_or_none (suc most)) bound_end c (next_cursor c) Some (the_bound (next_cursor c))
+      (bracket-leads most c (stands-sign sign_is.LeftBracket c.rest (omega arith) t)) (bound-parses (next_cursor c)))
   | inr f ↦ rw f (bare-found (suc most) c (λ o k last is same. no-bracket c.at last c.rest k o (λ e. let t = sign-stands sign_is.LeftBracket c.rest e in
       cc) same))
 ]
@@ -112,13 +112,13 @@ bound-parses-or (suc most) c = elim (cases_Bool (stands sign_is.LeftBracket c.re
 abbrev named : (token : ℕ) (name : List ℕ) → Option Bound → Option ParamName
 named token name o = Some (record { token = token; name = name; bound = o })
 
-name-unlike : (last at : ℕ) (ks k : Kinds) (name : List ℕ) (x : Sign) → sign_at k ≡ Some x → Same last at (kind.Name name ∷ ks) k → ⊥
+name-unlike : (last at : ℕ) (ks k : Kinds) (name : List ℕ) (x : Sign) → sign_at k ≡ Some x → SameUpTo last at (kind.Name name ∷ ks) k → ⊥
 name-unlike last at ks [] name x h same = same
 name-unlike last at ks (t ∷ k) name x h same = let e : sign_at (kind.Name name ∷ k) ≡ Some x = ap (λ (v : TokenKind). sign_at (v ∷ k)) same.0 ∙ h in cc
 
 name-back : (most at last : ℕ) (ks k : Kinds) (name : List ℕ) (o : Option ParamName) → (param_name most).Is at o → Separates sign_is.RightParen k
-    → Same last at (kind.Name name ∷ ks) (optional param_name_kinds o ++ k)
-    → (b : Option Bound) × (o ≡ named at name b) × (deep (λ x. 1) b ≤ most)
+    → SameUpTo last at (kind.Name name ∷ ks) (optional_kinds param_name_kinds o ++ k)
+    → (b : Option Bound) × (o ≡ named at name b) × (optional_nesting (λ x. 1) b ≤ most)
 name-back most at last ks k name None is (comma h) same = absurd (name-unlike last at ks k name sign_is.Comma h same)
 name-back most at last ks k name None is (closed h) same = absurd (name-unlike last at ks k name sign_is.RightParen h same)
 name-back most at last ks k name (Some x) is ends same =
@@ -126,9 +126,9 @@ name-back most at last ks k name (Some x) is ends same =
     let e : x.name ≡ name = cc in
     (x.bound, (λ i. Some (record { token = is.placed i; name = e i; bound = x.bound })), is.nests)
 
-name-leads : (most : ℕ) (c : Cursor) (name : List ℕ) → name_at c.rest ≡ Some name → Leads (param_name most) (bound_or_none most) c (after c) (named c.at name)
+name-leads : (most : ℕ) (c : Cursor) (name : List ℕ) → name_at c.rest ≡ Some name → Leads (param_name most) (bound_or_none most) c (next_cursor c) (named c.at name)
 name-leads most c name h =
-    let whole : c.rest ≡ kind.Name name ∷ behind c.rest = name-head c.rest name h in
+    let whole : c.rest ≡ kind.Name name ∷ kinds_behind_first c.rest = name-head c.rest name h in
     record {
       front = a_name name;
       whole = whole;
@@ -136,11 +136,11 @@ name-leads most c name h =
       build = λ o is. record { nests = is; placed = refl };
       spelled = λ o. refl;
       back = λ o k last is ends le same.
-          (let b = name-back most c.at last (behind c.rest) k name o is ends
-          (subst (λ (v : Kinds). Same last c.at v (optional param_name_kinds o ++ k)) whole same) in (b.0, b.1, b.2, separates-bracket k ends));
+          (let b = name-back most c.at last (kinds_behind_first c.rest) k name o is ends
+          (subst (λ (v : Kinds). SameUpTo last c.at v (optional_kinds param_name_kinds o ++ k)) whole same) in (b.0, b.1, b.2, separates-bracket k ends));
     }
 
-no-name : (most at last : ℕ) (ks k : Kinds) (o : Option ParamName) → name_at ks ≡ None → Same last at ks (optional param_name_kinds o ++ k) → o ≡ None
+no-name : (most at last : ℕ) (ks k : Kinds) (o : Option ParamName) → name_at ks ≡ None → SameUpTo last at ks (optional_kinds param_name_kinds o ++ k) → o ≡ None
 no-name most at last ks k None h same = refl
 no-name most at last ks k (Some x) h same = absurd (let e : None ≡ Some x.name = sym h ∙ same-name last at ks _ x.name same in cc)
 
@@ -151,8 +151,8 @@ name-of most c None h = record {
   moved = (let e : c.at ≡ c.at + length {A = TokenKind} [] = omega arith in e);
   only = λ o k last is ends le same. no-name most c.at last c.rest k o h same;
 }
-name-of most c (Some name) h = finish (param_name most) (bound_or_none most) c (after c) (named c.at name) (one_bound most (after c)) (name-leads most c name h)
-    (bound-parses-or most (after c))
+name-of most c (Some name) h = finish (param_name most) (bound_or_none most) c (next_cursor c) (named c.at name) (one_bound most (next_cursor c)) (name-leads most c name h)
+    (bound-parses-or most (next_cursor c))
 
 pub param_name-parses : (most : ℕ) (c : Cursor) → Outcome (param_name most) c (param_name_by most c)
 unfolding param_name_by
@@ -163,7 +163,7 @@ param_name-parses most c = name-of most c (name_at c.rest) refl
 abbrev pub param_tree : ℕ → (Base × ℕ) × Option ParamName → Param
 param_tree token p = record { token = token; base = p.0.0; stars = p.0.1; name = p.1 }
 
-name-nests : (d n at : ℕ) (o : Option ParamName) → n ≤ d → IfSome o (IsParamName (d - n) at) → n + deep name_nesting o ≤ d
+name-nests : (d n at : ℕ) (o : Option ParamName) → n ≤ d → IfSome o (IsParamName (d - n) at) → n + optional_nesting name_nesting o ≤ d
 name-nests d n at None le is = omega arith
 name-nests d n at (Some x) le is = let m = is.nests in omega arith
 
@@ -171,12 +171,12 @@ name-placed : (d n at : ℕ) (o : Option ParamName) → IfSome o (IsParamName (d
 name-placed d n at None is = tt
 name-placed d n at (Some x) is = is.placed
 
-name-is : (d n at : ℕ) (o : Option ParamName) → n + deep name_nesting o ≤ d → IfSome o (NameAt at) → IfSome o (IsParamName (d - n) at)
+name-is : (d n at : ℕ) (o : Option ParamName) → n + optional_nesting name_nesting o ≤ d → IfSome o (NameAt at) → IfSome o (IsParamName (d - n) at)
 name-is d n at None nests placed = tt
 name-is d n at (Some x) nests placed = record { nests = omega arith; placed = placed }
 
-pub param-leads : (d : ℕ) (c : Cursor) → Leads (param d) (seq (type_name d) (shaped_name d)) c c (param_tree c.at)
-param-leads d c = leads-here (param d) (seq (type_name d) (shaped_name d)) c (param_tree c.at)
+pub param-leads : (d : ℕ) (c : Cursor) → Leads (param d) (sequence_rule (type_name d) (shaped_name d)) c c (param_tree c.at)
+param-leads d c = leads-here (param d) (sequence_rule (type_name d) (shaped_name d)) c (param_tree c.at)
     (λ p is. record { shaped = is.1.0; nests = name-nests d p.0.1 _ p.1 is.0.1 is.1.1; placed = (refl, is.0.0, name-placed d p.0.1 _ p.1 is.1.1) })
     (λ p. refl)
     (λ x k last is ends le same.

@@ -13,8 +13,8 @@ use Rattle.c_syntax.specs.declared.parts.ParamName.{ParamName}
 use Rattle.c_syntax.specs.declared.parts.Params.{Params}
 use Rattle.c_syntax.specs.declared.parts.Params.TheVariants as params
 use Rattle.c_syntax.specs.Spelling.{Kinds}
-use Rattle.c_parser_expressions.specs.Reading.{Cursor, Read, behind, after, word_at, name_at}
-use Rattle.c_parser_expressions.specs.Marks.{stands}
+use Rattle.c_parser_expressions.specs.Reading.{Cursor, Read, kinds_behind_first, next_cursor, word_at, name_at}
+use Rattle.c_parser_expressions.specs.Marks.{begins_with_sign}
 use Rattle.c_parser_expressions.specs.Steps.{◌>>=◌, Step, with_front, all_of, the_sign}
 use Rattle.c_parser_expressions.specs.ExpressionParser.{the_base, the_type}
 use Rattle.c_parser_declarations.specs.DeclarationParser.{the_bound, the_declarator}
@@ -22,7 +22,7 @@ use Rattle.c_parser_declarations.specs.DeclarationParser.{the_bound, the_declara
 -- the lines of members of a struct
 
 unfoldable pub declarator_step : (depth : ℕ) → Cursor → Step Declarator
-declarator_step depth c = if stands sign.Comma c.rest then Some (the_declarator depth (after c)) else None
+declarator_step depth c = if begins_with_sign sign.Comma c.rest then Some (the_declarator depth (next_cursor c)) else None
 
 unfoldable pub members_by : (depth : ℕ) → Cursor → Read Members
 members_by depth c = do
@@ -33,7 +33,7 @@ members_by depth c = do
   Ok (record { token = c.at; base = b.0; declarators = xs.0 }, y.1)
 
 unfoldable pub members_step : (depth : ℕ) → Cursor → Step Members
-members_step depth c = if stands sign.RightBrace c.rest then None else Some (members_by depth c)
+members_step depth c = if begins_with_sign sign.RightBrace c.rest then None else Some (members_by depth c)
 
 -- the lines of a struct, and the brace behind them
 unfoldable pub lines_by : (depth : ℕ) → Cursor → Read (List Members)
@@ -48,15 +48,15 @@ lines_by depth c = do
 -- one bound or none, and none where nothing may lie deeper
 unfoldable pub one_bound : (most : ℕ) → Cursor → Read (Option Bound)
 one_bound zero c = Ok (None, c)
-one_bound (suc n) c = if stands sign.LeftBracket c.rest then (do
-  x ← the_bound (after c)
+one_bound (suc n) c = if begins_with_sign sign.LeftBracket c.rest then (do
+  x ← the_bound (next_cursor c)
   Ok (Some x.0, x.1))
     else Ok (None, c)
 
 abbrev pub param_name_of : (most : ℕ) → Cursor → Option (List ℕ) → Read (Option ParamName)
 param_name_of most c None = Ok (None, c)
 param_name_of most c (Some name) = do
-  x ← one_bound most (after c)
+  x ← one_bound most (next_cursor c)
   Ok (Some (record { token = c.at; name = name; bound = x.0 }), x.1)
 
 unfoldable pub param_name_by : (most : ℕ) → Cursor → Read (Option ParamName)
@@ -78,7 +78,7 @@ param_by depth c = do
   param_of depth c.at t.0 t.1
 
 unfoldable pub param_step : (depth : ℕ) → Cursor → Step Param
-param_step depth c = if stands sign.Comma c.rest then Some (param_by depth (after c)) else None
+param_step depth c = if begins_with_sign sign.Comma c.rest then Some (param_by depth (next_cursor c)) else None
 
 unfoldable pub param_list_by : (depth : ℕ) → Cursor → Read Params
 param_list_by depth c = do
@@ -93,11 +93,11 @@ is_void_word _ = false
 
 -- `void` alone, with the parenthesis behind it
 abbrev pub only_void : Kinds → Bool
-only_void k = is_void_word (word_at k) && stands sign.RightParen (behind k)
+only_void k = is_void_word (word_at k) && begins_with_sign sign.RightParen (kinds_behind_first k)
 
 -- parameters, behind their parenthesis
 unfoldable pub params_by : (depth : ℕ) → Cursor → Read Params
 params_by depth c =
-    if stands sign.RightParen c.rest then Ok (params.Empty, after c)
-    else (if only_void c.rest then Ok (params.Void, after (after c))
+    if begins_with_sign sign.RightParen c.rest then Ok (params.Empty, next_cursor c)
+    else (if only_void c.rest then Ok (params.Void, next_cursor (next_cursor c))
     else param_list_by depth c)

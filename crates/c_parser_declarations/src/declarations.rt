@@ -1,7 +1,7 @@
 ghost use Rattle.std.specs.Prelude.{◌≡◌, ◌≤◌, ◌-◌, ◌+◌, ◌∷◌, [], map, option_map};
 ghost use Rattle.std.specs.Option.{IsSome};
 ghost use Rattle.c_syntax.specs.Plain.{plain_expr, plain_initial, plain_start, plain_declaration};
-ghost use Rattle.c_parser_expressions.specs.Reading.{first};
+ghost use Rattle.c_parser_expressions.specs.Reading.{first_kind};
 ghost use Rattle.c_parser_expressions.specs.Steps.{Gives, with_front, all_of};
 ghost use Rattle.c_parser_declarations.specs.Turns.{GivesStep};
 ghost use Rattle.c_parser_expressions.specs.ExpressionParser.{assignment_by, deeper_than};
@@ -17,7 +17,7 @@ use std::alloc::Global;
 
 /// The constant that the next token is, which is passed.
 fn constant(reader: &mut Reader<'_>) -> Option<Constant>
-    ensures value { result ≡ constant_of (first reader.old.rest) }
+    ensures value { result ≡ constant_of (first_kind reader.old.rest) }
     ensures past { reader.new ≡ past_constant result reader.old }
 {
     let Some(TokenKind::Constant { kind, value }) = reader.next() else {
@@ -118,7 +118,7 @@ fn end_of_list(reader: &mut Reader<'_>) -> Result<bool, Stop>
 /// An initialiser in braces.
 #[tactic(auto, using(c_parser_expressions::proofs::Depths::deeper_assignment), unfolding(crate::specs::DeclarationParser::braced_by))]
 fn braced(alloc: Global, reader: &mut Reader<'_>, depth: u32) -> Result<Initial, Stop>
-    requires { IsSome (first reader.old.rest) }
+    requires { IsSome (first_kind reader.old.rest) }
     ensures { Gives plain_initial result reader.new (braced_by depth reader.old) }
 {
     if depth == 0 {

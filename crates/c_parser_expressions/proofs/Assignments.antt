@@ -7,9 +7,9 @@ use Rattle.c_syntax.specs.declared.token.Sign.{Sign}
 use Rattle.c_syntax.specs.declared.token.Sign.TheVariants as sign_is
 use Rattle.c_syntax.specs.declared.token.TokenKind.TheVariants as kind
 use Rattle.c_syntax.specs.ExprTree as e
-use Rattle.c_syntax.specs.Words.{ExprTree, Kinds, a_sign, expr_kinds, rank, is_assignment, ExprAt}
-use Rattle.c_parser_expressions.specs.Reading.{Cursor, Same, Found, Fails, Outcome, after, behind, sign_at}
-use Rattle.c_parser_expressions.specs.Expressions.{expression, IsExpr, inner, IsInner, EndsAt, sign_binds}
+use Rattle.c_syntax.specs.Words.{ExprTree, Kinds, a_sign, expr_kinds, expression_rank, is_assignment, ExprAt}
+use Rattle.c_parser_expressions.specs.Reading.{Cursor, SameUpTo, Found, Fails, Outcome, next_cursor, kinds_behind_first, sign_at}
+use Rattle.c_parser_expressions.specs.Expressions.{expression, IsExpr, inner_expression, IsInner, EndsAt, sign_binds}
 use Rattle.c_parser_expressions.specs.ExpressionParser.{Parsers, conditional_by, assignment_sign_of, assignment_sign, assigning_by, assigned_of, assigned_by}
 use Rattle.c_parser_expressions.specs.ExpressionParser.{assignment_by}
 use Rattle.c_parser_expressions.proofs.Heads.{sign-head, same-sign}
@@ -37,12 +37,12 @@ assign-spelled x y k s = simp append_assoc
 -- an assignment's target is what was read
 target-is : (d : ℕ) (c mid : Cursor) (x : ExprTree) (t : ℕ) (s : Sign) (u v : ExprTree) (k : Kinds) (last : ℕ) → Found (expression 2 d) c x mid
     → IsExpr 1 d c.at (e.Assign t s u v) → mid.at ≤ last
-    → Same last c.at c.rest (expr_kinds (e.Assign t s u v) ++ k) → (u ≡ x) × (sign_at mid.rest ≡ Some s)
+    → SameUpTo last c.at c.rest (expr_kinds (e.Assign t s u v) ++ k) → (u ≡ x) × (sign_at mid.rest ≡ Some s)
 target-is d c mid x t s u v k last f is le same =
     let nests = is.nests in
     let r = is.shaped.1 in
-    let s1 : Same last c.at c.rest (expr_kinds u ++ (kind.Punctuator s ∷ (expr_kinds v ++ k))) =
-    subst (λ (q : Kinds). Same last c.at c.rest q) (assign-spelled (expr_kinds u) (expr_kinds v) k s) same in
+    let s1 : SameUpTo last c.at c.rest (expr_kinds u ++ (kind.Punctuator s ∷ (expr_kinds v ++ k))) =
+    subst (λ (q : Kinds). SameUpTo last c.at c.rest q) (assign-spelled (expr_kinds u) (expr_kinds v) k s) same in
     let binds_2 : sign_binds s ≡ 2 = assignment-binds s is.shaped.0 in
     let one : u ≡ x =
     f.only u (kind.Punctuator s ∷ (expr_kinds v ++ k)) last (record {
@@ -53,22 +53,22 @@ target-is d c mid x t s u v k last f is le same =
     }) (record { by = omega arith }) le s1 in
     let s2 =
     after-same 2 d c mid x (kind.Punctuator s ∷ (expr_kinds v ++ k)) last f le
-    (subst (λ (q : ExprTree). Same last c.at c.rest (expr_kinds q ++ (kind.Punctuator s ∷ (expr_kinds v ++ k)))) one s1) in
+    (subst (λ (q : ExprTree). SameUpTo last c.at c.rest (expr_kinds q ++ (kind.Punctuator s ∷ (expr_kinds v ++ k)))) one s1) in
     (one, same-sign last mid.at mid.rest (expr_kinds v ++ k) s s2)
 
 assign-other : (d : ℕ) (c mid : Cursor) (x y : ExprTree) (s : Sign) (k : Kinds) (last : ℕ) → Found (expression 2 d) c x mid → sign_at mid.rest ≡ Some s
     → IsTrue (is_assignment s) → IsExpr 2 d c.at y → EndsAt 1 k → mid.at ≤ last
-    → Same last c.at c.rest (expr_kinds y ++ k) → ⊥
+    → SameUpTo last c.at c.rest (expr_kinds y ++ k) → ⊥
 assign-other d c mid x y s k last f h assigns is ends le same =
     let binds_2 : sign_binds s ≡ 2 = assignment-binds s assigns in
     ended-by 2 d 1 c mid x y s k last f (f.only y k last is (ends-more 1 2 k (omega arith) ends) le same) h (omega arith) ends le same
 
-up : (d at : ℕ) (y : ExprTree) → 2 ≤ rank y → IsExpr 1 d at y → IsExpr 2 d at y
+up : (d at : ℕ) (y : ExprTree) → 2 ≤ expression_rank y → IsExpr 1 d at y → IsExpr 2 d at y
 up d at y r is = record { ranks = r; shaped = is.shaped; nests = is.nests; placed = is.placed }
 
 assign-back : (d : ℕ) (c mid : Cursor) (x y : ExprTree) (s : Sign) (k : Kinds) (last : ℕ) → Found (expression 2 d) c x mid → sign_at mid.rest ≡ Some s
     → IsTrue (is_assignment s) → IsExpr 1 d c.at y → EndsAt 1 k → mid.at + 1 ≤ last
-    → Same last c.at c.rest (expr_kinds y ++ k) → (v : ExprTree) × (y ≡ e.Assign mid.at s x v) × IsInner 1 d (mid.at + 1) v
+    → SameUpTo last c.at c.rest (expr_kinds y ++ k) → (v : ExprTree) × (y ≡ e.Assign mid.at s x v) × IsInner 1 d (mid.at + 1) v
 assign-back d c mid x (e.Assign t s1 u v) s k last f h assigns is ends le same =
     let nests = is.nests in
     let both = target-is d c mid x t s1 u v k last f is (omega arith) same in
@@ -84,13 +84,13 @@ assign-back d c mid x y s k last f h assigns is ends le same =
     absurd (assign-other d c mid x y s k last f h assigns (up d c.at y (omega arith) is) ends (omega arith) same)
 
 assign-leads : (d : ℕ) (c mid : Cursor) (x : ExprTree) (s : Sign) → Found (expression 2 d) c x mid → sign_at mid.rest ≡ Some s → IsTrue (is_assignment s)
-    → 14 ≤ rank x → Leads (expression 1 d) (inner 1 d) c (after mid) (e.Assign mid.at s x)
+    → 14 ≤ expression_rank x → Leads (expression 1 d) (inner_expression 1 d) c (next_cursor mid) (e.Assign mid.at s x)
 assign-leads d c mid x s f h assigns unary =
     let moved = f.moved in
-    let whole : mid.rest ≡ kind.Punctuator s ∷ behind mid.rest = sign-head mid.rest s h in
+    let whole : mid.rest ≡ kind.Punctuator s ∷ kinds_behind_first mid.rest = sign-head mid.rest s h in
     record {
       front = expr_kinds x ++ a_sign s;
-      whole = f.spelled ∙ ap (λ (v : Kinds). expr_kinds x ++ v) whole ∙ sym (append_assoc (expr_kinds x) (a_sign s) (behind mid.rest));
+      whole = f.spelled ∙ ap (λ (v : Kinds). expr_kinds x ++ v) whole ∙ sym (append_assoc (expr_kinds x) (a_sign s) (kinds_behind_first mid.rest));
       moved = omega (arith, length-append (expr_kinds x) (a_sign s));
       build = λ v is. (let n0 = f.is.nests in let n1 = is.nests in
           record {
@@ -105,12 +105,12 @@ assign-leads d c mid x s f h assigns unary =
 
 -- nothing is assigned to what was read
 alone-only : (d : ℕ) (c mid : Cursor) (x y : ExprTree) (k : Kinds) (last : ℕ) → Found (expression 2 d) c x mid
-    → ((s : Sign) → sign_at mid.rest ≡ Some s → IsTrue (is_assignment s) → 14 ≤ rank x → d ≡ 0) → IsExpr 1 d c.at y → EndsAt 1 k → mid.at ≤ last
-    → Same last c.at c.rest (expr_kinds y ++ k) → y ≡ x
+    → ((s : Sign) → sign_at mid.rest ≡ Some s → IsTrue (is_assignment s) → 14 ≤ expression_rank x → d ≡ 0) → IsExpr 1 d c.at y → EndsAt 1 k → mid.at ≤ last
+    → SameUpTo last c.at c.rest (expr_kinds y ++ k) → y ≡ x
 alone-only d c mid x (e.Assign t s u v) k last f other is ends le same =
     let nests = is.nests in
     let both = target-is d c mid x t s u v k last f is le same in
-    let unary : 14 ≤ rank x = subst (λ (q : ExprTree). 14 ≤ rank q) both.0 is.shaped.1 in
+    let unary : 14 ≤ expression_rank x = subst (λ (q : ExprTree). 14 ≤ expression_rank q) both.0 is.shaped.1 in
     let flat : d ≡ 0 = other s both.1 is.shaped.0 unary in
     absurd (omega arith)
 alone-only d c mid x (e.Comma t xs) k last f other is ends le same = let r = is.ranks in absurd (omega arith)
@@ -119,7 +119,7 @@ alone-only d c mid x (e.Chain l u ls) k last f other is ends le same =
 alone-only d c mid x y k last f other is ends le same = f.only y k last (up d c.at y (omega arith) is) (ends-more 1 2 k (omega arith) ends) le same
 
 alone : (d : ℕ) (c mid : Cursor) (x : ExprTree) → Found (expression 2 d) c x mid
-    → ((s : Sign) → sign_at mid.rest ≡ Some s → IsTrue (is_assignment s) → 14 ≤ rank x → d ≡ 0) → Found (expression 1 d) c x mid
+    → ((s : Sign) → sign_at mid.rest ≡ Some s → IsTrue (is_assignment s) → 14 ≤ expression_rank x → d ≡ 0) → Found (expression 1 d) c x mid
 alone d c mid x f other =
     let r = f.is.ranks in
     record {
@@ -130,14 +130,14 @@ alone d c mid x f other =
     }
 
 none-assigned : (d : ℕ) (c : Cursor) (y : ExprTree) (k : Kinds) (last : ℕ) → Fails (expression 2 d) c last → IsExpr 1 d c.at y → EndsAt 1 k
-    → Same last c.at c.rest (expr_kinds y ++ k) → ⊥
+    → SameUpTo last c.at c.rest (expr_kinds y ++ k) → ⊥
 none-assigned d c (e.Assign t s u v) k last f is ends same =
     let nests = is.nests in
     let r = is.shaped.1 in
     let binds_2 : sign_binds s ≡ 2 = assignment-binds s is.shaped.0 in
     f.none u (kind.Punctuator s ∷ (expr_kinds v ++ k)) (record { ranks = omega arith; shaped = is.shaped.2; nests = omega arith; placed = is.placed.1 })
     (record { by = omega arith })
-    (subst (λ (q : Kinds). Same last c.at c.rest q) (assign-spelled (expr_kinds u) (expr_kinds v) k s) same)
+    (subst (λ (q : Kinds). SameUpTo last c.at c.rest q) (assign-spelled (expr_kinds u) (expr_kinds v) k s) same)
 none-assigned d c (e.Comma t xs) k last f is ends same = let r = is.ranks in omega arith
 none-assigned d c (e.Chain l u ls) k last f is ends same =
     f.none (e.Chain l u ls) k (up d c.at (e.Chain l u ls) (omega arith) is) (ends-more 1 2 k (omega arith) ends) same
@@ -159,47 +159,47 @@ sign-not o s h assigns none =
     let both : Some s ≡ None = sym e ∙ sym (ap assignment_sign_of h) ∙ none in cc
 
 pub assigns-some : (d : ℕ) (x : ExprTree) (k : Kinds) (s : Sign) → assignment_sign d x k ≡ Some s
-    → (14 ≤ rank x) × ((sign_at k ≡ Some s) × IsTrue (is_assignment s))
+    → (14 ≤ expression_rank x) × ((sign_at k ≡ Some s) × IsTrue (is_assignment s))
 unfolding assignment_sign
 assigns-some zero x k s h = cc
 assigns-some (suc n) x k s h =
-    let e : if◌then◌else◌ (nat_lt (rank x) 14) None (assignment_sign_of (sign_at k)) ≡ Some s = rw (suc_zero_test n) at h in
-    elim (cases_lt (rank x) 14) [
-      | inl low ↦ (let t : nat_lt (rank x) 14 ≡ true = grind arith in let none : None ≡ Some s = rw t at e in cc)
-      | inr high ↦ (let f : nat_lt (rank x) 14 ≡ false = grind arith in let some : assignment_sign_of (sign_at k) ≡ Some s = rw f at e in
+    let e : if◌then◌else◌ (nat_lt (expression_rank x) 14) None (assignment_sign_of (sign_at k)) ≡ Some s = rw (suc_zero_test n) at h in
+    elim (cases_lt (expression_rank x) 14) [
+      | inl low ↦ (let t : nat_lt (expression_rank x) 14 ≡ true = grind arith in let none : None ≡ Some s = rw t at e in cc)
+      | inr high ↦ (let f : nat_lt (expression_rank x) 14 ≡ false = grind arith in let some : assignment_sign_of (sign_at k) ≡ Some s = rw f at e in
           (high, sign-of (sign_at k) s some))
     ]
 
-assigns-none : (d : ℕ) (x : ExprTree) (k : Kinds) (s : Sign) → assignment_sign d x k ≡ None → sign_at k ≡ Some s → IsTrue (is_assignment s) → 14 ≤ rank x
+assigns-none : (d : ℕ) (x : ExprTree) (k : Kinds) (s : Sign) → assignment_sign d x k ≡ None → sign_at k ≡ Some s → IsTrue (is_assignment s) → 14 ≤ expression_rank x
     → d ≡ 0
 unfolding assignment_sign
 assigns-none zero x k s h at_s assigns unary = refl
 assigns-none (suc n) x k s h at_s assigns unary =
-    let e : if◌then◌else◌ (nat_lt (rank x) 14) None (assignment_sign_of (sign_at k)) ≡ None = rw (suc_zero_test n) at h in
-    let f : nat_lt (rank x) 14 ≡ false = grind arith in
+    let e : if◌then◌else◌ (nat_lt (expression_rank x) 14) None (assignment_sign_of (sign_at k)) ≡ None = rw (suc_zero_test n) at h in
+    let f : nat_lt (expression_rank x) 14 ≡ false = grind arith in
     let none : assignment_sign_of (sign_at k) ≡ None = rw f at e in
     absurd (sign-not (sign_at k) s at_s assigns none)
 
-assigning-parses : (d : ℕ) (deeper : Parsers) → ((c : Cursor) → Outcome (inner 1 d) c (deeper.assignment c)) → (c mid : Cursor) (x : ExprTree) (s : Sign)
-    → Found (expression 2 d) c x mid → sign_at mid.rest ≡ Some s → IsTrue (is_assignment s) → 14 ≤ rank x
+assigning-parses : (d : ℕ) (deeper : Parsers) → ((c : Cursor) → Outcome (inner_expression 1 d) c (deeper.assignment c)) → (c mid : Cursor) (x : ExprTree) (s : Sign)
+    → Found (expression 2 d) c x mid → sign_at mid.rest ≡ Some s → IsTrue (is_assignment s) → 14 ≤ expression_rank x
     → Outcome (expression 1 d) c (assigning_by deeper x s mid)
 unfolding assigning_by
 assigning-parses d deeper o c mid x s f h assigns unary =
-    finish (expression 1 d) (inner 1 d) c (after mid) (e.Assign mid.at s x) (deeper.assignment (after mid)) (assign-leads d c mid x s f h assigns unary)
-    (o (after mid))
+    finish (expression 1 d) (inner_expression 1 d) c (next_cursor mid) (e.Assign mid.at s x) (deeper.assignment (next_cursor mid)) (assign-leads d c mid x s f h assigns unary)
+    (o (next_cursor mid))
 
-assigned-of-parses : (d : ℕ) (deeper : Parsers) → ((c : Cursor) → Outcome (inner 1 d) c (deeper.assignment c))
+assigned-of-parses : (d : ℕ) (deeper : Parsers) → ((c : Cursor) → Outcome (inner_expression 1 d) c (deeper.assignment c))
     → (c mid : Cursor) (x : ExprTree) (o : Option Sign) → Found (expression 2 d) c x mid → assignment_sign d x mid.rest ≡ o
     → Outcome (expression 1 d) c (assigned_of (λ s. assigning_by deeper x s mid) (Ok (x, mid)) o)
 assigned-of-parses d deeper o c mid x None f h = alone d c mid x f (λ s at_s assigns unary. assigns-none d x mid.rest s h at_s assigns unary)
 assigned-of-parses d deeper o c mid x (Some s) f h = let b = assigns-some d x mid.rest s h in assigning-parses d deeper o c mid x s f b.1.0 b.1.1 b.0
 
-assigned-parses : (d : ℕ) (deeper : Parsers) → ((c : Cursor) → Outcome (inner 1 d) c (deeper.assignment c)) → (c mid : Cursor) (x : ExprTree)
+assigned-parses : (d : ℕ) (deeper : Parsers) → ((c : Cursor) → Outcome (inner_expression 1 d) c (deeper.assignment c)) → (c mid : Cursor) (x : ExprTree)
     → Found (expression 2 d) c x mid → Outcome (expression 1 d) c (assigned_by d deeper x mid)
 unfolding assigned_by
 assigned-parses d deeper o c mid x f = assigned-of-parses d deeper o c mid x (assignment_sign d x mid.rest) f refl
 
-pub assignment-parses : (d : ℕ) (deeper : Parsers) → ((c : Cursor) → Outcome (inner 1 d) c (deeper.assignment c))
+pub assignment-parses : (d : ℕ) (deeper : Parsers) → ((c : Cursor) → Outcome (inner_expression 1 d) c (deeper.assignment c))
     → ((c : Cursor) → Outcome (expression 2 d) c (conditional_by d deeper c)) → (c : Cursor) → Outcome (expression 1 d) c (assignment_by d deeper c)
 unfolding assignment_by
 assignment-parses d deeper o conditional c =

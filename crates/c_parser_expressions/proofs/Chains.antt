@@ -9,7 +9,7 @@ use Rattle.c_syntax.specs.declared.token.TokenKind.{TokenKind}
 use Rattle.c_syntax.specs.declared.token.TokenKind.TheVariants as kind
 use Rattle.c_syntax.specs.ExprTree as e
 use Rattle.c_syntax.specs.Words.{ExprTree, LinkList, Kinds, a_sign, expr_kinds, link_kinds, level_of, link_list}
-use Rattle.c_parser_expressions.specs.Reading.{Cursor, Same, Found, Read, Outcome, after, behind, sign_at, seq}
+use Rattle.c_parser_expressions.specs.Reading.{Cursor, SameUpTo, Found, Read, Outcome, next_cursor, kinds_behind_first, sign_at, sequence_rule}
 use Rattle.c_parser_expressions.specs.Expressions.{expression, IsExpr, EndsAt, AreLinks, chain_links, kind_binds, sign_binds}
 use Rattle.c_parser_expressions.specs.ExpressionParser.{step_of, if_some, level_sign_of, level_sign, link_by, link_step, links_by, linked_by, level_by, chain_by}
 use Rattle.c_parser_expressions.proofs.Heads.{sign-head, same-sign}
@@ -33,7 +33,7 @@ chain_tree level x e.no_links = x
 chain_tree level x (e.more_links token s y rest) = e.Chain level x (e.more_links token s y rest)
 
 abbrev Split : (level next d at : ℕ) (x : ExprTree) → Type 0
-Split level next d at x = (p : ExprTree × LinkList) × (x ≡ chain_tree level p.0 p.1) × (seq (expression next d) (λ v. chain_links level d)).Is at p
+Split level next d at x = (p : ExprTree × LinkList) × (x ≡ chain_tree level p.0 p.1) × (sequence_rule (expression next d) (λ v. chain_links level d)).Is at p
 
 split-here : (level next d at : ℕ) (x : ExprTree) (ls : LinkList) → next ≡ level + 3 → IsExpr (level + 2) d at (e.Chain level x ls)
     → Split level next d at (e.Chain level x ls)
@@ -94,9 +94,9 @@ chain-spelled level x e.no_links = sym (append-nil (expr_kinds x))
 chain-spelled level x (e.more_links token s y rest) = refl
 
 chain-leads : (level next d : ℕ) (c : Cursor) → 1 ≤ level → level ≤ 10 → next ≡ level + 3
-    → Leads (expression (level + 2) d) (seq (expression next d) (λ v. chain_links level d)) c c (λ p. chain_tree level p.0 p.1)
+    → Leads (expression (level + 2) d) (sequence_rule (expression next d) (λ v. chain_links level d)) c c (λ p. chain_tree level p.0 p.1)
 chain-leads level next d c low high n =
-    leads-here (expression (level + 2) d) (seq (expression next d) (λ v. chain_links level d)) c (λ p. chain_tree level p.0 p.1)
+    leads-here (expression (level + 2) d) (sequence_rule (expression next d) (λ v. chain_links level d)) c (λ p. chain_tree level p.0 p.1)
     (λ p is. chain-build level next d c.at p.0 p.1 low high n is.0 is.1) (λ p. chain-spelled level p.0 p.1)
     (λ x k last is ends le same. (let b : Split level next d c.at x = chain-split level next d c.at x low high n is in (b.0, b.1, b.2, ends)))
 
@@ -121,7 +121,7 @@ level-sign level o s h l none =
     let both : Some s ≡ None = sym e ∙ sym (ap (level_sign_of level) h) ∙ none in cc
 
 no-links : (level d : ℕ) (c : Cursor) → level_sign_of level (sign_at c.rest) ≡ None → (ls : LinkList) (k : Kinds) (last : ℕ) → AreLinks level d c.at ls
-    → Same last c.at c.rest (link_kinds ls ++ k) → ls ≡ e.no_links
+    → SameUpTo last c.at c.rest (link_kinds ls ++ k) → ls ≡ e.no_links
 no-links level d c none e.no_links k last are same = refl
 no-links level d c none (e.more_links token s x rest) k last are same =
     absurd (level-sign level (sign_at c.rest) s (same-sign last c.at c.rest _ s same) are.shaped.0 none)
@@ -135,7 +135,7 @@ links-done level d c none = record {
   only = λ ls k last are ends le same. no-links level d c none ls k last are same;
 }
 
-head-binds : (last at : ℕ) (s : Sign) (xs k : Kinds) (r : ℕ) → Same last at (kind.Punctuator s ∷ xs) k → sign_binds s ≡ r + 1 → EndsAt r k → ⊥
+head-binds : (last at : ℕ) (s : Sign) (xs k : Kinds) (r : ℕ) → SameUpTo last at (kind.Punctuator s ∷ xs) k → sign_binds s ≡ r + 1 → EndsAt r k → ⊥
 head-binds last at s xs [] r same h ends = same
 head-binds last at s xs (y ∷ ys) r same h ends =
     let b : sign_binds s ≡ kind_binds y = ap kind_binds same.0 in
@@ -144,8 +144,8 @@ head-binds last at s xs (y ∷ ys) r same h ends =
 
 link-back : (level next d at last : ℕ) (s : Sign) (ks k : Kinds) (ls : LinkList) → 1 ≤ level → next ≡ level + 3 → level_of s ≡ level → AreLinks level d at ls
     → EndsAt (level + 2) k
-    → Same last at (kind.Punctuator s ∷ ks) (link_kinds ls ++ k)
-    → (p : ExprTree × LinkList) × (ls ≡ e.more_links at s p.0 p.1) × (seq (expression next d) (λ v. chain_links level d)).Is (at + 1) p
+    → SameUpTo last at (kind.Punctuator s ∷ ks) (link_kinds ls ++ k)
+    → (p : ExprTree × LinkList) × (ls ≡ e.more_links at s p.0 p.1) × (sequence_rule (expression next d) (λ v. chain_links level d)).Is (at + 1) p
 link-back level next d at last s ks k e.no_links low n of are ends same =
     absurd (head-binds last at s ks k (level + 2) same (let b = level-binds s level low of in omega arith) ends)
 link-back level next d at last s ks k (e.more_links token t y rest) low n of are ends same =
@@ -162,9 +162,9 @@ link-back level next d at last s ks k (e.more_links token t y rest) low n of are
     )
 
 link-leads : (level next d : ℕ) (c : Cursor) (s : Sign) → 1 ≤ level → next ≡ level + 3 → sign_at c.rest ≡ Some s → level_of s ≡ level
-    → Leads (chain_links level d) (seq (expression next d) (λ v. chain_links level d)) c (after c) (λ p. e.more_links c.at s p.0 p.1)
+    → Leads (chain_links level d) (sequence_rule (expression next d) (λ v. chain_links level d)) c (next_cursor c) (λ p. e.more_links c.at s p.0 p.1)
 link-leads level next d c s low n at_s of =
-    let whole : c.rest ≡ kind.Punctuator s ∷ behind c.rest = sign-head c.rest s at_s in
+    let whole : c.rest ≡ kind.Punctuator s ∷ kinds_behind_first c.rest = sign-head c.rest s at_s in
     record {
       front = a_sign s;
       whole = whole;
@@ -173,8 +173,8 @@ link-leads level next d c s low n at_s of =
           record { shaped = (of, omega arith, is.0.shaped, is.1.shaped); nests = omega arith; placed = (refl, is.0.placed, is.1.placed) });
       spelled = λ p. refl;
       back = λ ls k last are ends le same.
-          (let b = link-back level next d c.at last s (behind c.rest) k ls low n of are ends
-          (subst (λ (v : Kinds). Same last c.at v (link_kinds ls ++ k)) whole same) in
+          (let b = link-back level next d c.at last s (kinds_behind_first c.rest) k ls low n of are ends
+          (subst (λ (v : Kinds). SameUpTo last c.at v (link_kinds ls ++ k)) whole same) in
           (b.0, b.1, b.2, ends));
     }
 
@@ -183,9 +183,9 @@ link-parses : (level next d : ℕ) (operand : Cursor → Read ExprTree) → ((c 
     → StepIs (chain_links level d) (λ f. f) e.no_links c (Some (link_by operand s c))
 unfolding link_by
 link-parses level next d operand o c s low n at_s of =
-    link-part (chain_links level d) (expression next d) c (after c) (λ f. f) e.no_links (e.more_links c.at s) (operand (after c))
+    link-part (chain_links level d) (expression next d) c (next_cursor c) (λ f. f) e.no_links (e.more_links c.at s) (operand (next_cursor c))
     (links-follow level next d low n)
-    (link-leads level next d c s low n at_s of) (behind-shorter c.rest s at_s) (o (after c))
+    (link-leads level next d c s low n at_s of) (behind-shorter c.rest s at_s) (o (next_cursor c))
 
 step-of : (level next d : ℕ) (operand : Cursor → Read ExprTree) → ((c : Cursor) → Outcome (expression next d) c (operand c)) → (c : Cursor) (o : Option Sign)
     → 1 ≤ level → next ≡ level + 3 → level_sign_of level (sign_at c.rest) ≡ o

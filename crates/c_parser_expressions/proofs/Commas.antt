@@ -6,8 +6,8 @@ use Rattle.std.proofs.lemmas.Bool.{cases_Bool}
 use Rattle.c_syntax.specs.declared.token.Sign.TheVariants as sign_is
 use Rattle.c_syntax.specs.ExprTree as e
 use Rattle.c_syntax.specs.Words.{ExprTree, ExprList, expr_list, expr_kinds, more_exprs_kinds}
-use Rattle.c_parser_expressions.specs.Reading.{Cursor, Rule, Found, Read, Outcome, seq, after}
-use Rattle.c_parser_expressions.specs.Marks.{stands}
+use Rattle.c_parser_expressions.specs.Reading.{Cursor, Rule, Found, Read, Outcome, sequence_rule, next_cursor}
+use Rattle.c_parser_expressions.specs.Marks.{begins_with_sign}
 use Rattle.c_parser_expressions.specs.Steps.{◌>>=◌, with_front, all_of}
 use Rattle.c_parser_expressions.specs.Expressions.{expression, IsExpr, more_expressions}
 use Rattle.c_parser_expressions.specs.ExpressionParser.{Parsers, assignment_by, comma_step, more_by, commas_by, listed_by, whole_by}
@@ -21,7 +21,7 @@ comma_tree token x e.no_exprs = x
 comma_tree token x (e.more_exprs y rest) = e.Comma token (e.more_exprs x (e.more_exprs y rest))
 
 abbrev Parts : (d : ℕ) → Rule (ExprTree × ExprList)
-Parts d = seq (expression 1 d) (λ v. more_expressions d)
+Parts d = sequence_rule (expression 1 d) (λ v. more_expressions d)
 
 abbrev joined : ℕ → ExprTree × ExprList → ExprTree
 joined at p = comma_tree (at + length (expr_kinds p.0)) p.0 p.1
@@ -78,11 +78,11 @@ some-commas : (token : ℕ) (x : ExprTree) (xs : ExprList) → 1 ≤ length (mor
 some-commas token x e.no_exprs h = absurd (omega arith)
 some-commas token x (e.more_exprs y rest) h = refl
 
-pub step-some : (item : Cursor → Read ExprTree) (c : Cursor) → stands sign_is.Comma c.rest ≡ true → comma_step item c ≡ Some (item (after c))
+pub step-some : (item : Cursor → Read ExprTree) (c : Cursor) → begins_with_sign sign_is.Comma c.rest ≡ true → comma_step item c ≡ Some (item (next_cursor c))
 unfolding comma_step
 step-some item c h = rw h refl
 
-pub step-none : (item : Cursor → Read ExprTree) (c : Cursor) → stands sign_is.Comma c.rest ≡ false → comma_step item c ≡ None
+pub step-none : (item : Cursor → Read ExprTree) (c : Cursor) → begins_with_sign sign_is.Comma c.rest ≡ false → comma_step item c ≡ None
 unfolding comma_step
 step-none item c h = rw h refl
 
@@ -93,19 +93,19 @@ front-bind x token (Ok p) = refl
 front-bind x token (Err i) = refl
 
 commas-parse : (d : ℕ) (item : Cursor → Read ExprTree) → ((c : Cursor) → Outcome (expression 1 d) c (item c)) → (c mid : Cursor) (x : ExprTree)
-    → Leads (expression 0 d) (more_expressions d) c mid (comma_tree mid.at x) → stands sign_is.Comma mid.rest ≡ true
+    → Leads (expression 0 d) (more_expressions d) c mid (comma_tree mid.at x) → begins_with_sign sign_is.Comma mid.rest ≡ true
     → Outcome (expression 0 d) c (commas_by item x mid)
 unfolding commas_by more_by
 commas-parse d item o c mid x l h =
     subst (λ (r : Read ExprTree). Outcome (expression 0 d) c r) (front-bind x mid.at (all_of (comma_step item) mid))
     (list-parses (expression 0 d) (more_expressions d) (comma_step item) c mid (comma_tree mid.at x)
-    (λ xs. e.Comma mid.at (e.more_exprs x xs)) e.more_exprs e.no_exprs expr_list (item (after mid))
+    (λ xs. e.Comma mid.at (e.more_exprs x xs)) e.more_exprs e.no_exprs expr_list (item (next_cursor mid))
     (comma-listing d item o) l (some-commas mid.at x) put-exprs (step-some item mid h))
 
 listed-parses : (d : ℕ) (item : Cursor → Read ExprTree) → ((c : Cursor) → Outcome (expression 1 d) c (item c)) → (c mid : Cursor) (x : ExprTree)
     → Leads (expression 0 d) (more_expressions d) c mid (comma_tree mid.at x) → Outcome (expression 0 d) c (listed_by item x mid)
 unfolding listed_by
-listed-parses d item o c mid x l = elim (cases_Bool (stands sign_is.Comma mid.rest)) [
+listed-parses d item o c mid x l = elim (cases_Bool (begins_with_sign sign_is.Comma mid.rest)) [
   | inl t ↦ rw t (commas-parse d item o c mid x l t)
   | inr f ↦ rw f (list-none (expression 0 d) (more_expressions d) (comma_step item) c mid (comma_tree mid.at x) e.more_exprs e.no_exprs
       (comma-listing d item o) l (step-none item mid f))

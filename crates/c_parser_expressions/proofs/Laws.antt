@@ -3,25 +3,25 @@ use Rattle.std.proofs.Common.{◌≡◌, ℕ, ◌+◌, ◌≤◌, ◌<◌, [], �
 use Rattle.std.proofs.Common.{length-append, arith}
 use Rattle.c_syntax.specs.declared.token.TokenKind.{TokenKind}
 use Rattle.c_syntax.specs.Spelling.{Kinds}
-use Rattle.c_parser_expressions.specs.Reading.{Cursor, Same, Rule, Found, Fails, Read, Outcome, seq}
+use Rattle.c_parser_expressions.specs.Reading.{Cursor, SameUpTo, Rule, Found, Fails, Read, Outcome, sequence_rule}
 use Rattle.c_parser_expressions.specs.Steps.{◌>>=◌}
 
 -- behind an equal front the rests are the same too
-pub same-rest : (last at : ℕ) (a b c : Kinds) → at + length a ≤ last → Same last at (a ++ b) (a ++ c) → Same last (at + length a) b c
-same-rest last at [] b c le same = subst (λ (n : ℕ). Same last n b c) (let e : at ≡ at + length {A = TokenKind} [] = omega arith in e) same
+pub same-rest : (last at : ℕ) (a b c : Kinds) → at + length a ≤ last → SameUpTo last at (a ++ b) (a ++ c) → SameUpTo last (at + length a) b c
+same-rest last at [] b c le same = subst (λ (n : ℕ). SameUpTo last n b c) (let e : at ≡ at + length {A = TokenKind} [] = omega arith in e) same
 same-rest last at (x ∷ xs) b c le same =
     let below : at < last = omega arith in
     let e : at + 1 + length xs ≡ at + length (x ∷ xs) = omega arith in
-    subst (λ (n : ℕ). Same last n b c) e (same-rest last (at + 1) xs b c (omega arith) (same.1 below))
+    subst (λ (n : ℕ). SameUpTo last n b c) e (same-rest last (at + 1) xs b c (omega arith) (same.1 below))
 
 -- the same up to an index is the same up to an earlier one
-pub same-less : (last less at : ℕ) (a b : Kinds) → less ≤ last → Same last at a b → Same less at a b
+pub same-less : (last less at : ℕ) (a b : Kinds) → less ≤ last → SameUpTo last at a b → SameUpTo less at a b
 same-less last less at [] [] le same = tt
 same-less last less at [] (y ∷ ys) le same = same
 same-less last less at (x ∷ xs) [] le same = same
 same-less last less at (x ∷ xs) (y ∷ ys) le same = (same.0, λ below. same-less last less (at + 1) xs ys le (same.1 (omega arith)))
 
-pub same-all : (last at : ℕ) (a : Kinds) → Same last at a a
+pub same-all : (last at : ℕ) (a : Kinds) → SameUpTo last at a a
 same-all last at [] = tt
 same-all last at (x ∷ xs) = (refl, λ below. same-all last (at + 1) xs)
 
@@ -32,17 +32,17 @@ pub record Leads {A B : Type 0} (R : Rule A) (S : Rule B) (c d : Cursor) (wrap :
   pub moved : d.at ≡ c.at + length front
   pub build : (y : B) → S.Is d.at y → R.Is c.at (wrap y)
   pub spelled : (y : B) → R.spell (wrap y) ≡ front ++ S.spell y
-  pub back : (x : A) (k : Kinds) (last : ℕ) → R.Is c.at x → R.Ends x k → d.at ≤ last → Same last c.at c.rest (R.spell x ++ k)
+  pub back : (x : A) (k : Kinds) (last : ℕ) → R.Is c.at x → R.Ends x k → d.at ≤ last → SameUpTo last c.at c.rest (R.spell x ++ k)
       → (y : B) × (x ≡ wrap y) × S.Is d.at y × S.Ends y k
 
 leads-same : {A B : Type 0} (R : Rule A) (S : Rule B) (c d : Cursor) (wrap : B → A) → (l : Leads R S c d wrap) → (y : B) (k : Kinds) (last : ℕ) → d.at ≤ last
-    → Same last c.at c.rest (R.spell (wrap y) ++ k) → Same last d.at d.rest (S.spell y ++ k)
+    → SameUpTo last c.at c.rest (R.spell (wrap y) ++ k) → SameUpTo last d.at d.rest (S.spell y ++ k)
 leads-same R S c d wrap l y k last le same =
     let e : R.spell (wrap y) ++ k ≡ l.front ++ (S.spell y ++ k) = ap (λ (s : Kinds). s ++ k) (l.spelled y) ∙ append_assoc l.front (S.spell y) k in
-    let s1 : Same last c.at (l.front ++ d.rest) (R.spell (wrap y) ++ k) = subst (λ (t : Kinds). Same last c.at t (R.spell (wrap y) ++ k)) l.whole same in
-    let s2 : Same last c.at (l.front ++ d.rest) (l.front ++ (S.spell y ++ k)) = subst (λ (t : Kinds). Same last c.at (l.front ++ d.rest) t) e s1 in
+    let s1 : SameUpTo last c.at (l.front ++ d.rest) (R.spell (wrap y) ++ k) = subst (λ (t : Kinds). SameUpTo last c.at t (R.spell (wrap y) ++ k)) l.whole same in
+    let s2 : SameUpTo last c.at (l.front ++ d.rest) (l.front ++ (S.spell y ++ k)) = subst (λ (t : Kinds). SameUpTo last c.at (l.front ++ d.rest) t) e s1 in
     let moved = l.moved in
-    subst (λ (n : ℕ). Same last n d.rest (S.spell y ++ k)) (sym l.moved) (same-rest last c.at l.front d.rest (S.spell y ++ k) (omega arith) s2)
+    subst (λ (n : ℕ). SameUpTo last n d.rest (S.spell y ++ k)) (sym l.moved) (same-rest last c.at l.front d.rest (S.spell y ++ k) (omega arith) s2)
 
 pub leads-found : {A B : Type 0} (R : Rule A) (S : Rule B) (c d to : Cursor) (wrap : B → A) (y : B) → Leads R S c d wrap → Found S d y to
     → Found R c (wrap y) to
@@ -60,7 +60,7 @@ leads-found R S c d to wrap y l f =
       only = λ x k last is ends le same.
           (let le2 : d.at ≤ last = omega arith in
           let b : (z : _) × (x ≡ wrap z) × S.Is d.at z × S.Ends z k = l.back x k last is ends le2 same in
-          let s : Same last c.at c.rest (R.spell (wrap b.0) ++ k) = subst (λ (v : _). Same last c.at c.rest (R.spell v ++ k)) b.1 same in
+          let s : SameUpTo last c.at c.rest (R.spell (wrap b.0) ++ k) = subst (λ (v : _). SameUpTo last c.at c.rest (R.spell v ++ k)) b.1 same in
           b.1 ∙ ap wrap (f.only b.0 k last b.2 b.3 le (leads-same R S c d wrap l b.0 k last le2 s)));
     }
 
@@ -75,14 +75,14 @@ leads-fails R S c d wrap last l f =
       within = omega arith;
       none = λ x k is ends same.
           (let b : (z : _) × (x ≡ wrap z) × S.Is d.at z × S.Ends z k = l.back x k last is ends f.from same in
-          let s : Same last c.at c.rest (R.spell (wrap b.0) ++ k) = subst (λ (v : _). Same last c.at c.rest (R.spell v ++ k)) b.1 same in
+          let s : SameUpTo last c.at c.rest (R.spell (wrap b.0) ++ k) = subst (λ (v : _). SameUpTo last c.at c.rest (R.spell v ++ k)) b.1 same in
           f.none b.0 k b.2 b.3 (leads-same R S c d wrap l b.0 k last f.from s));
     }
 
 -- after a part of P that was read, what is left of the two is a part of Q
 pub seq-leads : {A B : Type 0} (P : Rule A) (Q : A → Rule B) (c mid : Cursor) (x : A)
     → ((at : ℕ) (v : A) (y : B) (k : Kinds) → P.Is at v → (Q v).Is (at + length (P.spell v)) y → (Q v).Ends y k → P.Ends v ((Q v).spell y ++ k))
-    → Found P c x mid → Leads (seq P Q) (Q x) c mid (λ y. (x, y))
+    → Found P c x mid → Leads (sequence_rule P Q) (Q x) c mid (λ y. (x, y))
 seq-leads P Q c mid x follows f =
     let moved = f.moved in
     record {
@@ -92,7 +92,7 @@ seq-leads P Q c mid x follows f =
       build = λ y is. (f.is, subst (λ (n : ℕ). (Q x).Is n y) f.moved is);
       spelled = λ y. refl;
       back = λ p k last is ends le same.
-          (let s : Same last c.at c.rest (P.spell p.0 ++ ((Q p.0).spell p.1 ++ k)) = subst (λ (t : Kinds). Same last c.at c.rest t)
+          (let s : SameUpTo last c.at c.rest (P.spell p.0 ++ ((Q p.0).spell p.1 ++ k)) = subst (λ (t : Kinds). SameUpTo last c.at c.rest t)
           (append_assoc (P.spell p.0) ((Q p.0).spell p.1) k) same in
           let e : p.0 ≡ x = f.only p.0 ((Q p.0).spell p.1 ++ k) last is.0 (follows _ p.0 p.1 k is.0 is.1 ends) le s in
           let at : c.at + length (P.spell p.0) ≡ mid.at = ap (λ (v : _). c.at + length (P.spell v)) e ∙ sym f.moved in
@@ -102,12 +102,12 @@ seq-leads P Q c mid x follows f =
 
 pub seq-fails : {A B : Type 0} (P : Rule A) (Q : A → Rule B) (c : Cursor) (last : ℕ)
     → ((at : ℕ) (v : A) (y : B) (k : Kinds) → P.Is at v → (Q v).Is (at + length (P.spell v)) y → (Q v).Ends y k → P.Ends v ((Q v).spell y ++ k))
-    → Fails P c last → Fails (seq P Q) c last
+    → Fails P c last → Fails (sequence_rule P Q) c last
 seq-fails P Q c last follows f = record {
   from = f.from;
   within = f.within;
   none = λ p k is ends same.
-      (let s : Same last c.at c.rest (P.spell p.0 ++ ((Q p.0).spell p.1 ++ k)) = subst (λ (t : Kinds). Same last c.at c.rest t)
+      (let s : SameUpTo last c.at c.rest (P.spell p.0 ++ ((Q p.0).spell p.1 ++ k)) = subst (λ (t : Kinds). SameUpTo last c.at c.rest t)
       (append_assoc (P.spell p.0) ((Q p.0).spell p.1) k) same in
       f.none p.0 ((Q p.0).spell p.1 ++ k) is.0 (follows _ p.0 p.1 k is.0 is.1 ends) s);
 }
@@ -126,7 +126,7 @@ leads-trans R S T c d to f g l m =
       back = λ x k last is ends le same.
           (let le1 : d.at ≤ last = omega arith in
           let b : (y : _) × (x ≡ f y) × S.Is d.at y × S.Ends y k = l.back x k last is ends le1 same in
-          let s : Same last c.at c.rest (R.spell (f b.0) ++ k) = subst (λ (v : _). Same last c.at c.rest (R.spell v ++ k)) b.1 same in
+          let s : SameUpTo last c.at c.rest (R.spell (f b.0) ++ k) = subst (λ (v : _). SameUpTo last c.at c.rest (R.spell v ++ k)) b.1 same in
           let b2 : (z : _) × (b.0 ≡ g z) × T.Is to.at z × T.Ends z k = m.back b.0 k last b.2 b.3 le (leads-same R S c d f l b.0 k last le1 s) in
           (b2.0, b.1 ∙ ap f b2.1, b2.2, b2.3));
     }
@@ -147,7 +147,7 @@ leads-wrap R S c d f g e l = record {
 pub leads-here : {A B : Type 0} (R : Rule A) (S : Rule B) (c : Cursor) (wrap : B → A)
     → ((y : B) → S.Is c.at y → R.Is c.at (wrap y))
     → ((y : B) → R.spell (wrap y) ≡ S.spell y)
-    → ((x : A) (k : Kinds) (last : ℕ) → R.Is c.at x → R.Ends x k → c.at ≤ last → Same last c.at c.rest (R.spell x ++ k)
+    → ((x : A) (k : Kinds) (last : ℕ) → R.Is c.at x → R.Ends x k → c.at ≤ last → SameUpTo last c.at c.rest (R.spell x ++ k)
     → (y : B) × (x ≡ wrap y) × S.Is c.at y × S.Ends y k)
     → Leads R S c c wrap
 leads-here R S c wrap build spelled back = record {
@@ -182,13 +182,13 @@ bind R S c d (Err i) f o ok none = none i o
 -- one part of several: what is left behind it leads on
 pub part : {A B C : Type 0} (R : Rule A) (P : Rule B) (Q : B → Rule C) (c d : Cursor) (wrap : B × C → A) (r : Read B) (f : B × Cursor → Read A)
     → ((at : ℕ) (v : B) (y : C) (k : Kinds) → P.Is at v → (Q v).Is (at + length (P.spell v)) y → (Q v).Ends y k → P.Ends v ((Q v).spell y ++ k))
-    → Leads R (seq P Q) c d wrap → Outcome P d r
+    → Leads R (sequence_rule P Q) c d wrap → Outcome P d r
     → ((x : B) (to : Cursor) → Found P d x to → Leads R (Q x) c to (λ y. wrap (x, y)) → Outcome R c (f (x, to)))
     → Outcome R c (r >>= f)
 part R P Q c d wrap r f follows l o more =
     bind R P c d r f o
-    (λ x to found. more x to found (leads-trans R (seq P Q) (Q x) c d to wrap (λ y. (x, y)) l (seq-leads P Q d to x follows found)))
-    (λ last fails. leads-fails R (seq P Q) c d wrap last l (seq-fails P Q d last follows fails))
+    (λ x to found. more x to found (leads-trans R (sequence_rule P Q) (Q x) c d to wrap (λ y. (x, y)) l (seq-leads P Q d to x follows found)))
+    (λ last fails. leads-fails R (sequence_rule P Q) c d wrap last l (seq-fails P Q d last follows fails))
 
 -- the last part
 pub finish : {A B : Type 0} (R : Rule A) (P : Rule B) (c d : Cursor) (wrap : B → A) (r : Read B) → Leads R P c d wrap → Outcome P d r

@@ -1,5 +1,5 @@
 -- What the loops over parts of expressions keep.
-use Rattle.std.proofs.Common.{◌≡◌, ℕ, ◌+◌, ◌-◌, ◌≤◌, true, false, List, [], ◌∷◌, ◌++◌, map, Some, None, Ok, Err, refl, sym, ap}
+use Rattle.std.proofs.Common.{◌≡◌, ℕ, ◌+◌, ◌-◌, ◌≤◌, true, List, [], ◌∷◌, ◌++◌, map, Some, Ok, Err, refl, sym, ap}
 use Rattle.std.proofs.Common.{◌∙◌, subst, arith}
 use Rattle.c_syntax.specs.declared.token.Sign.{Sign}
 use Rattle.c_syntax.specs.declared.token.Sign.TheVariants as sign_is
@@ -8,8 +8,8 @@ use Rattle.c_syntax.specs.declared.expr.Link.{Link}
 use Rattle.c_syntax.specs.ExprTree as e
 use Rattle.c_syntax.specs.Words.{ExprTree, LinkList, PostfixList, plain_expr, plain_link}
 use Rattle.c_syntax.proofs.PlainExprs.{plain_link_is}
-use Rattle.c_parser_expressions.specs.Reading.{Cursor, Read, after}
-use Rattle.c_parser_expressions.specs.Marks.{stands}
+use Rattle.c_parser_expressions.specs.Reading.{Cursor, Read, next_cursor}
+use Rattle.c_parser_expressions.specs.Marks.{begins_with_sign}
 use Rattle.c_parser_expressions.specs.Steps.{◌>>=◌, with_front, all_of, Advances}
 use Rattle.c_parser_expressions.specs.Expressions.{chain_links, more_expressions, postfix_operators}
 use Rattle.c_parser_expressions.specs.ExpressionParser.{Parsers, deeper_than, comma_step, more_by, assignment_by, level_sign, link_by, link_step, chain_by, cast_by}
@@ -41,12 +41,12 @@ operators_advance d =
 
 -- operators of a chain
 pub link_goes : (operand : Cursor → Read ExprTree) (level : ℕ) (c to : Cursor) (s : Sign) (x : ExprTree) → level_sign level c.rest ≡ Some s
-    → operand (after c) ≡ Ok (x, to) → link_step operand level c ≡ Some (Ok (e.more_links c.at s x, to))
+    → operand (next_cursor c) ≡ Ok (x, to) → link_step operand level c ≡ Some (Ok (e.more_links c.at s x, to))
 unfolding link_by
 link_goes operand level c to s x h read =
     chains.step-some operand level c s h ∙ ap (λ (r : Read ExprTree). Some (r >>= (λ y. Ok (e.more_links c.at s y.0, y.1)))) read
 
-pub link_stops : (operand : Cursor → Read ExprTree) (level : ℕ) (c : Cursor) (s : Sign) (i : ℕ) → level_sign level c.rest ≡ Some s → operand (after c) ≡ Err i
+pub link_stops : (operand : Cursor → Read ExprTree) (level : ℕ) (c : Cursor) (s : Sign) (i : ℕ) → level_sign level c.rest ≡ Some s → operand (next_cursor c) ≡ Err i
     → link_step operand level c ≡ Some (Err i)
 unfolding link_by
 link_stops operand level c s i h read =
@@ -55,7 +55,7 @@ link_stops operand level c s i h read =
 pub link_push : (operand : Cursor → Read ExprTree) (level : ℕ) (whole : Read (List (LinkList → LinkList))) (c to : Cursor) (vs ws : List Link) (l : Link)
     → Advances (link_step operand level)
     → Front (link_step operand level) whole c (map plain_link vs) → level_sign level c.rest ≡ Some l.sign → l.token ≡ c.at
-    → operand (after c) ≡ Ok (plain_expr l.operand, to) → ws ≡ vs ++ l ∷ [] → Front (link_step operand level) whole to (map plain_link ws)
+    → operand (next_cursor c) ≡ Ok (plain_expr l.operand, to) → ws ≡ vs ++ l ∷ [] → Front (link_step operand level) whole to (map plain_link ws)
 link_push operand level whole c to vs ws l adv inv h at read pushed =
     let same : e.more_links c.at l.sign (plain_expr l.operand) ≡ plain_link l =
     ap (λ (n : ℕ). e.more_links n l.sign (plain_expr l.operand)) (sym at) ∙ sym (plain_link_is l) in
@@ -64,11 +64,11 @@ link_push operand level whole c to vs ws l adv inv h at read pushed =
     (link_goes operand level c to l.sign (plain_expr l.operand) h read)) pushed
 
 -- expressions with commas between them
-pub comma_goes : (item : Cursor → Read ExprTree) (c to : Cursor) (x : ExprTree) → stands sign_is.Comma c.rest ≡ true → item (after c) ≡ Ok (x, to)
+pub comma_goes : (item : Cursor → Read ExprTree) (c to : Cursor) (x : ExprTree) → begins_with_sign sign_is.Comma c.rest ≡ true → item (next_cursor c) ≡ Ok (x, to)
     → comma_step item c ≡ Some (Ok (x, to))
 comma_goes item c to x h read = commas.step-some item c h ∙ ap (λ (r : Read ExprTree). Some r) read
 
-pub comma_stops : (item : Cursor → Read ExprTree) (c : Cursor) (i : ℕ) → stands sign_is.Comma c.rest ≡ true → item (after c) ≡ Err i
+pub comma_stops : (item : Cursor → Read ExprTree) (c : Cursor) (i : ℕ) → begins_with_sign sign_is.Comma c.rest ≡ true → item (next_cursor c) ≡ Err i
     → comma_step item c ≡ Some (Err i)
 comma_stops item c i h read = commas.step-some item c h ∙ ap (λ (r : Read ExprTree). Some r) read
 
@@ -82,7 +82,7 @@ more_start item c x vs ws none pushed =
 
 pub comma_push : (item : Cursor → Read ExprTree) (whole : Read (List ExprTree)) (c to : Cursor) (vs ws : List Expr) (x : Expr) → Advances (comma_step item)
     → Front (comma_step item) whole c (map plain_expr vs)
-    → stands sign_is.Comma c.rest ≡ true → item (after c) ≡ Ok (plain_expr x, to) → ws ≡ vs ++ x ∷ [] → Front (comma_step item) whole to (map plain_expr ws)
+    → begins_with_sign sign_is.Comma c.rest ≡ true → item (next_cursor c) ≡ Ok (plain_expr x, to) → ws ≡ vs ++ x ∷ [] → Front (comma_step item) whole to (map plain_expr ws)
 comma_push item whole c to vs ws x adv inv h read pushed =
     front_push plain_expr (comma_step item) whole c to vs ws x adv inv (comma_goes item c to (plain_expr x) h read) pushed
 

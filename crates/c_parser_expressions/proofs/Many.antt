@@ -5,21 +5,21 @@ use Rattle.std.proofs.lemmas.List.{append-nil, map-append}
 use Rattle.c_syntax.specs.Spelling.{Kinds}
 use Rattle.c_parser_expressions.specs.declared.stop.Stop.{Stop}
 use Rattle.c_parser_expressions.specs.declared.stop.Stop.TheVariants as stop
-use Rattle.c_parser_expressions.specs.Reading.{Cursor, Rule, Found, Fails, Read, Outcome, seq}
-use Rattle.c_parser_expressions.specs.Steps.{◌>>=◌, Gives, Step, with_front, many, turn, all_of, Advances}
+use Rattle.c_parser_expressions.specs.Reading.{Cursor, Rule, Found, Fails, Read, Outcome, sequence_rule}
+use Rattle.c_parser_expressions.specs.Steps.{◌>>=◌, Gives, Step, with_front, parts_within_turns, parts_from_step, all_of, Advances}
 use Rattle.c_parser_expressions.proofs.Laws.{Leads, leads-found, leads-fails, leads-trans, seq-leads, seq-fails, found-shorter}
 
 -- more turns than tokens change nothing
 enough : {A : Type 0} (step : Cursor → Step A) → Advances step → (n m : ℕ) (c : Cursor) → length c.rest < n → length c.rest < m
-    → many n step c ≡ many m step c
-unfolding many
+    → parts_within_turns n step c ≡ parts_within_turns m step c
+unfolding parts_within_turns
 enough step adv zero m c a b = absurd (omega arith)
 enough step adv (suc n) zero c a b = absurd (omega arith)
 enough {A} step adv (suc n) (suc m) c a b =
-    let go : (r : Step A) → step c ≡ r → turn (many n step) c r ≡ turn (many m step) c r =
-    λ r. elim r as (λ v. step c ≡ v → turn (many n step) c v ≡ turn (many m step) c v) [
+    let go : (r : Step A) → step c ≡ r → parts_from_step (parts_within_turns n step) c r ≡ parts_from_step (parts_within_turns m step) c r =
+    λ r. elim r as (λ v. step c ≡ v → parts_from_step (parts_within_turns n step) c v ≡ parts_from_step (parts_within_turns m step) c v) [
       | None ↦ λ h. refl
-      | Some q ↦ elim q as (λ w. step c ≡ Some w → turn (many n step) c (Some w) ≡ turn (many m step) c (Some w)) [
+      | Some q ↦ elim q as (λ w. step c ≡ Some w → parts_from_step (parts_within_turns n step) c (Some w) ≡ parts_from_step (parts_within_turns m step) c (Some w)) [
         | Err i ↦ λ h. refl
         | Ok p ↦ λ h. (let less : length p.1.rest < length c.rest = adv.less c p.0 p.1 h in ap (with_front (p.0 ∷ []))
             (enough step adv n m p.1 (omega arith) (omega arith)))
@@ -29,24 +29,24 @@ enough {A} step adv (suc n) (suc m) c a b =
 
 pub all_more : {A : Type 0} (step : Cursor → Step A) (c to : Cursor) (x : A) → Advances step → step c ≡ Some (Ok (x, to))
     → all_of step c ≡ with_front (x ∷ []) (all_of step to)
-unfolding all_of many
+unfolding all_of parts_within_turns
 all_more step c to x adv h =
     let less = adv.less c x to h in
     let one : length c.rest + 1 ≡ suc (length c.rest) = omega arith in
-    ap (λ (n : ℕ). many n step c) one ∙ ap (turn (many (length c.rest) step) c) h ∙ ap (with_front (x ∷ []))
+    ap (λ (n : ℕ). parts_within_turns n step c) one ∙ ap (parts_from_step (parts_within_turns (length c.rest) step) c) h ∙ ap (with_front (x ∷ []))
     (enough step adv (length c.rest) (length to.rest + 1) to (omega arith) (omega arith))
 
 pub all_none : {A : Type 0} (step : Cursor → Step A) (c : Cursor) → step c ≡ None → all_of step c ≡ Ok ([], c)
-unfolding all_of many
+unfolding all_of parts_within_turns
 all_none step c h =
     let one : length c.rest + 1 ≡ suc (length c.rest) = omega arith in
-    ap (λ (n : ℕ). many n step c) one ∙ ap (turn (many (length c.rest) step) c) h
+    ap (λ (n : ℕ). parts_within_turns n step c) one ∙ ap (parts_from_step (parts_within_turns (length c.rest) step) c) h
 
 pub all_err : {A : Type 0} (step : Cursor → Step A) (c : Cursor) (i : ℕ) → step c ≡ Some (Err i) → all_of step c ≡ Err i
-unfolding all_of many
+unfolding all_of parts_within_turns
 all_err step c i h =
     let one : length c.rest + 1 ≡ suc (length c.rest) = omega arith in
-    ap (λ (n : ℕ). many n step c) one ∙ ap (turn (many (length c.rest) step) c) h
+    ap (λ (n : ℕ). parts_within_turns n step c) one ∙ ap (parts_from_step (parts_within_turns (length c.rest) step) c) h
 
 pub front_more : {A : Type 0} (xs : List A) (x : A) (r : Read (List A)) → with_front (xs ++ x ∷ []) r ≡ with_front xs (with_front (x ∷ []) r)
 front_more {A} xs x (Ok p) = ap {B = Read (List A)} (λ (v : List A). Ok (v, p.1)) (append_assoc xs (x ∷ []) p.0)
@@ -119,17 +119,17 @@ put-front R c to add none x (Ok p) l o = leads-found R R c to p.1 (add x) (put a
 put-front R c to add none x (Err i) l o = leads-fails R R c to (add x) i l o
 
 many-parses : {A L : Type 0} (R : Rule L) (step : Cursor → Step A) (add : A → L → L) (none : L) → Listing R step add none → (n : ℕ) (c : Cursor)
-    → length c.rest < n → Outcome R c (put_all add none (many n step c))
-unfolding many
+    → length c.rest < n → Outcome R c (put_all add none (parts_within_turns n step c))
+unfolding parts_within_turns
 many-parses R step add none list zero c less = absurd (omega arith)
 many-parses {A} R step add none list (suc n) c less =
-    let go : (r : Step A) → StepIs R add none c r → Outcome R c (put_all add none (turn (many n step) c r)) =
-    λ r. elim r as (λ v. StepIs R add none c v → Outcome R c (put_all add none (turn (many n step) c v))) [
+    let go : (r : Step A) → StepIs R add none c r → Outcome R c (put_all add none (parts_from_step (parts_within_turns n step) c r)) =
+    λ r. elim r as (λ v. StepIs R add none c v → Outcome R c (put_all add none (parts_from_step (parts_within_turns n step) c v))) [
       | None ↦ λ h. h
-      | Some q ↦ elim q as (λ w. StepIs R add none c (Some w) → Outcome R c (put_all add none (turn (many n step) c (Some w)))) [
+      | Some q ↦ elim q as (λ w. StepIs R add none c (Some w) → Outcome R c (put_all add none (parts_from_step (parts_within_turns n step) c (Some w)))) [
         | Err i ↦ λ h. h
         | Ok p ↦ λ h. (let fewer : length p.1.rest < length c.rest = h.1 in
-            put-front R c p.1 add none p.0 (many n step p.1) h.0 (many-parses R step add none list n p.1 (omega arith)))
+            put-front R c p.1 add none p.0 (parts_within_turns n step p.1) h.0 (many-parses R step add none list n p.1 (omega arith)))
       ]
     ] in
     go (step c) (list.is c)
@@ -177,11 +177,11 @@ list-none {A} R T step c mid join add none list l h = leads-found R T c mid mid 
 -- a step of one part, and then the list again
 pub link-part : {A B L : Type 0} (R : Rule L) (P : Rule B) (c d : Cursor) (add : A → L → L) (none : L) (make : B → A) (r : Read B)
     → ((at : ℕ) (v : B) (y : L) (k : Kinds) → P.Is at v → R.Is (at + length (P.spell v)) y → R.Ends y k → P.Ends v (R.spell y ++ k))
-    → Leads R (seq P (λ x. R)) c d (λ p. add (make p.0) p.1) → length d.rest < length c.rest → Outcome P d r
+    → Leads R (sequence_rule P (λ x. R)) c d (λ p. add (make p.0) p.1) → length d.rest < length c.rest → Outcome P d r
     → StepIs R add none c (Some (r >>= (λ p. Ok (make p.0, p.1))))
 link-part R P c d add none make (Ok p) follows l less o = (
-  leads-trans R (seq P (λ x. R)) R c d p.1 (λ q. add (make q.0) q.1) (λ y. (p.0, y)) l (seq-leads P (λ x. R) d p.1 p.0 follows o),
+  leads-trans R (sequence_rule P (λ x. R)) R c d p.1 (λ q. add (make q.0) q.1) (λ y. (p.0, y)) l (seq-leads P (λ x. R) d p.1 p.0 follows o),
   (let le = found-shorter P d p.1 p.0 o in omega arith),
 )
 link-part R P c d add none make (Err i) follows l less o =
-    leads-fails R (seq P (λ x. R)) c d (λ q. add (make q.0) q.1) i l (seq-fails P (λ x. R) d i follows o)
+    leads-fails R (sequence_rule P (λ x. R)) c d (λ q. add (make q.0) q.1) i l (seq-fails P (λ x. R) d i follows o)

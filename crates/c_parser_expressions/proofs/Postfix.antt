@@ -9,9 +9,9 @@ use Rattle.c_syntax.specs.declared.token.TokenKind.{TokenKind}
 use Rattle.c_syntax.specs.declared.token.TokenKind.TheVariants as kind
 use Rattle.c_syntax.specs.ExprTree as e
 use Rattle.c_syntax.specs.Words.{ExprTree, PostfixList, postfix_list, Kinds, a_sign, a_name, expr_kinds, postfix_kinds, PostfixAt}
-use Rattle.c_parser_expressions.specs.Reading.{Cursor, Same, Found, Outcome, behind, after, sign_at, kind_sign, seq, before, name}
+use Rattle.c_parser_expressions.specs.Reading.{Cursor, SameUpTo, Found, Outcome, kinds_behind_first, next_cursor, sign_at, kind_sign, sequence_rule, rule_before_sign, name_rule}
 use Rattle.c_parser_expressions.specs.Steps.{the_name}
-use Rattle.c_parser_expressions.specs.Expressions.{kind_binds, EndsAt, IsExpr, expression, inner, ArePostfix, postfix_operators}
+use Rattle.c_parser_expressions.specs.Expressions.{kind_binds, EndsAt, IsExpr, expression, inner_expression, ArePostfix, postfix_operators}
 use Rattle.c_parser_expressions.specs.ExpressionParser.{Parsers, closed_by, primary_by, postfix_sign_of, postfix_sign, index_by, member_by, operator_by}
 use Rattle.c_parser_expressions.specs.ExpressionParser.{step_of, postfix_step, operators_by, if_some, operated_by, postfix_by}
 use Rattle.c_parser_expressions.proofs.Heads.{sign-head}
@@ -31,7 +31,7 @@ postfix_tree x (e.increment t rest) = e.Postfix x (e.increment t rest)
 postfix_tree x (e.decrement t rest) = e.Postfix x (e.decrement t rest)
 
 abbrev Split : (d at : ℕ) (x : ExprTree) → Type 0
-Split d at x = (p : ExprTree × PostfixList) × (x ≡ postfix_tree p.0 p.1) × (seq (expression 16 d) (λ v. postfix_operators d)).Is at p
+Split d at x = (p : ExprTree × PostfixList) × (x ≡ postfix_tree p.0 p.1) × (sequence_rule (expression 16 d) (λ v. postfix_operators d)).Is at p
 
 split-here : (d at : ℕ) (x : ExprTree) (ops : PostfixList) → IsExpr 15 d at (e.Postfix x ops) → e.Postfix x ops ≡ postfix_tree x ops
     → Split d at (e.Postfix x ops)
@@ -83,8 +83,8 @@ follows : (d at : ℕ) (v : ExprTree) (ops : PostfixList) (k : Kinds) → EndsAt
 follows d at v e.no_postfix k ends = ends-more 15 16 k (omega arith) ends
 follows d at v _ k ends = record { by = omega arith }
 
-postfix-leads : (d : ℕ) (c : Cursor) → Leads (expression 15 d) (seq (expression 16 d) (λ v. postfix_operators d)) c c (λ p. postfix_tree p.0 p.1)
-postfix-leads d c = leads-here (expression 15 d) (seq (expression 16 d) (λ v. postfix_operators d)) c (λ p. postfix_tree p.0 p.1)
+postfix-leads : (d : ℕ) (c : Cursor) → Leads (expression 15 d) (sequence_rule (expression 16 d) (λ v. postfix_operators d)) c c (λ p. postfix_tree p.0 p.1)
+postfix-leads d c = leads-here (expression 15 d) (sequence_rule (expression 16 d) (λ v. postfix_operators d)) c (λ p. postfix_tree p.0 p.1)
     (λ p is. build d c.at p.0 p.1 is.0 is.1) (λ p. spelled p.0 p.1) (λ x k last is ends le same. (let b = split d c.at x is in (b.0, b.1, b.2, ends)))
 
 -- which sign an operator begins with
@@ -96,7 +96,7 @@ operator_sign (e.arrow t n rest) = Some sign_is.Arrow
 operator_sign (e.increment t rest) = Some sign_is.PlusPlus
 operator_sign (e.decrement t rest) = Some sign_is.MinusMinus
 
-operator-same : (last at : ℕ) (ks k : Kinds) (ops : PostfixList) (s : Sign) → operator_sign ops ≡ Some s → Same last at ks (postfix_kinds ops ++ k)
+operator-same : (last at : ℕ) (ks k : Kinds) (ops : PostfixList) (s : Sign) → operator_sign ops ≡ Some s → SameUpTo last at ks (postfix_kinds ops ++ k)
     → sign_at ks ≡ operator_sign ops
 operator-same last at [] k e.no_postfix s h same = cc
 operator-same last at (t ∷ ks) k e.no_postfix s h same = cc
@@ -104,7 +104,7 @@ operator-same last at [] k _ s h same = absurd same
 operator-same last at (t ∷ ks) k _ s h same = ap kind_sign same.0
 
 none-of : (d : ℕ) (c : Cursor) (ops : PostfixList) (k : Kinds) (last : ℕ) → postfix_sign_of d (sign_at c.rest) ≡ None → ArePostfix d c.at ops
-    → Same last c.at c.rest (postfix_kinds ops ++ k) → ops ≡ e.no_postfix
+    → SameUpTo last c.at c.rest (postfix_kinds ops ++ k) → ops ≡ e.no_postfix
 none-of d c e.no_postfix k last h are same = refl
 none-of zero c (e.index t x rest) k last h are same = let nests = are.nests in absurd (omega arith)
 none-of (suc n) c (e.index t x rest) k last h are same =
@@ -134,7 +134,7 @@ operators-none d c h = record {
 
 -- what begins with an operator's sign has that operator
 some-of : (last at : ℕ) (ks k : Kinds) (ops : PostfixList) (s : Sign) → kind_binds (kind.Punctuator s) ≡ 16 → EndsAt 15 k
-    → Same last at (kind.Punctuator s ∷ ks) (postfix_kinds ops ++ k) → operator_sign ops ≡ Some s
+    → SameUpTo last at (kind.Punctuator s ∷ ks) (postfix_kinds ops ++ k) → operator_sign ops ≡ Some s
 some-of last at ks [] e.no_postfix s b ends same = absurd same
 some-of last at ks (t ∷ k) e.no_postfix s b ends same =
     let u : kind_binds (kind.Punctuator s) ≡ kind_binds t = ap kind_binds same.0 in
@@ -143,7 +143,7 @@ some-of last at ks (t ∷ k) e.no_postfix s b ends same =
 some-of last at ks k _ s b ends same = sym (ap kind_sign same.0)
 
 index-back : (d at : ℕ) (ops : PostfixList) → ArePostfix d at ops → operator_sign ops ≡ Some sign_is.LeftBracket
-    → (p : ExprTree × PostfixList) × (ops ≡ e.index at p.0 p.1) × (seq (before (inner 0 d) sign_is.RightBracket) (λ v. postfix_operators d)).Is (at + 1) p
+    → (p : ExprTree × PostfixList) × (ops ≡ e.index at p.0 p.1) × (sequence_rule (rule_before_sign (inner_expression 0 d) sign_is.RightBracket) (λ v. postfix_operators d)).Is (at + 1) p
 index-back d at (e.index t x rest) are h =
     let nests = are.nests in
     let placed = are.placed in
@@ -159,9 +159,9 @@ index-back d at (e.index t x rest) are h =
 index-back d at _ are h = cc
 
 index-leads : (d : ℕ) (c : Cursor) → sign_at c.rest ≡ Some sign_is.LeftBracket
-    → Leads (postfix_operators d) (seq (before (inner 0 d) sign_is.RightBracket) (λ v. postfix_operators d)) c (after c) (λ p. e.index c.at p.0 p.1)
+    → Leads (postfix_operators d) (sequence_rule (rule_before_sign (inner_expression 0 d) sign_is.RightBracket) (λ v. postfix_operators d)) c (next_cursor c) (λ p. e.index c.at p.0 p.1)
 index-leads d c h =
-    let whole : c.rest ≡ kind.Punctuator sign_is.LeftBracket ∷ behind c.rest = sign-head c.rest sign_is.LeftBracket h in
+    let whole : c.rest ≡ kind.Punctuator sign_is.LeftBracket ∷ kinds_behind_first c.rest = sign-head c.rest sign_is.LeftBracket h in
     record {
       front = a_sign sign_is.LeftBracket;
       whole = whole;
@@ -176,14 +176,14 @@ index-leads d c h =
           });
       spelled = λ p. refl;
       back = λ ops k last are ends le same.
-          (let s = some-of last c.at (behind c.rest) k ops sign_is.LeftBracket refl ends
-          (subst (λ (v : Kinds). Same last c.at v (postfix_kinds ops ++ k)) whole same) in
+          (let s = some-of last c.at (kinds_behind_first c.rest) k ops sign_is.LeftBracket refl ends
+          (subst (λ (v : Kinds). SameUpTo last c.at v (postfix_kinds ops ++ k)) whole same) in
           let b = index-back d c.at ops are s in
           (b.0, b.1, b.2, ends));
     }
 
 member-back : (d at : ℕ) (ops : PostfixList) → ArePostfix d at ops → operator_sign ops ≡ Some sign_is.Dot
-    → (p : List ℕ × PostfixList) × (ops ≡ e.member at p.0 p.1) × (seq name (λ v. postfix_operators d)).Is (at + 1) p
+    → (p : List ℕ × PostfixList) × (ops ≡ e.member at p.0 p.1) × (sequence_rule name_rule (λ v. postfix_operators d)).Is (at + 1) p
 member-back d at (e.member t n rest) are h =
     let placed = are.placed in
     let here : at + 2 ≡ at + 1 + length (a_name n) = omega arith in (
@@ -202,9 +202,9 @@ member-back d at (e.member t n rest) are h =
 member-back d at _ are h = cc
 
 member-leads : (d : ℕ) (c : Cursor) → sign_at c.rest ≡ Some sign_is.Dot
-    → Leads (postfix_operators d) (seq name (λ v. postfix_operators d)) c (after c) (λ p. e.member c.at p.0 p.1)
+    → Leads (postfix_operators d) (sequence_rule name_rule (λ v. postfix_operators d)) c (next_cursor c) (λ p. e.member c.at p.0 p.1)
 member-leads d c h =
-    let whole : c.rest ≡ kind.Punctuator sign_is.Dot ∷ behind c.rest = sign-head c.rest sign_is.Dot h in
+    let whole : c.rest ≡ kind.Punctuator sign_is.Dot ∷ kinds_behind_first c.rest = sign-head c.rest sign_is.Dot h in
     record {
       front = a_sign sign_is.Dot;
       whole = whole;
@@ -213,14 +213,14 @@ member-leads d c h =
           record { shaped = is.1.shaped; nests = is.1.nests; placed = (refl, subst (λ (m : ℕ). PostfixAt m p.1) here is.1.placed) });
       spelled = λ p. refl;
       back = λ ops k last are ends le same.
-          (let s = some-of last c.at (behind c.rest) k ops sign_is.Dot refl ends
-          (subst (λ (v : Kinds). Same last c.at v (postfix_kinds ops ++ k)) whole same) in
+          (let s = some-of last c.at (kinds_behind_first c.rest) k ops sign_is.Dot refl ends
+          (subst (λ (v : Kinds). SameUpTo last c.at v (postfix_kinds ops ++ k)) whole same) in
           let b = member-back d c.at ops are s in
           (b.0, b.1, b.2, ends));
     }
 
 arrow-back : (d at : ℕ) (ops : PostfixList) → ArePostfix d at ops → operator_sign ops ≡ Some sign_is.Arrow
-    → (p : List ℕ × PostfixList) × (ops ≡ e.arrow at p.0 p.1) × (seq name (λ v. postfix_operators d)).Is (at + 1) p
+    → (p : List ℕ × PostfixList) × (ops ≡ e.arrow at p.0 p.1) × (sequence_rule name_rule (λ v. postfix_operators d)).Is (at + 1) p
 arrow-back d at (e.arrow t n rest) are h =
     let placed = are.placed in
     let here : at + 2 ≡ at + 1 + length (a_name n) = omega arith in (
@@ -239,9 +239,9 @@ arrow-back d at (e.arrow t n rest) are h =
 arrow-back d at _ are h = cc
 
 arrow-leads : (d : ℕ) (c : Cursor) → sign_at c.rest ≡ Some sign_is.Arrow
-    → Leads (postfix_operators d) (seq name (λ v. postfix_operators d)) c (after c) (λ p. e.arrow c.at p.0 p.1)
+    → Leads (postfix_operators d) (sequence_rule name_rule (λ v. postfix_operators d)) c (next_cursor c) (λ p. e.arrow c.at p.0 p.1)
 arrow-leads d c h =
-    let whole : c.rest ≡ kind.Punctuator sign_is.Arrow ∷ behind c.rest = sign-head c.rest sign_is.Arrow h in
+    let whole : c.rest ≡ kind.Punctuator sign_is.Arrow ∷ kinds_behind_first c.rest = sign-head c.rest sign_is.Arrow h in
     record {
       front = a_sign sign_is.Arrow;
       whole = whole;
@@ -250,8 +250,8 @@ arrow-leads d c h =
           record { shaped = is.1.shaped; nests = is.1.nests; placed = (refl, subst (λ (m : ℕ). PostfixAt m p.1) here is.1.placed) });
       spelled = λ p. refl;
       back = λ ops k last are ends le same.
-          (let s = some-of last c.at (behind c.rest) k ops sign_is.Arrow refl ends
-          (subst (λ (v : Kinds). Same last c.at v (postfix_kinds ops ++ k)) whole same) in
+          (let s = some-of last c.at (kinds_behind_first c.rest) k ops sign_is.Arrow refl ends
+          (subst (λ (v : Kinds). SameUpTo last c.at v (postfix_kinds ops ++ k)) whole same) in
           let b = arrow-back d c.at ops are s in
           (b.0, b.1, b.2, ends));
     }
@@ -263,9 +263,9 @@ increment-back d at (e.increment t rest) are h =
 increment-back d at _ are h = cc
 
 increment-leads : (d : ℕ) (c : Cursor) → sign_at c.rest ≡ Some sign_is.PlusPlus
-    → Leads (postfix_operators d) (postfix_operators d) c (after c) (e.increment c.at)
+    → Leads (postfix_operators d) (postfix_operators d) c (next_cursor c) (e.increment c.at)
 increment-leads d c h =
-    let whole : c.rest ≡ kind.Punctuator sign_is.PlusPlus ∷ behind c.rest = sign-head c.rest sign_is.PlusPlus h in
+    let whole : c.rest ≡ kind.Punctuator sign_is.PlusPlus ∷ kinds_behind_first c.rest = sign-head c.rest sign_is.PlusPlus h in
     record {
       front = a_sign sign_is.PlusPlus;
       whole = whole;
@@ -273,8 +273,8 @@ increment-leads d c h =
       build = λ rest is. record { shaped = is.shaped; nests = is.nests; placed = (refl, is.placed) };
       spelled = λ rest. refl;
       back = λ ops k last are ends le same.
-          (let s = some-of last c.at (behind c.rest) k ops sign_is.PlusPlus refl ends
-          (subst (λ (v : Kinds). Same last c.at v (postfix_kinds ops ++ k)) whole same) in
+          (let s = some-of last c.at (kinds_behind_first c.rest) k ops sign_is.PlusPlus refl ends
+          (subst (λ (v : Kinds). SameUpTo last c.at v (postfix_kinds ops ++ k)) whole same) in
           let b = increment-back d c.at ops are s in
           (b.0, b.1, b.2, ends));
     }
@@ -286,9 +286,9 @@ decrement-back d at (e.decrement t rest) are h =
 decrement-back d at _ are h = cc
 
 decrement-leads : (d : ℕ) (c : Cursor) → sign_at c.rest ≡ Some sign_is.MinusMinus
-    → Leads (postfix_operators d) (postfix_operators d) c (after c) (e.decrement c.at)
+    → Leads (postfix_operators d) (postfix_operators d) c (next_cursor c) (e.decrement c.at)
 decrement-leads d c h =
-    let whole : c.rest ≡ kind.Punctuator sign_is.MinusMinus ∷ behind c.rest = sign-head c.rest sign_is.MinusMinus h in
+    let whole : c.rest ≡ kind.Punctuator sign_is.MinusMinus ∷ kinds_behind_first c.rest = sign-head c.rest sign_is.MinusMinus h in
     record {
       front = a_sign sign_is.MinusMinus;
       whole = whole;
@@ -296,41 +296,41 @@ decrement-leads d c h =
       build = λ rest is. record { shaped = is.shaped; nests = is.nests; placed = (refl, is.placed) };
       spelled = λ rest. refl;
       back = λ ops k last are ends le same.
-          (let s = some-of last c.at (behind c.rest) k ops sign_is.MinusMinus refl ends
-          (subst (λ (v : Kinds). Same last c.at v (postfix_kinds ops ++ k)) whole same) in
+          (let s = some-of last c.at (kinds_behind_first c.rest) k ops sign_is.MinusMinus refl ends
+          (subst (λ (v : Kinds). SameUpTo last c.at v (postfix_kinds ops ++ k)) whole same) in
           let b = decrement-back d c.at ops are s in
           (b.0, b.1, b.2, ends));
     }
 
 -- a step, by its operator
-index-parses : (d : ℕ) (deeper : Parsers) → ((c : Cursor) → Outcome (inner 0 d) c (deeper.whole c)) → (c : Cursor) → sign_at c.rest ≡ Some sign_is.LeftBracket
+index-parses : (d : ℕ) (deeper : Parsers) → ((c : Cursor) → Outcome (inner_expression 0 d) c (deeper.whole c)) → (c : Cursor) → sign_at c.rest ≡ Some sign_is.LeftBracket
     → StepIs (postfix_operators d) (λ f. f) e.no_postfix c (Some (index_by deeper c))
 unfolding index_by closed_by
 index-parses d deeper o c h =
-    link-part (postfix_operators d) (before (inner 0 d) sign_is.RightBracket) c (after c) (λ f. f) e.no_postfix (e.index c.at)
-    (closed_by deeper.whole sign_is.RightBracket (after c)) (λ at v y k v_is y_is ends. record {})
-    (index-leads d c h) (behind-shorter c.rest sign_is.LeftBracket h) (before-parses (inner 0 d) sign_is.RightBracket (after c) (deeper.whole (after c))
-    (omega arith) (λ v k. closes sign_is.RightBracket k refl) (o (after c)))
+    link-part (postfix_operators d) (rule_before_sign (inner_expression 0 d) sign_is.RightBracket) c (next_cursor c) (λ f. f) e.no_postfix (e.index c.at)
+    (closed_by deeper.whole sign_is.RightBracket (next_cursor c)) (λ at v y k v_is y_is ends. record {})
+    (index-leads d c h) (behind-shorter c.rest sign_is.LeftBracket h) (before-parses (inner_expression 0 d) sign_is.RightBracket (next_cursor c) (deeper.whole (next_cursor c))
+    (omega arith) (λ v k. closes sign_is.RightBracket k refl) (o (next_cursor c)))
 
 member-parses : (d : ℕ) (c : Cursor) → sign_at c.rest ≡ Some sign_is.Dot → StepIs (postfix_operators d) (λ f. f) e.no_postfix c (Some (member_by e.member c))
 unfolding member_by
 member-parses d c h =
-    link-part (postfix_operators d) name c (after c) (λ f. f) e.no_postfix (e.member c.at) (the_name (after c)) (λ at v y k v_is y_is ends. record {})
-    (member-leads d c h) (behind-shorter c.rest sign_is.Dot h) (name-parses (after c))
+    link-part (postfix_operators d) name_rule c (next_cursor c) (λ f. f) e.no_postfix (e.member c.at) (the_name (next_cursor c)) (λ at v y k v_is y_is ends. record {})
+    (member-leads d c h) (behind-shorter c.rest sign_is.Dot h) (name-parses (next_cursor c))
 
 arrow-parses : (d : ℕ) (c : Cursor) → sign_at c.rest ≡ Some sign_is.Arrow → StepIs (postfix_operators d) (λ f. f) e.no_postfix c (Some (member_by e.arrow c))
 unfolding member_by
 arrow-parses d c h =
-    link-part (postfix_operators d) name c (after c) (λ f. f) e.no_postfix (e.arrow c.at) (the_name (after c)) (λ at v y k v_is y_is ends. record {})
-    (arrow-leads d c h) (behind-shorter c.rest sign_is.Arrow h) (name-parses (after c))
+    link-part (postfix_operators d) name_rule c (next_cursor c) (λ f. f) e.no_postfix (e.arrow c.at) (the_name (next_cursor c)) (λ at v y k v_is y_is ends. record {})
+    (arrow-leads d c h) (behind-shorter c.rest sign_is.Arrow h) (name-parses (next_cursor c))
 
-bracket-of : (d : ℕ) (deeper : Parsers) → ((c : Cursor) → Outcome (inner 0 d) c (deeper.whole c)) → (c : Cursor) → sign_at c.rest ≡ Some sign_is.LeftBracket
+bracket-of : (d : ℕ) (deeper : Parsers) → ((c : Cursor) → Outcome (inner_expression 0 d) c (deeper.whole c)) → (c : Cursor) → sign_at c.rest ≡ Some sign_is.LeftBracket
     → StepIs (postfix_operators d) (λ f. f) e.no_postfix c (step_of (λ s. operator_by deeper s c) (postfix_sign_of d (Some sign_is.LeftBracket)))
 unfolding operator_by
 bracket-of zero deeper o c h = operators-none zero c (ap (postfix_sign_of 0) h)
 bracket-of (suc n) deeper o c h = rw (suc_zero_test n) (index-parses (suc n) deeper o c h)
 
-step-of : (d : ℕ) (deeper : Parsers) → ((c : Cursor) → Outcome (inner 0 d) c (deeper.whole c)) → (c : Cursor) (o : Option Sign) → sign_at c.rest ≡ o
+step-of : (d : ℕ) (deeper : Parsers) → ((c : Cursor) → Outcome (inner_expression 0 d) c (deeper.whole c)) → (c : Cursor) (o : Option Sign) → sign_at c.rest ≡ o
     → StepIs (postfix_operators d) (λ f. f) e.no_postfix c (step_of (λ s. operator_by deeper s c) (postfix_sign_of d o))
 unfolding operator_by
 step-of d deeper o c (Some sign_is.LeftBracket) h = bracket-of d deeper o c h
@@ -340,7 +340,7 @@ step-of d deeper o c (Some sign_is.PlusPlus) h = (increment-leads d c h, behind-
 step-of d deeper o c (Some sign_is.MinusMinus) h = (decrement-leads d c h, behind-shorter c.rest sign_is.MinusMinus h)
 step-of d deeper o c s h = operators-none d c (ap (postfix_sign_of d) h)
 
-pub postfix-listing : (d : ℕ) (deeper : Parsers) → ((c : Cursor) → Outcome (inner 0 d) c (deeper.whole c))
+pub postfix-listing : (d : ℕ) (deeper : Parsers) → ((c : Cursor) → Outcome (inner_expression 0 d) c (deeper.whole c))
     → Listing (postfix_operators d) (postfix_step d deeper) (λ f. f) e.no_postfix
 unfolding postfix_step postfix_sign
 postfix-listing d deeper o = record { is = λ c. step-of d deeper o c (sign_at c.rest) refl }
@@ -362,7 +362,7 @@ some-operators : (x : ExprTree) (ops : PostfixList) → 1 ≤ length (postfix_ki
 some-operators x e.no_postfix h = absurd (omega arith)
 some-operators x _ h = refl
 
-operators-parse : (d : ℕ) (deeper : Parsers) → ((c : Cursor) → Outcome (inner 0 d) c (deeper.whole c)) → (c mid : Cursor) (x : ExprTree) (s : Sign)
+operators-parse : (d : ℕ) (deeper : Parsers) → ((c : Cursor) → Outcome (inner_expression 0 d) c (deeper.whole c)) → (c mid : Cursor) (x : ExprTree) (s : Sign)
     → Leads (expression 15 d) (postfix_operators d) c mid (postfix_tree x)
     → postfix_sign d mid.rest ≡ Some s → Outcome (expression 15 d) c (operators_by d deeper x mid)
 unfolding operators_by
@@ -371,7 +371,7 @@ operators-parse d deeper o c mid x s l h =
     (operator_by deeper s mid)
     (postfix-listing d deeper o) l (some-operators x) put-operators (step-some d deeper mid s h)
 
-operated-of : (d : ℕ) (deeper : Parsers) → ((c : Cursor) → Outcome (inner 0 d) c (deeper.whole c)) → (c mid : Cursor) (x : ExprTree) (s : Option Sign)
+operated-of : (d : ℕ) (deeper : Parsers) → ((c : Cursor) → Outcome (inner_expression 0 d) c (deeper.whole c)) → (c mid : Cursor) (x : ExprTree) (s : Option Sign)
     → Leads (expression 15 d) (postfix_operators d) c mid (postfix_tree x)
     → postfix_sign d mid.rest ≡ s → Outcome (expression 15 d) c (if_some s (Ok (x, mid)) (operators_by d deeper x mid))
 operated-of d deeper o c mid x None l h =
@@ -379,7 +379,7 @@ operated-of d deeper o c mid x None l h =
     (step-none d deeper mid h)
 operated-of d deeper o c mid x (Some s) l h = operators-parse d deeper o c mid x s l h
 
-pub postfix-parses : (d : ℕ) (deeper : Parsers) → ((c : Cursor) → Outcome (inner 0 d) c (deeper.whole c))
+pub postfix-parses : (d : ℕ) (deeper : Parsers) → ((c : Cursor) → Outcome (inner_expression 0 d) c (deeper.whole c))
     → ((c : Cursor) → Outcome (expression 16 d) c (primary_by d deeper c)) → (c : Cursor) → Outcome (expression 15 d) c (postfix_by d deeper c)
 unfolding postfix_by operated_by
 postfix-parses d deeper o primary c =

@@ -8,9 +8,9 @@ use Rattle.c_syntax.specs.declared.token.TokenKind.TheVariants as kind
 use Rattle.c_syntax.specs.declared.expr.PrefixOperator.{PrefixOperator}
 use Rattle.c_syntax.specs.declared.expr.PrefixOperator.TheVariants as prefix
 use Rattle.c_syntax.specs.ExprTree as e
-use Rattle.c_syntax.specs.Words.{ExprTree, ExprList, LinkList, PostfixList, Kinds, expr_kinds, postfix_kinds, prefix_kinds, prefix_kind, prefix_of, rank}
+use Rattle.c_syntax.specs.Words.{ExprTree, LinkList, Kinds, expr_kinds, postfix_kinds, prefix_kinds, prefix_kind, prefix_of, expression_rank}
 use Rattle.c_syntax.specs.Words.{ShapedExpr}
-use Rattle.c_parser_expressions.specs.Reading.{Same, behind}
+use Rattle.c_parser_expressions.specs.Reading.{SameUpTo, kinds_behind_first}
 use Rattle.c_parser_expressions.specs.ExpressionParser.{prefix_at}
 
 abbrev pub starts : TokenKind → Bool
@@ -40,7 +40,7 @@ pub starts-more : (a b : Kinds) → StartsAt a → StartsAt (a ++ b)
 starts-more [] b h = absurd h
 starts-more (x ∷ xs) b h = h
 
-pub starts-same : (last at : ℕ) (x : TokenKind) (xs k : Kinds) → StartsAt k → Same last at (x ∷ xs) k → starts x ≡ true
+pub starts-same : (last at : ℕ) (x : TokenKind) (xs k : Kinds) → StartsAt k → SameUpTo last at (x ∷ xs) k → starts x ≡ true
 starts-same last at x xs [] h same = absurd h
 starts-same last at x xs (y ∷ ys) h same = ap starts same.0 ∙ h
 
@@ -84,7 +84,7 @@ begins_primary (kind.Punctuator _) = false
 pub chain-low : (l : ℕ) (x : ExprTree) (ls : LinkList) → 13 ≤ l + 2 → ShapedExpr (e.Chain l x ls) → ⊥
 chain-low l x ls r h = let most = h.1 in omega arith
 
-pub primary-first : (x : ExprTree) (last at : ℕ) (t : TokenKind) (ks k : Kinds) → 16 ≤ rank x → ShapedExpr x → Same last at (t ∷ ks) (expr_kinds x ++ k)
+pub primary-first : (x : ExprTree) (last at : ℕ) (t : TokenKind) (ks k : Kinds) → 16 ≤ expression_rank x → ShapedExpr x → SameUpTo last at (t ∷ ks) (expr_kinds x ++ k)
     → first_of x ≡ Some t
 primary-first (e.Name token name) last at t ks k r h same = ap Some (sym same.0)
 primary-first (e.Call token name xs) last at t ks k r h same = ap Some (sym same.0)
@@ -108,15 +108,15 @@ begins-of (e.Null token) t h = let s : kind.Word word.Null ≡ t = cc in ap begi
 begins-of (e.EndOfFile token) t h = let s : kind.Word word.EndOfFile ≡ t = cc in ap begins_primary (sym s)
 begins-of _ t h = cc
 
-pub primary-begins : (x : ExprTree) (last at : ℕ) (t : TokenKind) (ks k : Kinds) → 16 ≤ rank x → ShapedExpr x → Same last at (t ∷ ks) (expr_kinds x ++ k)
+pub primary-begins : (x : ExprTree) (last at : ℕ) (t : TokenKind) (ks k : Kinds) → 16 ≤ expression_rank x → ShapedExpr x → SameUpTo last at (t ∷ ks) (expr_kinds x ++ k)
     → begins_primary t ≡ true
 primary-begins x last at t ks k r h same = begins-of x t (primary-first x last at t ks k r h same)
 
 -- with postfix operators it begins with the same tokens
-pub postfix-begins : (x : ExprTree) (last at : ℕ) (t : TokenKind) (ks k : Kinds) → 15 ≤ rank x → ShapedExpr x → Same last at (t ∷ ks) (expr_kinds x ++ k)
+pub postfix-begins : (x : ExprTree) (last at : ℕ) (t : TokenKind) (ks k : Kinds) → 15 ≤ expression_rank x → ShapedExpr x → SameUpTo last at (t ∷ ks) (expr_kinds x ++ k)
     → begins_primary t ≡ true
 postfix-begins (e.Postfix x ops) last at t ks k r h same =
-    primary-begins x last at t ks (postfix_kinds ops ++ k) h.0 h.1 (subst (λ (v : Kinds). Same last at (t ∷ ks) v)
+    primary-begins x last at t ks (postfix_kinds ops ++ k) h.0 h.1 (subst (λ (v : Kinds). SameUpTo last at (t ∷ ks) v)
     (append_assoc (expr_kinds x) (postfix_kinds ops) k) same)
 postfix-begins (e.Comma token xs) last at t ks k r h same = absurd (omega arith)
 postfix-begins (e.Assign token s x y) last at t ks k r h same = absurd (omega arith)
@@ -156,6 +156,6 @@ prefix-token (kind.Punctuator sign.Tilde) o h = let s : prefix.Complement ≡ o 
 prefix-token (kind.Punctuator sign.Exclamation) o h = let s : prefix.Not ≡ o = cc in ap prefix_kind s
 prefix-token _ o h = cc
 
-pub prefix-head : (k : Kinds) (o : PrefixOperator) → prefix_at k ≡ Some o → k ≡ prefix_kind o ∷ behind k
+pub prefix-head : (k : Kinds) (o : PrefixOperator) → prefix_at k ≡ Some o → k ≡ prefix_kind o ∷ kinds_behind_first k
 prefix-head [] o h = cc
 prefix-head (t ∷ ks) o h = ap (λ (v : TokenKind). v ∷ ks) (prefix-token t o h)

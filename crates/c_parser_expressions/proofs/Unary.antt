@@ -13,11 +13,11 @@ use Rattle.c_syntax.specs.declared.parts.Base.{Base}
 use Rattle.c_syntax.specs.declared.expr.PrefixOperator.{PrefixOperator}
 use Rattle.c_syntax.specs.declared.expr.PrefixOperator.TheVariants as prefix
 use Rattle.c_syntax.specs.ExprTree as e
-use Rattle.c_syntax.specs.Words.{ExprTree, PostfixList, Kinds, a_sign, expr_kinds, postfix_kinds, base_kinds, star_kinds, prefix_kind, prefix_kinds, prefix_of}
-use Rattle.c_syntax.specs.Words.{rank, operand_rank, ShapedExpr, expr_nesting, BaseAt}
-use Rattle.c_parser_expressions.specs.Reading.{Cursor, Same, Rule, Found, Fails, Read, Outcome, behind, after, sign_at, before}
-use Rattle.c_parser_expressions.specs.Marks.{stands}
-use Rattle.c_parser_expressions.specs.Expressions.{sign_binds, binds, kind_binds, EndsAt, IsExpr, expression, IsInner, inner, type_name}
+use Rattle.c_syntax.specs.Words.{ExprTree, Kinds, a_sign, expr_kinds, postfix_kinds, base_kinds, star_kinds, prefix_kind, prefix_kinds, prefix_of}
+use Rattle.c_syntax.specs.Words.{expression_rank, operand_rank, ShapedExpr, expr_nesting, BaseAt}
+use Rattle.c_parser_expressions.specs.Reading.{Cursor, SameUpTo, Rule, Found, Fails, Read, Outcome, kinds_behind_first, next_cursor, sign_at, rule_before_sign}
+use Rattle.c_parser_expressions.specs.Marks.{begins_with_sign}
+use Rattle.c_parser_expressions.specs.Expressions.{sign_binds, binding_strength, kind_binds, EndsAt, IsExpr, expression, IsInner, inner_expression, type_name}
 use Rattle.c_parser_expressions.specs.ExpressionParser.{Parsers, is_base_word, begins_type, opens_type, closed_type, size_of_operand, size_of_type, size_of_paren}
 use Rattle.c_parser_expressions.specs.ExpressionParser.{size_of_by, prefix_by, prefix_at, operand_by, unary_of, unary_by, postfix_by}
 use Rattle.c_parser_expressions.proofs.Heads.{sign-head, same-sign, stands-sign, sign-stands}
@@ -32,7 +32,7 @@ use Rattle.c_parser_expressions.proofs.Primary.{ends-more}
 pub record Narrows {A : Type 0} (R S : Rule A) (c : Cursor) (least : ℕ) : Type 0 where
   pub build : (x : A) → S.Is c.at x → R.Is c.at x
   pub spelled : (x : A) → R.spell x ≡ S.spell x
-  pub back : (x : A) (k : Kinds) (last : ℕ) → R.Is c.at x → R.Ends x k → least ≤ last → Same last c.at c.rest (R.spell x ++ k) → S.Is c.at x × S.Ends x k
+  pub back : (x : A) (k : Kinds) (last : ℕ) → R.Is c.at x → R.Ends x k → least ≤ last → SameUpTo last c.at c.rest (R.spell x ++ k) → S.Is c.at x × S.Ends x k
 
 pub narrows-found : {A : Type 0} (R S : Rule A) (c to : Cursor) (least : ℕ) (x : A) → Narrows R S c least → least ≤ to.at → Found S c x to → Found R c x to
 narrows-found R S c to least x n le f = record {
@@ -41,7 +41,7 @@ narrows-found R S c to least x n le f = record {
   moved = f.moved ∙ ap (λ (v : Kinds). c.at + length v) (sym (n.spelled x));
   only = λ y k last is ends far same.
       (let b = n.back y k last is ends (omega arith) same in
-      f.only y k last b.0 b.1 far (subst (λ (v : Kinds). Same last c.at c.rest (v ++ k)) (n.spelled y) same));
+      f.only y k last b.0 b.1 far (subst (λ (v : Kinds). SameUpTo last c.at c.rest (v ++ k)) (n.spelled y) same));
 }
 
 pub narrows-fails : {A : Type 0} (R S : Rule A) (c : Cursor) (least last : ℕ) → Narrows R S c least → least ≤ last → Fails S c last → Fails R c last
@@ -50,7 +50,7 @@ narrows-fails R S c least last n le f = record {
   within = f.within;
   none = λ y k is ends same.
       (let b = n.back y k last is ends le same in
-      f.none y k b.0 b.1 (subst (λ (v : Kinds). Same last c.at c.rest (v ++ k)) (n.spelled y) same));
+      f.none y k b.0 b.1 (subst (λ (v : Kinds). SameUpTo last c.at c.rest (v ++ k)) (n.spelled y) same));
 }
 
 -- it is enough that each part has so many tokens, and no refusal comes earlier
@@ -60,7 +60,7 @@ narrows-outcome R S c least (Ok p) n far late o = narrows-found R S c p.1 least 
 narrows-outcome R S c least (Err i) n far late o = narrows-fails R S c least i n (late i o) o
 
 -- the second token of what begins with a parenthesis and is no cast
-second-of : (last at : ℕ) (x : TokenKind) (xs : Kinds) (a k : Kinds) → StartsAt a → Same last at (x ∷ xs) (a ++ k) → starts x ≡ true
+second-of : (last at : ℕ) (x : TokenKind) (xs : Kinds) (a k : Kinds) → StartsAt a → SameUpTo last at (x ∷ xs) (a ++ k) → starts x ≡ true
 second-of last at x xs [] k h same = absurd h
 second-of last at x xs (y ∷ a) k h same = ap starts same.0 ∙ h
 
@@ -68,20 +68,20 @@ abbrev starts_some : Kinds → Bool
 starts_some [] = false
 starts_some (x ∷ xs) = starts x
 
-starts-here : (last at : ℕ) (ks a k : Kinds) → StartsAt a → Same last at ks (a ++ k) → starts_some ks ≡ true
+starts-here : (last at : ℕ) (ks a k : Kinds) → StartsAt a → SameUpTo last at ks (a ++ k) → starts_some ks ≡ true
 starts-here last at [] [] k h same = absurd h
 starts-here last at [] (y ∷ a) k h same = absurd same
 starts-here last at (x ∷ xs) a k h same = second-of last at x xs a k h same
 
 -- what begins with a parenthesis, with a rank from that of unary expressions on
-pub paren-second : (x : ExprTree) (last at : ℕ) (ks k : Kinds) → 14 ≤ rank x → ShapedExpr x → at < last
-    → Same last at (kind.Punctuator sign_is.LeftParen ∷ ks) (expr_kinds x ++ k) → starts_some ks ≡ true
+pub paren-second : (x : ExprTree) (last at : ℕ) (ks k : Kinds) → 14 ≤ expression_rank x → ShapedExpr x → at < last
+    → SameUpTo last at (kind.Punctuator sign_is.LeftParen ∷ ks) (expr_kinds x ++ k) → starts_some ks ≡ true
 paren-second (e.Paren t y) last at ks k r h below same =
     starts-here last (at + 1) ks (expr_kinds y ++ a_sign sign_is.RightParen) k (starts-more (expr_kinds y) (a_sign sign_is.RightParen) (starts-expr y h))
     (same.1 below)
 paren-second (e.Postfix y ops) last at ks k r h below same =
     paren-second y last at ks (postfix_kinds ops ++ k) (let q = h.0 in omega arith) h.1 below
-    (subst (λ (v : Kinds). Same last at (kind.Punctuator sign_is.LeftParen ∷ ks) v) (append_assoc (expr_kinds y) (postfix_kinds ops) k) same)
+    (subst (λ (v : Kinds). SameUpTo last at (kind.Punctuator sign_is.LeftParen ∷ ks) v) (append_assoc (expr_kinds y) (postfix_kinds ops) k) same)
 paren-second (e.Prefix t o y) last at ks k r h below same =
     let s : kind.Punctuator sign_is.LeftParen ≡ prefix_kind o = same.0 in
     let n : None ≡ Some o = ap prefix_of s ∙ prefix-back o in cc
@@ -97,14 +97,14 @@ paren-second (e.Chain l y ls) last at ks k r h below same = absurd (chain-low l 
 paren-second _ last at ks k r h below same = absurd (omega arith)
 
 -- it nests
-pub paren-deep : (x : ExprTree) (last at : ℕ) (ks k : Kinds) → 13 ≤ rank x → ShapedExpr x
-    → Same last at (kind.Punctuator sign_is.LeftParen ∷ ks) (expr_kinds x ++ k) → 1 ≤ expr_nesting x
+pub paren-deep : (x : ExprTree) (last at : ℕ) (ks k : Kinds) → 13 ≤ expression_rank x → ShapedExpr x
+    → SameUpTo last at (kind.Punctuator sign_is.LeftParen ∷ ks) (expr_kinds x ++ k) → 1 ≤ expr_nesting x
 paren-deep (e.Paren t y) last at ks k r h same = omega arith
 paren-deep (e.Cast t b n y) last at ks k r h same = omega arith
 paren-deep (e.Postfix y ops) last at ks k r h same =
     let n : 1 ≤ expr_nesting y =
     paren-deep y last at ks (postfix_kinds ops ++ k) (let q = h.0 in omega arith) h.1
-    (subst (λ (v : Kinds). Same last at (kind.Punctuator sign_is.LeftParen ∷ ks) v) (append_assoc (expr_kinds y) (postfix_kinds ops) k) same) in
+    (subst (λ (v : Kinds). SameUpTo last at (kind.Punctuator sign_is.LeftParen ∷ ks) v) (append_assoc (expr_kinds y) (postfix_kinds ops) k) same) in
     omega arith
 paren-deep (e.Prefix t o y) last at ks k r h same = omega arith
 paren-deep (e.SizeOfType t b n) last at ks k r h same = let s = same.0 in cc
@@ -141,7 +141,7 @@ gap-kind : (t : TokenKind) → kind_binds t ≤ 15 → kind_binds t ≤ 13
 gap-kind (kind.Punctuator s) h = gap-sign s h
 gap-kind _ h = omega arith
 
-gap : (k : Kinds) → binds k ≤ 15 → binds k ≤ 13
+gap : (k : Kinds) → binding_strength k ≤ 15 → binding_strength k ≤ 13
 gap [] h = omega arith
 gap (t ∷ k) h = gap-kind t h
 
@@ -152,14 +152,14 @@ unary-ends r k le ends = let by = ends.by in let less = gap k (omega arith) in r
 abbrev Prefixed : (d at : ℕ) (o : PrefixOperator) (x : ExprTree) → Type 0
 Prefixed d at o x = (y : ExprTree) × (x ≡ e.Prefix at o y) × IsInner (operand_rank o) d (at + 1) y
 
-no-prefix : (last at : ℕ) (o : PrefixOperator) (ks k : Kinds) (x : ExprTree) → 15 ≤ rank x → ShapedExpr x
-    → Same last at (prefix_kind o ∷ ks) (expr_kinds x ++ k) → ⊥
+no-prefix : (last at : ℕ) (o : PrefixOperator) (ks k : Kinds) (x : ExprTree) → 15 ≤ expression_rank x → ShapedExpr x
+    → SameUpTo last at (prefix_kind o ∷ ks) (expr_kinds x ++ k) → ⊥
 no-prefix last at o ks k x r shaped same =
     let n : prefix_of (prefix_kind o) ≡ None = primary-no_prefix (prefix_kind o) (postfix-begins x last at (prefix_kind o) ks k r shaped same) in
     let s : None ≡ Some o = sym n ∙ prefix-back o in cc
 
 prefix-within : (d at last : ℕ) (o : PrefixOperator) (ks k : Kinds) (x : ExprTree) → (o ≡ prefix.SizeOf → ⊥) → IsExpr 14 d at x
-    → Same last at (prefix_kind o ∷ ks) (expr_kinds x ++ k) → Prefixed d at o x
+    → SameUpTo last at (prefix_kind o ∷ ks) (expr_kinds x ++ k) → Prefixed d at o x
 prefix-within d at last o ks k (e.Prefix t p y) other is same =
     let nests = is.nests in
     let s : p ≡ o = prefix-same p o (sym same.0) in
@@ -167,7 +167,7 @@ prefix-within d at last o ks k (e.Prefix t p y) other is same =
       y,
       here,
       record {
-        ranks = subst (λ (q : PrefixOperator). operand_rank q ≤ rank y) s is.shaped.0;
+        ranks = subst (λ (q : PrefixOperator). operand_rank q ≤ expression_rank y) s is.shaped.0;
         shaped = is.shaped.1;
         nests = omega arith;
         placed = is.placed.1;
@@ -183,9 +183,9 @@ prefix-within d at last o ks k (e.Cast token b stars x) other is same = let r = 
 prefix-within d at last o ks k x other is same = absurd (no-prefix last at o ks k x (omega arith) is.shaped same)
 
 prefix-leads : (d : ℕ) (c : Cursor) (o : PrefixOperator) (r : ℕ) → operand_rank o ≡ r → 13 ≤ r → r ≤ 14 → (o ≡ prefix.SizeOf → ⊥) → prefix_at c.rest ≡ Some o
-    → Leads (expression 14 d) (inner r d) c (after c) (e.Prefix c.at o)
+    → Leads (expression 14 d) (inner_expression r d) c (next_cursor c) (e.Prefix c.at o)
 prefix-leads d c o r ranked large small other h =
-    let whole : c.rest ≡ prefix_kind o ∷ behind c.rest = prefix-head c.rest o h in
+    let whole : c.rest ≡ prefix_kind o ∷ kinds_behind_first c.rest = prefix-head c.rest o h in
     record {
       front = prefix_kinds o;
       whole = whole;
@@ -199,38 +199,38 @@ prefix-leads d c o r ranked large small other h =
           });
       spelled = λ y. refl;
       back = λ x k last is ends le same.
-          (let w : Prefixed d c.at o x = prefix-within d c.at last o (behind c.rest) k x other is
-          (subst (λ (v : Kinds). Same last c.at v (expr_kinds x ++ k)) whole same) in
+          (let w : Prefixed d c.at o x = prefix-within d c.at last o (kinds_behind_first c.rest) k x other is
+          (subst (λ (v : Kinds). SameUpTo last c.at v (expr_kinds x ++ k)) whole same) in
           let ranks = w.2.ranks in
           (w.0, w.1, record { ranks = omega arith; shaped = w.2.shaped; nests = w.2.nests; placed = w.2.placed }, unary-ends r k large ends));
     }
 
 prefix-flat : (c : Cursor) (o : PrefixOperator) → (o ≡ prefix.SizeOf → ⊥) → prefix_at c.rest ≡ Some o → Fails (expression 14 0) c c.at
 prefix-flat c o other h = fails-here (expression 14 0) c (λ x k is ends same.
-    (let w : Prefixed 0 c.at o x = prefix-within 0 c.at c.at o (behind c.rest) k x other is
-    (subst (λ (v : Kinds). Same c.at c.at v (expr_kinds x ++ k)) (prefix-head c.rest o h) same) in
+    (let w : Prefixed 0 c.at o x = prefix-within 0 c.at c.at o (kinds_behind_first c.rest) k x other is
+    (subst (λ (v : Kinds). SameUpTo c.at c.at v (expr_kinds x ++ k)) (prefix-head c.rest o h) same) in
     let nests = w.2.nests in
     absurd (omega arith)))
 
 prefix-parses : (d : ℕ) (o : PrefixOperator) (r : ℕ) (f : Cursor → Read ExprTree) → operand_rank o ≡ r → 13 ≤ r → r ≤ 14 → (o ≡ prefix.SizeOf → ⊥)
-    → ((c : Cursor) → Outcome (inner r d) c (f c))
+    → ((c : Cursor) → Outcome (inner_expression r d) c (f c))
     → (c : Cursor) → prefix_at c.rest ≡ Some o → Outcome (expression 14 d) c (prefix_by d o f c)
 unfolding prefix_by
 prefix-parses zero o r f ranked large small other parses c h = prefix-flat c o other h
 prefix-parses (suc n) o r f ranked large small other parses c h =
-    rw (suc_zero_test n) (finish (expression 14 (suc n)) (inner r (suc n)) c (after c) (e.Prefix c.at o) (f (after c))
-    (prefix-leads (suc n) c o r ranked large small other h) (parses (after c)))
+    rw (suc_zero_test n) (finish (expression 14 (suc n)) (inner_expression r (suc n)) c (next_cursor c) (e.Prefix c.at o) (f (next_cursor c))
+    (prefix-leads (suc n) c o r ranked large small other h) (parses (next_cursor c)))
 
-prefix-same-at : (last at : ℕ) (ks k : Kinds) (o : PrefixOperator) → Same last at ks (prefix_kinds o ++ k) → prefix_at ks ≡ Some o
+prefix-same-at : (last at : ℕ) (ks k : Kinds) (o : PrefixOperator) → SameUpTo last at ks (prefix_kinds o ++ k) → prefix_at ks ≡ Some o
 prefix-same-at last at [] k o same = absurd same
 prefix-same-at last at (t ∷ ks) k o same = ap prefix_of same.0 ∙ prefix-back o
 
 -- where no prefix operator stands
 no-prefix-narrows : (d : ℕ) (c : Cursor) → prefix_at c.rest ≡ None → (x : ExprTree) (k : Kinds) (last : ℕ) → IsExpr 14 d c.at x
-    → Same last c.at c.rest (expr_kinds x ++ k) → IsExpr 15 d c.at x
+    → SameUpTo last c.at c.rest (expr_kinds x ++ k) → IsExpr 15 d c.at x
 no-prefix-narrows d c h (e.Prefix t o y) k last is same =
     let p : prefix_at c.rest ≡ Some o =
-    prefix-same-at last c.at c.rest (expr_kinds y ++ k) o (subst (λ (v : Kinds). Same last c.at c.rest v)
+    prefix-same-at last c.at c.rest (expr_kinds y ++ k) o (subst (λ (v : Kinds). SameUpTo last c.at c.rest v)
     (append_assoc (prefix_kinds o) (expr_kinds y) k) same) in cc
 no-prefix-narrows d c h (e.SizeOfType t b n) k last is same =
     let p : prefix_at c.rest ≡ Some prefix.SizeOf = prefix-same-at last c.at c.rest _ prefix.SizeOf same in cc
@@ -252,8 +252,8 @@ size_kind = prefix_kind prefix.SizeOf
 
 -- of an expression: where no type can stand
 size-within : (d at last : ℕ) (ks k : Kinds) (x : ExprTree) → IsExpr 14 d at x
-    → ((b : Base) (n : ℕ) → Same last at (size_kind ∷ ks) (expr_kinds (e.SizeOfType at b n) ++ k) → ⊥)
-    → Same last at (size_kind ∷ ks) (expr_kinds x ++ k) → Prefixed d at prefix.SizeOf x
+    → ((b : Base) (n : ℕ) → SameUpTo last at (size_kind ∷ ks) (expr_kinds (e.SizeOfType at b n) ++ k) → ⊥)
+    → SameUpTo last at (size_kind ∷ ks) (expr_kinds x ++ k) → Prefixed d at prefix.SizeOf x
 size-within d at last ks k (e.Prefix t p y) is no_type same =
     let nests = is.nests in
     let s : p ≡ prefix.SizeOf = prefix-same p prefix.SizeOf (sym same.0) in
@@ -261,7 +261,7 @@ size-within d at last ks k (e.Prefix t p y) is no_type same =
       y,
       here,
       record {
-        ranks = subst (λ (q : PrefixOperator). operand_rank q ≤ rank y) s is.shaped.0;
+        ranks = subst (λ (q : PrefixOperator). operand_rank q ≤ expression_rank y) s is.shaped.0;
         shaped = is.shaped.1;
         nests = omega arith;
         placed = is.placed.1;
@@ -283,7 +283,7 @@ pub record IsOperated (d at : ℕ) (x : ExprTree) : Type 0 where
 abbrev operated : (d : ℕ) → Rule ExprTree
 operated d = record { Is = IsOperated d; spell = expr_kinds; Ends = λ x k. EndsAt 14 k }
 
-operated-leads : (d : ℕ) (c : Cursor) → prefix_at c.rest ≡ Some prefix.SizeOf → Leads (operated d) (inner 14 d) c (after c) (e.Prefix c.at prefix.SizeOf)
+operated-leads : (d : ℕ) (c : Cursor) → prefix_at c.rest ≡ Some prefix.SizeOf → Leads (operated d) (inner_expression 14 d) c (next_cursor c) (e.Prefix c.at prefix.SizeOf)
 operated-leads d c h = record {
   front = prefix_kinds prefix.SizeOf;
   whole = prefix-head c.rest prefix.SizeOf h;
@@ -296,14 +296,14 @@ operated-leads d c h = record {
   back = λ x k last is ends le same. (is.operand.0, is.operand.1, is.operand.2, ends);
 }
 
-operand-parses : (d : ℕ) (deeper : Parsers) → ((c : Cursor) → Outcome (inner 14 d) c (deeper.unary c)) → (c : Cursor) → prefix_at c.rest ≡ Some prefix.SizeOf
+operand-parses : (d : ℕ) (deeper : Parsers) → ((c : Cursor) → Outcome (inner_expression 14 d) c (deeper.unary c)) → (c : Cursor) → prefix_at c.rest ≡ Some prefix.SizeOf
     → Outcome (operated d) c (size_of_operand deeper c)
 unfolding size_of_operand
 operand-parses d deeper o c h =
-    finish (operated d) (inner 14 d) c (after c) (e.Prefix c.at prefix.SizeOf) (deeper.unary (after c)) (operated-leads d c h) (o (after c))
+    finish (operated d) (inner_expression 14 d) c (next_cursor c) (e.Prefix c.at prefix.SizeOf) (deeper.unary (next_cursor c)) (operated-leads d c h) (o (next_cursor c))
 
 -- a type's parenthesis is the second token, its base the third
-type-second : (last at : ℕ) (ks k : Kinds) (t n : ℕ) (b : Base) → at < last → Same last at (size_kind ∷ ks) (expr_kinds (e.SizeOfType t b n) ++ k)
+type-second : (last at : ℕ) (ks k : Kinds) (t n : ℕ) (b : Base) → at < last → SameUpTo last at (size_kind ∷ ks) (expr_kinds (e.SizeOfType t b n) ++ k)
     → sign_at ks ≡ Some sign_is.LeftParen
 type-second last at ks k t n b below same = same-sign last (at + 1) ks _ sign_is.LeftParen (same.1 below)
 
@@ -314,18 +314,18 @@ type-rest b n k =
     (star_kinds n ++ a_sign sign_is.RightParen) k
 
 type-third : (last at : ℕ) (ks k : Kinds) (t n : ℕ) (b : Base) → at + 1 < last
-    → Same last at (size_kind ∷ kind.Punctuator sign_is.LeftParen ∷ ks) (expr_kinds (e.SizeOfType t b n) ++ k) → begins_type ks ≡ true
+    → SameUpTo last at (size_kind ∷ kind.Punctuator sign_is.LeftParen ∷ ks) (expr_kinds (e.SizeOfType t b n) ++ k) → begins_type ks ≡ true
 type-third last at ks k t n b below same =
     let first_below : at < last = omega arith in
     let rest = (same.1 first_below).1 below in
     base-begins last (at + 1 + 1) ks ((star_kinds n ++ a_sign sign_is.RightParen) ++ k) b
-    (subst (λ (v : Kinds). Same last (at + 1 + 1) ks v) (type-rest b n k) rest)
+    (subst (λ (v : Kinds). SameUpTo last (at + 1 + 1) ks v) (type-rest b n k) rest)
 
 -- `sizeof` without a parenthesis behind it
-bare-leads : (d : ℕ) (c : Cursor) → prefix_at c.rest ≡ Some prefix.SizeOf → (sign_at (behind c.rest) ≡ Some sign_is.LeftParen → ⊥)
-    → Leads (expression 14 d) (inner 14 d) c (after c) (e.Prefix c.at prefix.SizeOf)
+bare-leads : (d : ℕ) (c : Cursor) → prefix_at c.rest ≡ Some prefix.SizeOf → (sign_at (kinds_behind_first c.rest) ≡ Some sign_is.LeftParen → ⊥)
+    → Leads (expression 14 d) (inner_expression 14 d) c (next_cursor c) (e.Prefix c.at prefix.SizeOf)
 bare-leads d c h other =
-    let whole : c.rest ≡ size_kind ∷ behind c.rest = prefix-head c.rest prefix.SizeOf h in
+    let whole : c.rest ≡ size_kind ∷ kinds_behind_first c.rest = prefix-head c.rest prefix.SizeOf h in
     record {
       front = prefix_kinds prefix.SizeOf;
       whole = whole;
@@ -334,39 +334,39 @@ bare-leads d c h other =
           λ y is. (let nests = is.nests in record { ranks = omega arith; shaped = (is.ranks, is.shaped); nests = omega arith; placed = (refl, is.placed) });
       spelled = λ y. refl;
       back = λ x k last is ends le same.
-          (let w : Prefixed d c.at prefix.SizeOf x = size-within d c.at last (behind c.rest) k x is
-          (λ b n both. other (type-second last c.at (behind c.rest) k c.at n b (omega arith) both))
-          (subst (λ (v : Kinds). Same last c.at v (expr_kinds x ++ k)) whole same) in
+          (let w : Prefixed d c.at prefix.SizeOf x = size-within d c.at last (kinds_behind_first c.rest) k x is
+          (λ b n both. other (type-second last c.at (kinds_behind_first c.rest) k c.at n b (omega arith) both))
+          (subst (λ (v : Kinds). SameUpTo last c.at v (expr_kinds x ++ k)) whole same) in
           (w.0, w.1, w.2, ends));
     }
 
-bare-parses : (d : ℕ) (deeper : Parsers) → ((c : Cursor) → Outcome (inner 14 d) c (deeper.unary c)) → (c : Cursor) → prefix_at c.rest ≡ Some prefix.SizeOf
-    → (sign_at (behind c.rest) ≡ Some sign_is.LeftParen → ⊥)
+bare-parses : (d : ℕ) (deeper : Parsers) → ((c : Cursor) → Outcome (inner_expression 14 d) c (deeper.unary c)) → (c : Cursor) → prefix_at c.rest ≡ Some prefix.SizeOf
+    → (sign_at (kinds_behind_first c.rest) ≡ Some sign_is.LeftParen → ⊥)
     → Outcome (expression 14 d) c (size_of_operand deeper c)
 unfolding size_of_operand
 bare-parses d deeper o c h other =
-    finish (expression 14 d) (inner 14 d) c (after c) (e.Prefix c.at prefix.SizeOf) (deeper.unary (after c)) (bare-leads d c h other) (o (after c))
+    finish (expression 14 d) (inner_expression 14 d) c (next_cursor c) (e.Prefix c.at prefix.SizeOf) (deeper.unary (next_cursor c)) (bare-leads d c h other) (o (next_cursor c))
 
 -- with one that no type follows
-size-whole : (c : Cursor) → prefix_at c.rest ≡ Some prefix.SizeOf → sign_at (behind c.rest) ≡ Some sign_is.LeftParen
-    → c.rest ≡ size_kind ∷ kind.Punctuator sign_is.LeftParen ∷ behind (behind c.rest)
-size-whole c h p = prefix-head c.rest prefix.SizeOf h ∙ ap (λ (v : Kinds). size_kind ∷ v) (sign-head (behind c.rest) sign_is.LeftParen p)
+size-whole : (c : Cursor) → prefix_at c.rest ≡ Some prefix.SizeOf → sign_at (kinds_behind_first c.rest) ≡ Some sign_is.LeftParen
+    → c.rest ≡ size_kind ∷ kind.Punctuator sign_is.LeftParen ∷ kinds_behind_first (kinds_behind_first c.rest)
+size-whole c h p = prefix-head c.rest prefix.SizeOf h ∙ ap (λ (v : Kinds). size_kind ∷ v) (sign-head (kinds_behind_first c.rest) sign_is.LeftParen p)
 
-no-type : (c : Cursor) (last : ℕ) (k : Kinds) (b : Base) (n : ℕ) → begins_type (behind (behind c.rest)) ≡ false → c.at + 2 ≤ last
-    → Same last c.at (size_kind ∷ kind.Punctuator sign_is.LeftParen ∷ behind (behind c.rest)) (expr_kinds (e.SizeOfType c.at b n) ++ k) → ⊥
+no-type : (c : Cursor) (last : ℕ) (k : Kinds) (b : Base) (n : ℕ) → begins_type (kinds_behind_first (kinds_behind_first c.rest)) ≡ false → c.at + 2 ≤ last
+    → SameUpTo last c.at (size_kind ∷ kind.Punctuator sign_is.LeftParen ∷ kinds_behind_first (kinds_behind_first c.rest)) (expr_kinds (e.SizeOfType c.at b n) ++ k) → ⊥
 no-type c last k b n f le same =
-    let t : begins_type (behind (behind c.rest)) ≡ true = type-third last c.at (behind (behind c.rest)) k c.at n b (omega arith) same in cc
+    let t : begins_type (kinds_behind_first (kinds_behind_first c.rest)) ≡ true = type-third last c.at (kinds_behind_first (kinds_behind_first c.rest)) k c.at n b (omega arith) same in cc
 
-paren-within : (d : ℕ) (c : Cursor) → prefix_at c.rest ≡ Some prefix.SizeOf → sign_at (behind c.rest) ≡ Some sign_is.LeftParen
-    → begins_type (behind (behind c.rest)) ≡ false
-    → (x : ExprTree) (k : Kinds) (last : ℕ) → IsExpr 14 d c.at x → c.at + 2 ≤ last → Same last c.at c.rest (expr_kinds x ++ k)
+paren-within : (d : ℕ) (c : Cursor) → prefix_at c.rest ≡ Some prefix.SizeOf → sign_at (kinds_behind_first c.rest) ≡ Some sign_is.LeftParen
+    → begins_type (kinds_behind_first (kinds_behind_first c.rest)) ≡ false
+    → (x : ExprTree) (k : Kinds) (last : ℕ) → IsExpr 14 d c.at x → c.at + 2 ≤ last → SameUpTo last c.at c.rest (expr_kinds x ++ k)
     → Prefixed d c.at prefix.SizeOf x
 paren-within d c h p f x k last is le same =
-    size-within d c.at last (kind.Punctuator sign_is.LeftParen ∷ behind (behind c.rest)) k x is (λ b n both. no-type c last k b n f le both)
-    (subst (λ (v : Kinds). Same last c.at v (expr_kinds x ++ k)) (size-whole c h p) same)
+    size-within d c.at last (kind.Punctuator sign_is.LeftParen ∷ kinds_behind_first (kinds_behind_first c.rest)) k x is (λ b n both. no-type c last k b n f le both)
+    (subst (λ (v : Kinds). SameUpTo last c.at v (expr_kinds x ++ k)) (size-whole c h p) same)
 
-size-narrows : (d : ℕ) (c : Cursor) → prefix_at c.rest ≡ Some prefix.SizeOf → sign_at (behind c.rest) ≡ Some sign_is.LeftParen
-    → begins_type (behind (behind c.rest)) ≡ false → Narrows (expression 14 d) (operated d) c (c.at + 2)
+size-narrows : (d : ℕ) (c : Cursor) → prefix_at c.rest ≡ Some prefix.SizeOf → sign_at (kinds_behind_first c.rest) ≡ Some sign_is.LeftParen
+    → begins_type (kinds_behind_first (kinds_behind_first c.rest)) ≡ false → Narrows (expression 14 d) (operated d) c (c.at + 2)
 size-narrows d c h p f = record {
   build = λ x is. is.is;
   spelled = λ x. refl;
@@ -386,7 +386,7 @@ operated-far d c to x f =
     omega arith
 
 -- such an expression may begin so
-paren-witness : (d : ℕ) (c : Cursor) (last : ℕ) → 2 ≤ d → prefix_at c.rest ≡ Some prefix.SizeOf → sign_at (behind c.rest) ≡ Some sign_is.LeftParen
+paren-witness : (d : ℕ) (c : Cursor) (last : ℕ) → 2 ≤ d → prefix_at c.rest ≡ Some prefix.SizeOf → sign_at (kinds_behind_first c.rest) ≡ Some sign_is.LeftParen
     → Fails (operated d) c last → last < c.at + 2 → ⊥
 paren-witness d c last deep h p f early =
     let y : ExprTree = e.Paren (c.at + 1) (e.Null (c.at + 1 + 1)) in
@@ -396,34 +396,34 @@ paren-witness d c last deep h p f early =
       operand = (y, refl, record { ranks = omega arith; shaped = tt; nests = omega arith; placed = (refl, refl) });
     })
     (record { by = omega arith })
-    (subst (λ (v : Kinds). Same last c.at v (expr_kinds (e.Prefix c.at prefix.SizeOf y) ++ [])) (sym (size-whole c h p))
+    (subst (λ (v : Kinds). SameUpTo last c.at v (expr_kinds (e.Prefix c.at prefix.SizeOf y) ++ [])) (sym (size-whole c h p))
     (refl, λ below. (refl, λ more. absurd (omega arith))))
 
-operated-late : (d : ℕ) (c : Cursor) (last : ℕ) → 2 ≤ d → prefix_at c.rest ≡ Some prefix.SizeOf → sign_at (behind c.rest) ≡ Some sign_is.LeftParen
+operated-late : (d : ℕ) (c : Cursor) (last : ℕ) → 2 ≤ d → prefix_at c.rest ≡ Some prefix.SizeOf → sign_at (kinds_behind_first c.rest) ≡ Some sign_is.LeftParen
     → Fails (operated d) c last → c.at + 2 ≤ last
 operated-late d c last deep h p f = elim (cases_lt last (c.at + 2)) [ inl early ↦ absurd (paren-witness d c last deep h p f early) | inr late ↦ late ]
 
-paren-flat : (d : ℕ) (c : Cursor) → d < 2 → prefix_at c.rest ≡ Some prefix.SizeOf → sign_at (behind c.rest) ≡ Some sign_is.LeftParen
-    → begins_type (behind (behind c.rest)) ≡ false → Fails (expression 14 d) c (c.at + 2)
+paren-flat : (d : ℕ) (c : Cursor) → d < 2 → prefix_at c.rest ≡ Some prefix.SizeOf → sign_at (kinds_behind_first c.rest) ≡ Some sign_is.LeftParen
+    → begins_type (kinds_behind_first (kinds_behind_first c.rest)) ≡ false → Fails (expression 14 d) c (c.at + 2)
 paren-flat d c flat h p f = record {
   from = omega arith;
-  within = (let long : length c.rest ≡ length (size_kind ∷ kind.Punctuator sign_is.LeftParen ∷ behind (behind c.rest)) = ap length
+  within = (let long : length c.rest ≡ length (size_kind ∷ kind.Punctuator sign_is.LeftParen ∷ kinds_behind_first (kinds_behind_first c.rest)) = ap length
       (size-whole c h p) in omega arith);
   none = λ x k is ends same.
       (let w : Prefixed d c.at prefix.SizeOf x = paren-within d c h p f x k (c.at + 2) is (omega arith) same in
-      let s1 : Same (c.at + 2) c.at (size_kind ∷ kind.Punctuator sign_is.LeftParen ∷ behind (behind c.rest))
+      let s1 : SameUpTo (c.at + 2) c.at (size_kind ∷ kind.Punctuator sign_is.LeftParen ∷ kinds_behind_first (kinds_behind_first c.rest))
       (expr_kinds (e.Prefix c.at prefix.SizeOf w.0) ++ k) =
-      subst (λ (v : ExprTree). Same (c.at + 2) c.at (size_kind ∷ kind.Punctuator sign_is.LeftParen ∷ behind (behind c.rest)) (expr_kinds v ++ k)) w.1
-      (subst (λ (v : Kinds). Same (c.at + 2) c.at v (expr_kinds x ++ k)) (size-whole c h p) same) in
+      subst (λ (v : ExprTree). SameUpTo (c.at + 2) c.at (size_kind ∷ kind.Punctuator sign_is.LeftParen ∷ kinds_behind_first (kinds_behind_first c.rest)) (expr_kinds v ++ k)) w.1
+      (subst (λ (v : Kinds). SameUpTo (c.at + 2) c.at v (expr_kinds x ++ k)) (size-whole c h p) same) in
       let below : c.at < c.at + 2 = omega arith in
       let ranks = w.2.ranks in
-      let deep : 1 ≤ expr_nesting w.0 = paren-deep w.0 (c.at + 2) (c.at + 1) (behind (behind c.rest)) k (omega arith) w.2.shaped (s1.1 below) in
+      let deep : 1 ≤ expr_nesting w.0 = paren-deep w.0 (c.at + 2) (c.at + 1) (kinds_behind_first (kinds_behind_first c.rest)) k (omega arith) w.2.shaped (s1.1 below) in
       let nests = w.2.nests in
       absurd (omega arith));
 }
 
-size-paren-parses : (d : ℕ) (deeper : Parsers) → ((c : Cursor) → Outcome (inner 14 d) c (deeper.unary c)) → (c : Cursor)
-    → prefix_at c.rest ≡ Some prefix.SizeOf → sign_at (behind c.rest) ≡ Some sign_is.LeftParen → begins_type (behind (behind c.rest)) ≡ false
+size-paren-parses : (d : ℕ) (deeper : Parsers) → ((c : Cursor) → Outcome (inner_expression 14 d) c (deeper.unary c)) → (c : Cursor)
+    → prefix_at c.rest ≡ Some prefix.SizeOf → sign_at (kinds_behind_first c.rest) ≡ Some sign_is.LeftParen → begins_type (kinds_behind_first (kinds_behind_first c.rest)) ≡ false
     → Outcome (expression 14 d) c (size_of_paren d deeper c)
 unfolding size_of_paren
 size-paren-parses d deeper o c h p f = elim (cases_lt d 2) [
@@ -436,14 +436,14 @@ size-paren-parses d deeper o c h p f = elim (cases_lt d 2) [
 
 -- of a type
 type-within : (d at last : ℕ) (ks k : Kinds) (x : ExprTree) → begins_type ks ≡ true → at + 2 ≤ last → IsExpr 14 d at x
-    → Same last at (size_kind ∷ kind.Punctuator sign_is.LeftParen ∷ ks) (expr_kinds x ++ k)
+    → SameUpTo last at (size_kind ∷ kind.Punctuator sign_is.LeftParen ∷ ks) (expr_kinds x ++ k)
     → (t : Base × ℕ) × (x ≡ e.SizeOfType at t.0 t.1) × (BaseAt (at + 1 + 1) t.0 × (t.1 ≤ d))
 type-within d at last ks k (e.SizeOfType t b n) begins le is same =
     let two : at + 2 ≡ at + 1 + 1 = omega arith in
     ((b, n), ap (λ (m : ℕ). e.SizeOfType m b n) is.placed.0, (subst (λ (m : ℕ). BaseAt m b) two is.placed.1, is.nests))
 type-within d at last ks k (e.Prefix t p y) begins le is same =
     let s : p ≡ prefix.SizeOf = prefix-same p prefix.SizeOf (sym same.0) in
-    let low : 14 ≤ rank y = subst (λ (q : PrefixOperator). operand_rank q ≤ rank y) s is.shaped.0 in
+    let low : 14 ≤ expression_rank y = subst (λ (q : PrefixOperator). operand_rank q ≤ expression_rank y) s is.shaped.0 in
     let below : at < last = omega arith in
     absurd (type-no_start ks begins (paren-second y last (at + 1) ks k low is.shaped.1 (omega arith) (same.1 below)))
 type-within d at last ks k (e.Chain l x ls) begins le is same = let r = is.ranks in absurd (chain-low l x ls (omega arith) is.shaped)
@@ -454,9 +454,9 @@ type-within d at last ks k (e.Cast token b stars x) begins le is same = let r = 
 type-within d at last ks k x begins le is same =
     absurd (no-prefix last at prefix.SizeOf (kind.Punctuator sign_is.LeftParen ∷ ks) k x (omega arith) is.shaped same)
 
-type-leads : (d : ℕ) (c : Cursor) → prefix_at c.rest ≡ Some prefix.SizeOf → sign_at (behind c.rest) ≡ Some sign_is.LeftParen
-    → begins_type (behind (behind c.rest)) ≡ true
-    → Leads (expression 14 d) (before (type_name d) sign_is.RightParen) c (after (after c)) (λ t. e.SizeOfType c.at t.0 t.1)
+type-leads : (d : ℕ) (c : Cursor) → prefix_at c.rest ≡ Some prefix.SizeOf → sign_at (kinds_behind_first c.rest) ≡ Some sign_is.LeftParen
+    → begins_type (kinds_behind_first (kinds_behind_first c.rest)) ≡ true
+    → Leads (expression 14 d) (rule_before_sign (type_name d) sign_is.RightParen) c (next_cursor (next_cursor c)) (λ t. e.SizeOfType c.at t.0 t.1)
 type-leads d c h p begins =
     let two : c.at + 1 + 1 ≡ c.at + 2 = omega arith in
     record {
@@ -466,46 +466,46 @@ type-leads d c h p begins =
       build = λ t is. record { ranks = omega arith; shaped = tt; nests = is.1; placed = (refl, subst (λ (m : ℕ). BaseAt m t.0) two is.0) };
       spelled = λ t. refl;
       back = λ x k last is ends le same.
-          (let w = type-within d c.at last (behind (behind c.rest)) k x begins (omega arith) is
-          (subst (λ (v : Kinds). Same last c.at v (expr_kinds x ++ k)) (size-whole c h p) same) in
+          (let w = type-within d c.at last (kinds_behind_first (kinds_behind_first c.rest)) k x begins (omega arith) is
+          (subst (λ (v : Kinds). SameUpTo last c.at v (expr_kinds x ++ k)) (size-whole c h p) same) in
           (w.0, w.1, w.2, record {}));
     }
 
-size-type-parses : (d : ℕ) (c : Cursor) → prefix_at c.rest ≡ Some prefix.SizeOf → sign_at (behind c.rest) ≡ Some sign_is.LeftParen
-    → begins_type (behind (behind c.rest)) ≡ true → Outcome (expression 14 d) c (size_of_type d c)
+size-type-parses : (d : ℕ) (c : Cursor) → prefix_at c.rest ≡ Some prefix.SizeOf → sign_at (kinds_behind_first c.rest) ≡ Some sign_is.LeftParen
+    → begins_type (kinds_behind_first (kinds_behind_first c.rest)) ≡ true → Outcome (expression 14 d) c (size_of_type d c)
 unfolding size_of_type
 size-type-parses d c h p begins =
-    finish (expression 14 d) (before (type_name d) sign_is.RightParen) c (after (after c)) (λ t. e.SizeOfType c.at t.0 t.1) (closed_type d (after (after c)))
-    (type-leads d c h p begins) (closed-type-parses d (after (after c)))
+    finish (expression 14 d) (rule_before_sign (type_name d) sign_is.RightParen) c (next_cursor (next_cursor c)) (λ t. e.SizeOfType c.at t.0 t.1) (closed_type d (next_cursor (next_cursor c)))
+    (type-leads d c h p begins) (closed-type-parses d (next_cursor (next_cursor c)))
 
 -- a parenthesis, and whether a type follows it
-pub opens-both : (k : Kinds) → opens_type k ≡ true → (sign_at k ≡ Some sign_is.LeftParen) × (begins_type (behind k) ≡ true)
-opens-both k h = elim (cases_Bool (stands sign_is.LeftParen k)) [
-  | inl t ↦ (stands-sign sign_is.LeftParen k (omega arith) t, (let e : opens_type k ≡ begins_type (behind k) = rw t refl in sym e ∙ h))
+pub opens-both : (k : Kinds) → opens_type k ≡ true → (sign_at k ≡ Some sign_is.LeftParen) × (begins_type (kinds_behind_first k) ≡ true)
+opens-both k h = elim (cases_Bool (begins_with_sign sign_is.LeftParen k)) [
+  | inl t ↦ (stands-sign sign_is.LeftParen k (omega arith) t, (let e : opens_type k ≡ begins_type (kinds_behind_first k) = rw t refl in sym e ∙ h))
   | inr f ↦ (let e : opens_type k ≡ false = rw f refl in let n : true ≡ false = sym h ∙ e in cc)
 ]
 
-pub opens-not : (k : Kinds) → opens_type k ≡ false → sign_at k ≡ Some sign_is.LeftParen → begins_type (behind k) ≡ false
-opens-not k h p = let e : opens_type k ≡ begins_type (behind k) = rw (sign-stands sign_is.LeftParen k p) refl in sym e ∙ h
+pub opens-not : (k : Kinds) → opens_type k ≡ false → sign_at k ≡ Some sign_is.LeftParen → begins_type (kinds_behind_first k) ≡ false
+opens-not k h p = let e : opens_type k ≡ begins_type (kinds_behind_first k) = rw (sign-stands sign_is.LeftParen k p) refl in sym e ∙ h
 
-size-other : (d : ℕ) (deeper : Parsers) → ((c : Cursor) → Outcome (inner 14 d) c (deeper.unary c)) → (c : Cursor) → prefix_at c.rest ≡ Some prefix.SizeOf
-    → opens_type (behind c.rest) ≡ false
-    → Outcome (expression 14 d) c (if◌then◌else◌ (stands sign_is.LeftParen (behind c.rest)) (size_of_paren d deeper c) (size_of_operand deeper c))
-size-other d deeper o c h shut = elim (cases_Bool (stands sign_is.LeftParen (behind c.rest))) [
-  | inl t ↦ (let p = stands-sign sign_is.LeftParen (behind c.rest) (omega arith) t in rw t
-      (size-paren-parses d deeper o c h p (opens-not (behind c.rest) shut p)))
-  | inr f ↦ rw f (bare-parses d deeper o c h (λ p. let t = sign-stands sign_is.LeftParen (behind c.rest) p in cc))
+size-other : (d : ℕ) (deeper : Parsers) → ((c : Cursor) → Outcome (inner_expression 14 d) c (deeper.unary c)) → (c : Cursor) → prefix_at c.rest ≡ Some prefix.SizeOf
+    → opens_type (kinds_behind_first c.rest) ≡ false
+    → Outcome (expression 14 d) c (if◌then◌else◌ (begins_with_sign sign_is.LeftParen (kinds_behind_first c.rest)) (size_of_paren d deeper c) (size_of_operand deeper c))
+size-other d deeper o c h shut = elim (cases_Bool (begins_with_sign sign_is.LeftParen (kinds_behind_first c.rest))) [
+  | inl t ↦ (let p = stands-sign sign_is.LeftParen (kinds_behind_first c.rest) (omega arith) t in rw t
+      (size-paren-parses d deeper o c h p (opens-not (kinds_behind_first c.rest) shut p)))
+  | inr f ↦ rw f (bare-parses d deeper o c h (λ p. let t = sign-stands sign_is.LeftParen (kinds_behind_first c.rest) p in cc))
 ]
 
-size-parses : (d : ℕ) (deeper : Parsers) → ((c : Cursor) → Outcome (inner 14 d) c (deeper.unary c)) → (c : Cursor) → prefix_at c.rest ≡ Some prefix.SizeOf
+size-parses : (d : ℕ) (deeper : Parsers) → ((c : Cursor) → Outcome (inner_expression 14 d) c (deeper.unary c)) → (c : Cursor) → prefix_at c.rest ≡ Some prefix.SizeOf
     → Outcome (expression 14 d) c (size_of_by d deeper c)
 unfolding size_of_by
-size-parses d deeper o c h = elim (cases_Bool (opens_type (behind c.rest))) [
-  | inl t ↦ (let both = opens-both (behind c.rest) t in rw t (size-type-parses d c h both.0 both.1))
+size-parses d deeper o c h = elim (cases_Bool (opens_type (kinds_behind_first c.rest))) [
+  | inl t ↦ (let both = opens-both (kinds_behind_first c.rest) t in rw t (size-type-parses d c h both.0 both.1))
   | inr f ↦ rw f (size-other d deeper o c h f)
 ]
 
-unary-of : (d : ℕ) (deeper : Parsers) → ((c : Cursor) → Outcome (inner 14 d) c (deeper.unary c)) → ((c : Cursor) → Outcome (inner 13 d) c (deeper.cast c))
+unary-of : (d : ℕ) (deeper : Parsers) → ((c : Cursor) → Outcome (inner_expression 14 d) c (deeper.unary c)) → ((c : Cursor) → Outcome (inner_expression 13 d) c (deeper.cast c))
     → ((c : Cursor) → Outcome (expression 15 d) c (postfix_by d deeper c))
     → (c : Cursor) (o : Option PrefixOperator) → prefix_at c.rest ≡ o → Outcome (expression 14 d) c (unary_of d deeper c o)
 unfolding operand_by
@@ -517,8 +517,8 @@ unary-of d deeper unary cast postfix c (Some prefix.Decrement) h =
     prefix-parses d prefix.Decrement 14 (operand_by deeper prefix.Decrement) refl (omega arith) (omega arith) (λ s. cc) unary c h
 unary-of d deeper unary cast postfix c (Some o) h = prefix-parses d o 13 (operand_by deeper o) refl (omega arith) (omega arith) (λ s. cc) cast c h
 
-pub unary-parses : (d : ℕ) (deeper : Parsers) → ((c : Cursor) → Outcome (inner 14 d) c (deeper.unary c))
-    → ((c : Cursor) → Outcome (inner 13 d) c (deeper.cast c)) → ((c : Cursor) → Outcome (expression 15 d) c (postfix_by d deeper c))
+pub unary-parses : (d : ℕ) (deeper : Parsers) → ((c : Cursor) → Outcome (inner_expression 14 d) c (deeper.unary c))
+    → ((c : Cursor) → Outcome (inner_expression 13 d) c (deeper.cast c)) → ((c : Cursor) → Outcome (expression 15 d) c (postfix_by d deeper c))
     → (c : Cursor) → Outcome (expression 14 d) c (unary_by d deeper c)
 unfolding unary_by
 unary-parses d deeper unary cast postfix c = unary-of d deeper unary cast postfix c (prefix_at c.rest) refl

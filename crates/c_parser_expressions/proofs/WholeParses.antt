@@ -2,8 +2,8 @@
 use Rattle.std.proofs.Common.{◌≡◌, ℕ, zero, suc, ◌-◌, ◌≤◌, Err, refl, arith}
 use Rattle.c_syntax.specs.ExprTree.{ExprTree}
 use Rattle.c_parser_expressions.specs.Reading.{Cursor, Fails, Read, Outcome}
-use Rattle.c_parser_expressions.specs.Expressions.{expression, inner}
-use Rattle.c_parser_expressions.specs.ExpressionParser.{Parsers, layer, no_parsers, parsers, deeper_than, primary_by, postfix_by, unary_by, cast_by, chain_by}
+use Rattle.c_parser_expressions.specs.Expressions.{expression, inner_expression}
+use Rattle.c_parser_expressions.specs.ExpressionParser.{Parsers, parser_layer, no_parsers, parsers, deeper_than, primary_by, postfix_by, unary_by, cast_by, chain_by}
 use Rattle.c_parser_expressions.specs.ExpressionParser.{conditional_by, assignment_by, whole_by}
 use Rattle.c_parser_expressions.proofs.Laws.{leads-here, leads-outcome}
 use Rattle.c_parser_expressions.proofs.Tokens.{fails-here}
@@ -18,11 +18,11 @@ use Rattle.c_parser_expressions.proofs.Commas.{whole-by-parses}
 
 -- what parsers of what lies deeper are to do
 pub record Deep (d : ℕ) (deeper : Parsers) : Type 0 where
-  pub whole : (c : Cursor) → Outcome (inner 0 d) c (deeper.whole c)
-  pub assignment : (c : Cursor) → Outcome (inner 1 d) c (deeper.assignment c)
-  pub conditional : (c : Cursor) → Outcome (inner 2 d) c (deeper.conditional c)
-  pub cast : (c : Cursor) → Outcome (inner 13 d) c (deeper.cast c)
-  pub unary : (c : Cursor) → Outcome (inner 14 d) c (deeper.unary c)
+  pub whole : (c : Cursor) → Outcome (inner_expression 0 d) c (deeper.whole c)
+  pub assignment : (c : Cursor) → Outcome (inner_expression 1 d) c (deeper.assignment c)
+  pub conditional : (c : Cursor) → Outcome (inner_expression 2 d) c (deeper.conditional c)
+  pub cast : (c : Cursor) → Outcome (inner_expression 13 d) c (deeper.cast c)
+  pub unary : (c : Cursor) → Outcome (inner_expression 14 d) c (deeper.unary c)
   pub flat : d ≡ 0 → (c : Cursor) → deeper.assignment c ≡ Err c.at
 
 pub record Parses (d : ℕ) (deeper : Parsers) : Type 0 where
@@ -56,17 +56,17 @@ one-layer d deeper deep =
     }
 
 -- nothing lies deeper than what may not nest
-no-inner : (r : ℕ) (c : Cursor) → Fails (inner r 0) c c.at
-no-inner r c = fails-here (inner r 0) c (λ x k is ends same. (let nests = is.nests in omega arith))
+no-inner : (r : ℕ) (c : Cursor) → Fails (inner_expression r 0) c c.at
+no-inner r c = fails-here (inner_expression r 0) c (λ x k is ends same. (let nests = is.nests in omega arith))
 
 deep-none : Deep 0 no_parsers
 unfolding no_parsers
 deep-none = record { whole = no-inner 0; assignment = no-inner 1; conditional = no-inner 2; cast = no-inner 13; unary = no-inner 14; flat = λ h c. refl }
 
-inner-of : (r n : ℕ) (f : Cursor → Read ExprTree) → ((c : Cursor) → Outcome (expression r n) c (f c)) → (c : Cursor) → Outcome (inner r (suc n)) c (f c)
+inner-of : (r n : ℕ) (f : Cursor → Read ExprTree) → ((c : Cursor) → Outcome (expression r n) c (f c)) → (c : Cursor) → Outcome (inner_expression r (suc n)) c (f c)
 inner-of r n f o c =
-    leads-outcome (inner r (suc n)) (expression r n) c c (f c)
-    (leads-here (inner r (suc n)) (expression r n) c (λ x. x)
+    leads-outcome (inner_expression r (suc n)) (expression r n) c c (f c)
+    (leads-here (inner_expression r (suc n)) (expression r n) c (λ x. x)
     (λ x is. (let nests = is.nests in record { ranks = is.ranks; shaped = is.shaped; nests = omega arith; placed = is.placed }))
     (λ x. refl)
     (λ x k last is ends le same. (let nests = is.nests in (
@@ -77,8 +77,8 @@ inner-of r n f o c =
     ))))
     (o c)
 
-deep-more : (n : ℕ) (deeper : Parsers) → Parses n deeper → Deep (suc n) (layer n deeper)
-unfolding layer
+deep-more : (n : ℕ) (deeper : Parsers) → Parses n deeper → Deep (suc n) (parser_layer n deeper)
+unfolding parser_layer
 deep-more n deeper p = record {
   whole = inner-of 0 n (whole_by n deeper) p.whole;
   assignment = inner-of 1 n (assignment_by n deeper) p.assignment;
@@ -98,7 +98,7 @@ pub parses : (d : ℕ) → Parses d (deeper_than d)
 parses d = one-layer d (deeper_than d) (deep d)
 
 -- what stands at a depth
-pub parsers-at : (d : ℕ) → parsers d ≡ layer d (deeper_than d)
+pub parsers-at : (d : ℕ) → parsers d ≡ parser_layer d (deeper_than d)
 unfolding parsers deeper_than
 parsers-at zero = refl
 parsers-at (suc n) = refl

@@ -12,9 +12,10 @@ use Rattle.c_syntax.specs.declared.parts.Base.TheVariants as base
 use Rattle.c_syntax.specs.declared.expr.PrefixOperator.{PrefixOperator}
 use Rattle.c_syntax.specs.declared.expr.PrefixOperator.TheVariants as prefix
 use Rattle.c_syntax.specs.ExprTree as e
-use Rattle.c_syntax.specs.Words.{ExprTree, ExprList, LinkList, PostfixList, Kinds, prefix_of, expr_list, link_list, postfix_list, level_of, is_assignment, rank}
-use Rattle.c_parser_expressions.specs.Reading.{Cursor, Read, first, behind, after, sign_at, word_at, text_at, kind_word}
-use Rattle.c_parser_expressions.specs.Marks.{stands, says}
+use Rattle.c_syntax.specs.Words.{ExprTree, LinkList, PostfixList, Kinds, prefix_of, expr_list, link_list, postfix_list, level_of, is_assignment}
+use Rattle.c_syntax.specs.Words.{expression_rank}
+use Rattle.c_parser_expressions.specs.Reading.{Cursor, Read, first_kind, kinds_behind_first, next_cursor, sign_at, word_at, text_at, kind_word}
+use Rattle.c_parser_expressions.specs.Marks.{begins_with_sign, begins_with_word}
 use Rattle.c_parser_expressions.specs.Steps.{◌>>=◌, Step, with_front, all_of, the_sign, the_name}
 
 -- whether a base of a type begins there
@@ -35,11 +36,11 @@ begins_type k = is_base_word (word_at k)
 
 -- whether a parenthesis with a type in it begins there
 abbrev pub opens_type : Kinds → Bool
-opens_type k = if stands sign.LeftParen k then begins_type (behind k) else false
+opens_type k = if begins_with_sign sign.LeftParen k then begins_type (kinds_behind_first k) else false
 
 -- `unsigned`, and `int` where it follows
 unfoldable pub the_unsigned : ℕ → Cursor → Read Base
-the_unsigned token c = if says word.Int c.rest then Ok (base.Unsigned token true, after c) else Ok (base.Unsigned token false, c)
+the_unsigned token c = if begins_with_word word.Int c.rest then Ok (base.Unsigned token true, next_cursor c) else Ok (base.Unsigned token false, c)
 
 unfoldable pub the_struct : ℕ → Cursor → Read Base
 the_struct token c = do
@@ -47,11 +48,11 @@ the_struct token c = do
   Ok (base.Struct token tag.0, tag.1)
 
 abbrev pub base_of : Cursor → Option Word → Read Base
-base_of c (Some word.Void) = Ok (base.Void c.at, after c)
-base_of c (Some word.Char) = Ok (base.Char c.at, after c)
-base_of c (Some word.Int) = Ok (base.Int c.at, after c)
-base_of c (Some word.Unsigned) = the_unsigned c.at (after c)
-base_of c (Some word.Struct) = the_struct c.at (after c)
+base_of c (Some word.Void) = Ok (base.Void c.at, next_cursor c)
+base_of c (Some word.Char) = Ok (base.Char c.at, next_cursor c)
+base_of c (Some word.Int) = Ok (base.Int c.at, next_cursor c)
+base_of c (Some word.Unsigned) = the_unsigned c.at (next_cursor c)
+base_of c (Some word.Struct) = the_struct c.at (next_cursor c)
 base_of c _ = Err c.at
 
 unfoldable pub the_base : Cursor → Read Base
@@ -60,7 +61,7 @@ the_base c = base_of c (word_at c.rest)
 -- stars for as long as one stands there, and at most so many
 unfoldable pub the_stars : (most : ℕ) → Cursor → ℕ × Cursor
 the_stars zero c = (0, c)
-the_stars (suc n) c = if stands sign.Star c.rest then (let more = the_stars n (after c) in (more.0 + 1, more.1)) else (0, c)
+the_stars (suc n) c = if begins_with_sign sign.Star c.rest then (let more = the_stars n (next_cursor c) in (more.0 + 1, more.1)) else (0, c)
 
 unfoldable pub the_type : (depth : ℕ) → Cursor → Read (Base × ℕ)
 the_type depth c = do
@@ -92,12 +93,12 @@ closed_by deeper s c = do
 
 unfoldable pub paren_by : ℕ → Parsers → Cursor → Read ExprTree
 paren_by depth deeper c = if depth == 0 then Err c.at else (do
-  x ← closed_by deeper.whole sign.RightParen (after c)
+  x ← closed_by deeper.whole sign.RightParen (next_cursor c)
   Ok (e.Paren c.at x.0, x.1))
 
 -- a part with a comma before it
 unfoldable pub comma_step : (Cursor → Read ExprTree) → Cursor → Step ExprTree
-comma_step item c = if stands sign.Comma c.rest then Some (item (after c)) else None
+comma_step item c = if begins_with_sign sign.Comma c.rest then Some (item (next_cursor c)) else None
 
 -- what follows the first of several parts, with it
 unfoldable pub more_by : (Cursor → Read ExprTree) → ExprTree → Cursor → Read (List ExprTree)
@@ -117,16 +118,16 @@ closed_list item c = do
 
 -- behind a call's parenthesis
 unfoldable pub arguments_by : Parsers → Cursor → Read (List ExprTree)
-arguments_by deeper c = if stands sign.RightParen c.rest then Ok ([], after c) else closed_list deeper.assignment c
+arguments_by deeper c = if begins_with_sign sign.RightParen c.rest then Ok ([], next_cursor c) else closed_list deeper.assignment c
 
 unfoldable pub call_by : Parsers → ℕ → List ℕ → Cursor → Read ExprTree
 call_by deeper token name c = do
-  xs ← arguments_by deeper (after c)
+  xs ← arguments_by deeper (next_cursor c)
   Ok (e.Call token name (expr_list xs.0), xs.1)
 
 -- behind a name: it is one, or a call
 unfoldable pub named_at : Parsers → ℕ → List ℕ → Cursor → Read ExprTree
-named_at deeper token name c = if stands sign.LeftParen c.rest then call_by deeper token name c else Ok (e.Name token name, c)
+named_at deeper token name c = if begins_with_sign sign.LeftParen c.rest then call_by deeper token name c else Ok (e.Name token name, c)
 
 unfoldable pub named_by : Parsers → Cursor → Read ExprTree
 named_by deeper c = do
@@ -134,7 +135,7 @@ named_by deeper c = do
   named_at deeper c.at name.0 name.1
 
 abbrev pub text_read : Cursor → Option (List ℕ) → Step (List ℕ)
-text_read c (Some bytes) = Some (Ok (bytes, after c))
+text_read c (Some bytes) = Some (Ok (bytes, next_cursor c))
 text_read c None = None
 
 unfoldable pub text_step : Cursor → Step (List ℕ)
@@ -146,16 +147,16 @@ strings_by c = do
   Ok (e.Strings c.at xs.0, xs.1)
 
 abbrev pub primary_of : ℕ → Parsers → Cursor → Option TokenKind → Read ExprTree
-primary_of depth deeper c (Some (kind.Word word.Null)) = Ok (e.Null c.at, after c)
-primary_of depth deeper c (Some (kind.Word word.EndOfFile)) = Ok (e.EndOfFile c.at, after c)
+primary_of depth deeper c (Some (kind.Word word.Null)) = Ok (e.Null c.at, next_cursor c)
+primary_of depth deeper c (Some (kind.Word word.EndOfFile)) = Ok (e.EndOfFile c.at, next_cursor c)
 primary_of depth deeper c (Some (kind.Name name)) = named_by deeper c
-primary_of depth deeper c (Some (kind.Constant k value)) = Ok (e.Constant c.at k value, after c)
+primary_of depth deeper c (Some (kind.Constant k value)) = Ok (e.Constant c.at k value, next_cursor c)
 primary_of depth deeper c (Some (kind.Text bytes)) = strings_by c
 primary_of depth deeper c (Some (kind.Punctuator sign.LeftParen)) = paren_by depth deeper c
 primary_of depth deeper c _ = Err c.at
 
 unfoldable pub primary_by : ℕ → Parsers → Cursor → Read ExprTree
-primary_by depth deeper c = primary_of depth deeper c (first c.rest)
+primary_by depth deeper c = primary_of depth deeper c (first_kind c.rest)
 
 -- the sign of a postfix operator; an index is one deeper
 abbrev pub postfix_sign_of : ℕ → Option Sign → Option Sign
@@ -171,20 +172,20 @@ postfix_sign depth k = postfix_sign_of depth (sign_at k)
 
 unfoldable pub index_by : Parsers → Cursor → Read (PostfixList → PostfixList)
 index_by deeper c = do
-  x ← closed_by deeper.whole sign.RightBracket (after c)
+  x ← closed_by deeper.whole sign.RightBracket (next_cursor c)
   Ok (e.index c.at x.0, x.1)
 
 unfoldable pub member_by : (ℕ → List ℕ → PostfixList → PostfixList) → Cursor → Read (PostfixList → PostfixList)
 member_by operator c = do
-  name ← the_name (after c)
+  name ← the_name (next_cursor c)
   Ok (operator c.at name.0, name.1)
 
 abbrev pub operator_of : Parsers → Cursor → Sign → Read (PostfixList → PostfixList)
 operator_of deeper c sign.LeftBracket = index_by deeper c
 operator_of deeper c sign.Dot = member_by e.member c
 operator_of deeper c sign.Arrow = member_by e.arrow c
-operator_of deeper c sign.PlusPlus = Ok (e.increment c.at, after c)
-operator_of deeper c _ = Ok (e.decrement c.at, after c)
+operator_of deeper c sign.PlusPlus = Ok (e.increment c.at, next_cursor c)
+operator_of deeper c _ = Ok (e.decrement c.at, next_cursor c)
 
 unfoldable pub operator_by : Parsers → Sign → Cursor → Read (PostfixList → PostfixList)
 operator_by deeper s c = operator_of deeper c s
@@ -216,12 +217,12 @@ postfix_by depth deeper c = do
 
 unfoldable pub size_of_operand : Parsers → Cursor → Read ExprTree
 size_of_operand deeper c = do
-  x ← deeper.unary (after c)
+  x ← deeper.unary (next_cursor c)
   Ok (e.Prefix c.at prefix.SizeOf x.0, x.1)
 
 unfoldable pub size_of_type : ℕ → Cursor → Read ExprTree
 size_of_type depth c = do
-  t ← closed_type depth (after (after c))
+  t ← closed_type depth (next_cursor (next_cursor c))
   Ok (e.SizeOfType c.at t.0.0 t.0.1, t.1)
 
 -- An expression in parentheses lies two deeper, a type doesn't.
@@ -230,13 +231,13 @@ size_of_paren depth deeper c = if nat_lt depth 2 then Err (c.at + 1 + 1) else si
 
 unfoldable pub size_of_by : ℕ → Parsers → Cursor → Read ExprTree
 size_of_by depth deeper c =
-    if opens_type (behind c.rest) then size_of_type depth c
-    else (if stands sign.LeftParen (behind c.rest) then size_of_paren depth deeper c else size_of_operand deeper c)
+    if opens_type (kinds_behind_first c.rest) then size_of_type depth c
+    else (if begins_with_sign sign.LeftParen (kinds_behind_first c.rest) then size_of_paren depth deeper c else size_of_operand deeper c)
 
 -- an operator before its operand
 unfoldable pub prefix_by : ℕ → PrefixOperator → (Cursor → Read ExprTree) → Cursor → Read ExprTree
 prefix_by depth operator deeper c = if depth == 0 then Err c.at else (do
-  x ← deeper (after c)
+  x ← deeper (next_cursor c)
   Ok (e.Prefix c.at operator x.0, x.1))
 
 abbrev pub prefix_at : Kinds → Option PrefixOperator
@@ -263,7 +264,7 @@ unary_by depth deeper c = unary_of depth deeper c (prefix_at c.rest)
 -- behind a cast's first parenthesis
 unfoldable pub casting_by : ℕ → Parsers → Cursor → Read ExprTree
 casting_by depth deeper c = do
-  t ← closed_type depth (after c)
+  t ← closed_type depth (next_cursor c)
   x ← deeper.cast t.1
   Ok (e.Cast c.at t.0.0 t.0.1 x.0, x.1)
 
@@ -282,7 +283,7 @@ level_sign level k = level_sign_of level (sign_at k)
 -- an operator with its operand
 unfoldable pub link_by : (Cursor → Read ExprTree) → Sign → Cursor → Read (LinkList → LinkList)
 link_by operand s c = do
-  x ← operand (after c)
+  x ← operand (next_cursor c)
   Ok (e.more_links c.at s x.0, x.1)
 
 unfoldable pub link_step : (Cursor → Read ExprTree) → ℕ → Cursor → Step (LinkList → LinkList)
@@ -315,15 +316,15 @@ choices_by deeper c = do
 
 unfoldable pub choosing_by : Parsers → ExprTree → Cursor → Read ExprTree
 choosing_by deeper condition c = do
-  p ← choices_by deeper (after c)
+  p ← choices_by deeper (next_cursor c)
   Ok (e.Conditional c.at condition p.0.0 p.0.1, p.1)
 
 -- whether `?` stands there, and its operands may be one deeper
-abbrev pub chooses : ℕ → Kinds → Bool
-chooses depth k = if depth == 0 then false else stands sign.Question k
+abbrev pub begins_choices : ℕ → Kinds → Bool
+begins_choices depth k = if depth == 0 then false else begins_with_sign sign.Question k
 
 unfoldable pub chosen_by : ℕ → Parsers → ExprTree → Cursor → Read ExprTree
-chosen_by depth deeper condition c = if chooses depth c.rest then choosing_by deeper condition c else Ok (condition, c)
+chosen_by depth deeper condition c = if begins_choices depth c.rest then choosing_by deeper condition c else Ok (condition, c)
 
 unfoldable pub conditional_by : ℕ → Parsers → Cursor → Read ExprTree
 conditional_by depth deeper c = do
@@ -337,11 +338,11 @@ assignment_sign_of (Some s) = if is_assignment s then Some s else None
 
 -- the sign of an assignment to what was read, where that can stand on the left and the right side may be one deeper
 unfoldable pub assignment_sign : ℕ → ExprTree → Kinds → Option Sign
-assignment_sign depth target k = if depth == 0 then None else (if nat_lt (rank target) 14 then None else assignment_sign_of (sign_at k))
+assignment_sign depth target k = if depth == 0 then None else (if nat_lt (expression_rank target) 14 then None else assignment_sign_of (sign_at k))
 
 unfoldable pub assigning_by : Parsers → ExprTree → Sign → Cursor → Read ExprTree
 assigning_by deeper target s c = do
-  x ← deeper.assignment (after c)
+  x ← deeper.assignment (next_cursor c)
   Ok (e.Assign c.at s target x.0, x.1)
 
 abbrev pub assigned_of : (Sign → Read ExprTree) → Read ExprTree → Option Sign → Read ExprTree
@@ -363,15 +364,15 @@ commas_by item x c = do
 
 -- several expressions are a comma expression, one is itself
 unfoldable pub listed_by : (Cursor → Read ExprTree) → ExprTree → Cursor → Read ExprTree
-listed_by item x c = if stands sign.Comma c.rest then commas_by item x c else Ok (x, c)
+listed_by item x c = if begins_with_sign sign.Comma c.rest then commas_by item x c else Ok (x, c)
 
 unfoldable pub whole_by : ℕ → Parsers → Cursor → Read ExprTree
 whole_by depth deeper c = do
   x ← assignment_by depth deeper c
   listed_by (assignment_by depth deeper) x.0 x.1
 
-unfoldable pub layer : ℕ → Parsers → Parsers
-layer depth deeper = record {
+unfoldable pub parser_layer : ℕ → Parsers → Parsers
+parser_layer depth deeper = record {
   whole = whole_by depth deeper;
   assignment = assignment_by depth deeper;
   conditional = conditional_by depth deeper;
@@ -385,8 +386,8 @@ no_parsers = record { whole = λ c. Err c.at; assignment = λ c. Err c.at; condi
 
 -- what may still nest so deep
 unfoldable pub parsers : (depth : ℕ) → Parsers
-parsers zero = layer 0 no_parsers
-parsers (suc n) = layer (suc n) (parsers n)
+parsers zero = parser_layer 0 no_parsers
+parsers (suc n) = parser_layer (suc n) (parsers n)
 
 -- what lies deeper
 unfoldable pub deeper_than : (depth : ℕ) → Parsers

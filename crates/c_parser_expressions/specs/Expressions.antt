@@ -8,9 +8,10 @@ use Rattle.c_syntax.specs.declared.token.TokenKind.TheVariants as kind
 use Rattle.c_syntax.specs.declared.parts.Base.{Base}
 use Rattle.c_syntax.specs.Words.{ExprTree, ExprList, LinkList, PostfixList, Kinds, a_sign, base_kinds, type_kinds, star_kinds, text_kinds, expr_kinds}
 use Rattle.c_syntax.specs.Words.{exprs_kinds, more_exprs_kinds, link_kinds, postfix_kinds, expr_nesting, exprs_nesting, arguments_nesting, links_nesting}
-use Rattle.c_syntax.specs.Words.{postfix_nesting, rank, HasExpr, ShapedExpr, ShapedExprs, ShapedLinks, ShapedPostfix, BaseAt, ExprAt, ExprsAt, LinksAt}
+use Rattle.c_syntax.specs.Words.{postfix_nesting, expression_rank, HasExpr, ShapedExpr, ShapedExprs, ShapedLinks, ShapedPostfix, BaseAt, ExprAt, ExprsAt}
+use Rattle.c_syntax.specs.Words.{LinksAt}
 use Rattle.c_syntax.specs.Words.{PostfixAt}
-use Rattle.c_parser_expressions.specs.Reading.{Rule, Any, sign_at, word_at}
+use Rattle.c_parser_expressions.specs.Reading.{Rule, AnythingFollows, sign_at, word_at}
 
 -- How closely a sign binds what stands before it: what can't end a part of rank r binds by more than r.
 abbrev pub sign_binds : Sign → ℕ
@@ -58,16 +59,16 @@ kind_binds (kind.Punctuator s) = sign_binds s
 kind_binds (kind.Text bytes) = 17
 kind_binds _ = 0
 
-abbrev pub binds : Kinds → ℕ
-binds [] = 0
-binds (x ∷ xs) = kind_binds x
+abbrev pub binding_strength : Kinds → ℕ
+binding_strength [] = 0
+binding_strength (x ∷ xs) = kind_binds x
 
 pub record EndsAt (r : ℕ) (k : Kinds) : Type 0 where
-  pub by : binds k ≤ r
+  pub by : binding_strength k ≤ r
 
 -- an expression of at least this rank that nests at most d deep
 pub record IsExpr (r d at : ℕ) (x : ExprTree) : Type 0 where
-  pub ranks : r ≤ rank x
+  pub ranks : r ≤ expression_rank x
   pub shaped : ShapedExpr x
   pub nests : expr_nesting x ≤ d
   pub placed : ExprAt at x
@@ -77,13 +78,13 @@ expression r d = record { Is = IsExpr r d; spell = expr_kinds; Ends = λ x k. En
 
 -- one that is one deeper than what may nest d deep
 pub record IsInner (r d at : ℕ) (x : ExprTree) : Type 0 where
-  pub ranks : r ≤ rank x
+  pub ranks : r ≤ expression_rank x
   pub shaped : ShapedExpr x
   pub nests : expr_nesting x < d
   pub placed : ExprAt at x
 
-abbrev pub inner : (r d : ℕ) → Rule ExprTree
-inner r d = record { Is = IsInner r d; spell = expr_kinds; Ends = λ x k. EndsAt r k }
+abbrev pub inner_expression : (r d : ℕ) → Rule ExprTree
+inner_expression r d = record { Is = IsInner r d; spell = expr_kinds; Ends = λ x k. EndsAt r k }
 
 -- one or more expressions that are no comma expressions, with commas between them
 pub record AreExprs (d at : ℕ) (xs : ExprList) : Type 0 where
@@ -102,7 +103,7 @@ pub record AreArguments (d at : ℕ) (xs : ExprList) : Type 0 where
   pub placed : ExprsAt at xs
 
 abbrev pub arguments : (d : ℕ) → Rule ExprList
-arguments d = record { Is = AreArguments d; spell = λ xs. exprs_kinds xs ++ a_sign sign.RightParen; Ends = λ x k. Any k }
+arguments d = record { Is = AreArguments d; spell = λ xs. exprs_kinds xs ++ a_sign sign.RightParen; Ends = λ x k. AnythingFollows k }
 
 -- expressions that are no comma expressions, each with a comma before it: `at` is the index of the first comma
 pub record AreMore (d at : ℕ) (xs : ExprList) : Type 0 where
@@ -134,8 +135,8 @@ postfix_operators d = record { Is = ArePostfix d; spell = postfix_kinds; Ends = 
 pub record NoInt (k : Kinds) : Type 0 where
   pub not : word_at k ≡ Some word.Int → ⊥
 
-abbrev pub base : Rule Base
-base = record { Is = BaseAt; spell = base_kinds; Ends = λ b k. NoInt k }
+abbrev pub type_base : Rule Base
+type_base = record { Is = BaseAt; spell = base_kinds; Ends = λ b k. NoInt k }
 
 pub record NoStar (k : Kinds) : Type 0 where
   pub not : sign_at k ≡ Some sign.Star → ⊥
@@ -158,5 +159,5 @@ type_name d = record {
 }
 
 -- strings one after another
-abbrev pub texts : Rule (List (List ℕ))
-texts = record { Is = λ at xs. Unit {0}; spell = text_kinds; Ends = λ xs k. EndsAt 16 k }
+abbrev pub string_parts : Rule (List (List ℕ))
+string_parts = record { Is = λ at xs. Unit {0}; spell = text_kinds; Ends = λ xs k. EndsAt 16 k }

@@ -28,8 +28,8 @@ mark_of None = 0
 mark_of (Some s) = sign_mark s
 
 -- whether the sign stands there, which is one of those above
-abbrev pub stands : Sign → Kinds → Bool
-stands s k = mark_of (sign_at k) == sign_mark s
+abbrev pub begins_with_sign : Sign → Kinds → Bool
+begins_with_sign s k = mark_of (sign_at k) == sign_mark s
 
 -- the words that rules ask for, numbered
 abbrev pub word_mark : Word → ℕ
@@ -43,5 +43,5 @@ word_mark_of None = 0
 word_mark_of (Some w) = word_mark w
 
 -- whether the word stands there, which is one of those above
-abbrev pub says : Word → Kinds → Bool
-says w k = word_mark_of (word_at k) == word_mark w
+abbrev pub begins_with_word : Word → Kinds → Bool
+begins_with_word w k = word_mark_of (word_at k) == word_mark w

@@ -4,8 +4,8 @@ use Rattle.c_syntax.specs.declared.token.Sign.{Sign}
 use Rattle.c_syntax.specs.declared.token.Word.{Word}
 use Rattle.c_parser_expressions.specs.declared.stop.Stop.{Stop}
 use Rattle.c_parser_expressions.specs.declared.stop.Stop.TheVariants as stop
-use Rattle.c_parser_expressions.specs.Reading.{Cursor, Read, after, name_at}
-use Rattle.c_parser_expressions.specs.Marks.{stands, says}
+use Rattle.c_parser_expressions.specs.Reading.{Cursor, Read, next_cursor, name_at}
+use Rattle.c_parser_expressions.specs.Marks.{begins_with_sign, begins_with_word}
 
 infixl 10 ◌>>=◌
 abbrev pub ◌>>=◌ : {A B : Type 0} → Result A ℕ → (A → Result B ℕ) → Result B ℕ
@@ -27,18 +27,18 @@ with_front xs (Ok p) = Ok (xs ++ p.0, p.1)
 with_front xs (Err i) = Err i
 
 -- what stands behind a part, where there is one
-abbrev pub turn : {A : Type 0} → (Cursor → Read (List A)) → Cursor → Step A → Read (List A)
-turn more c None = Ok ([], c)
-turn more c (Some (Err i)) = Err i
-turn more c (Some (Ok p)) = with_front (p.0 ∷ []) (more p.1)
+abbrev pub parts_from_step : {A : Type 0} → (Cursor → Read (List A)) → Cursor → Step A → Read (List A)
+parts_from_step more c None = Ok ([], c)
+parts_from_step more c (Some (Err i)) = Err i
+parts_from_step more c (Some (Ok p)) = with_front (p.0 ∷ []) (more p.1)
 
 -- Parts for as long as one begins. Each takes a token, so one turn more than there are tokens is enough.
-unfoldable pub many : {A : Type 0} → (turns : ℕ) → (Cursor → Step A) → Cursor → Read (List A)
-many zero step c = Ok ([], c)
-many (suc n) step c = turn (many n step) c (step c)
+unfoldable pub parts_within_turns : {A : Type 0} → (turns : ℕ) → (Cursor → Step A) → Cursor → Read (List A)
+parts_within_turns zero step c = Ok ([], c)
+parts_within_turns (suc n) step c = parts_from_step (parts_within_turns n step) c (step c)
 
 unfoldable pub all_of : {A : Type 0} → (Cursor → Step A) → Cursor → Read (List A)
-all_of step c = many (length c.rest + 1) step c
+all_of step c = parts_within_turns (length c.rest + 1) step c
 
 -- each part takes a token
 pub record Advances {A : Type 0} (step : Cursor → Step A) : Type 0 where
@@ -46,13 +46,13 @@ pub record Advances {A : Type 0} (step : Cursor → Step A) : Type 0 where
 
 -- a sign, a word or a name, or the refusal of what stands there
 unfoldable pub the_sign : Sign → Cursor → Read (Unit {0})
-the_sign s c = if stands s c.rest then Ok (tt, after c) else Err c.at
+the_sign s c = if begins_with_sign s c.rest then Ok (tt, next_cursor c) else Err c.at
 
 unfoldable pub the_word : Word → Cursor → Read (Unit {0})
-the_word w c = if says w c.rest then Ok (tt, after c) else Err c.at
+the_word w c = if begins_with_word w c.rest then Ok (tt, next_cursor c) else Err c.at
 
 abbrev pub pass_if : {A : Type 0} → Cursor → Option A → Read A
-pass_if c (Some x) = Ok (x, after c)
+pass_if c (Some x) = Ok (x, next_cursor c)
 pass_if c None = Err c.at
 
 unfoldable pub the_name : Cursor → Read (List ℕ)

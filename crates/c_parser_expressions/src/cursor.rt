@@ -1,10 +1,10 @@
-ghost use Rattle.std.specs.Prelude.{◌≡◌, ◌≤◌, ◌+◌, IsTrue, ◌↔◌, Some, IfOk, length, []};
+ghost use Rattle.std.specs.Prelude.{◌≡◌, ◌≤◌, ◌+◌, IsTrue, ◌↔◌, Some, length, []};
 ghost use Rattle.c_syntax.specs.Tokens.{kinds_of};
 ghost use Rattle.std.specs.Option.{IsSome, option_copied};
 ghost use Rattle.c_parser_expressions.specs.declared.stop.Stop.TheVariants as stop;
-ghost use Rattle.c_parser_expressions.specs.Reading.{Cursor, first, behind, after, sign_at, word_at, text_at};
+ghost use Rattle.c_parser_expressions.specs.Reading.{Cursor, first_kind, kinds_behind_first, next_cursor, sign_at, word_at, text_at};
 ghost use Rattle.c_parser_expressions.specs.ExpressionParser.{is_base_kind, begins_type, opens_type};
-ghost use Rattle.c_parser_expressions.specs.Marks.{sign_mark, stands, word_mark, says};
+ghost use Rattle.c_parser_expressions.specs.Marks.{sign_mark, begins_with_sign, word_mark, begins_with_word};
 ghost use Rattle.c_parser_expressions.specs.Steps.{Gives, the_sign, the_word, the_name};
 
 use crate::stop::Stop;
@@ -61,7 +61,7 @@ impl<'a> Reader<'a> {
 
     /// What the next token is.
     pub fn next(&self) -> Option<&'a TokenKind>
-        ensures { option_copied result ≡ first self.now.rest }
+        ensures { option_copied result ≡ first_kind self.now.rest }
     {
         let token = self.left.first()?;
         Some(&token.kind)
@@ -77,8 +77,8 @@ impl<'a> Reader<'a> {
 
     /// Goes past the next token.
     pub fn pass(&mut self)
-        requires { IsSome (first self.old.rest) }
-        ensures { self.new ≡ after self.old }
+        requires { IsSome (first_kind self.old.rest) }
+        ensures { self.new ≡ next_cursor self.old }
     {
         self.left = &self.left[1..];
         self.at += 1;
@@ -124,7 +124,7 @@ impl<'a> Reader<'a> {
     /// Whether the next token is the sign.
     pub fn stands(&self, sign: Sign) -> bool
         requires { 1 ≤ sign_mark sign }
-        ensures { result ≡ stands sign self.now.rest }
+        ensures { result ≡ begins_with_sign sign self.now.rest }
     {
         self.is_sign(sign)
     }
@@ -132,7 +132,7 @@ impl<'a> Reader<'a> {
     /// Whether the next token is the word.
     pub fn says(&self, word: Word) -> bool
         requires { 1 ≤ word_mark word }
-        ensures { result ≡ says word self.now.rest }
+        ensures { result ≡ begins_with_word word self.now.rest }
     {
         self.is_word(word)
     }
@@ -159,7 +159,7 @@ impl<'a> Reader<'a> {
 
     /// What the token behind the next one is.
     fn second(&self) -> Option<&'a TokenKind>
-        ensures { option_copied result ≡ first (behind self.now.rest) }
+        ensures { option_copied result ≡ first_kind (kinds_behind_first self.now.rest) }
     {
         let token = self.left.get(1)?;
         Some(&token.kind)
@@ -169,13 +169,13 @@ impl<'a> Reader<'a> {
     #[tactic(auto, using(crate::proofs::Heads::stands_iff))]
     pub fn stands_behind(&self, sign: Sign) -> bool
         requires { 1 ≤ sign_mark sign }
-        ensures { result ≡ stands sign (behind self.now.rest) }
+        ensures { result ≡ begins_with_sign sign (kinds_behind_first self.now.rest) }
     {
         self.is_sign_behind(sign)
     }
 
     fn sign_behind(&self) -> Option<Sign>
-        ensures { result ≡ sign_at (behind self.now.rest) }
+        ensures { result ≡ sign_at (kinds_behind_first self.now.rest) }
     {
         match self.second() {
             Some(TokenKind::Punctuator { sign }) => Some(*sign),
@@ -184,7 +184,7 @@ impl<'a> Reader<'a> {
     }
 
     fn is_sign_behind(&self, sign: Sign) -> bool
-        ensures { IsTrue result ↔ (sign_at (behind self.now.rest) ≡ Some sign) }
+        ensures { IsTrue result ↔ (sign_at (kinds_behind_first self.now.rest) ≡ Some sign) }
     {
         if let Some(next) = self.sign_behind() {
             if next == sign {

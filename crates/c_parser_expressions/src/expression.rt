@@ -1,11 +1,11 @@
 ghost use Rattle.std.specs.Prelude.{◌≡◌, ◌≤◌, ◌-◌, ◌+◌, Some, true};
-ghost use Rattle.c_syntax.specs.Words.{plain_expr, plain_postfix, plain_link, prefix_of};
+ghost use Rattle.c_syntax.specs.Words.{plain_expr, plain_postfix};
 ghost use Rattle.c_syntax.specs.declared.expr.PrefixOperator.TheVariants as prefix;
 ghost use Rattle.c_syntax.specs.declared.token.Sign.TheVariants as sign_variant;
 ghost use Rattle.c_parser_expressions.specs.Reading.{sign_at};
 ghost use Rattle.c_parser_expressions.specs.Marks.{sign_mark};
 ghost use Rattle.c_parser_expressions.specs.Steps.{Gives, all_of};
-ghost use Rattle.c_parser_expressions.specs.ExpressionParser.{parsers, deeper_than, closed_by, paren_by, more_by, arguments_by, named_by, primary_by};
+ghost use Rattle.c_parser_expressions.specs.ExpressionParser.{deeper_than, closed_by, paren_by, more_by, arguments_by, named_by, primary_by};
 ghost use Rattle.c_parser_expressions.specs.ExpressionParser.{operator_by, postfix_step, postfix_by, size_of_by, prefix_by, operand_by, unary_by};
 ghost use Rattle.c_parser_expressions.specs.ExpressionParser.{casting_by, cast_by, link_step, chain_by, conditional_by, assignment_by, whole_by};
 ghost use Rattle.c_parser_expressions.specs.ExpressionParser.{opens_type, prefix_at, postfix_sign};

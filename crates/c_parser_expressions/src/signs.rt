@@ -1,8 +1,7 @@
 ghost use Rattle.std.specs.Prelude.{◌≡◌, ◌≤◌};
-ghost use Rattle.std.specs.Option.{option_copied};
-ghost use Rattle.c_syntax.specs.Words.{plain_expr, level_of, is_assignment, rank, prefix_of};
+ghost use Rattle.c_syntax.specs.Words.{plain_expr, level_of, is_assignment, expression_rank, prefix_of};
 ghost use Rattle.c_syntax.specs.declared.token.TokenKind.TheVariants as kind;
-ghost use Rattle.c_parser_expressions.specs.ExpressionParser.{prefix_at, level_sign, postfix_sign, chooses, assignment_sign};
+ghost use Rattle.c_parser_expressions.specs.ExpressionParser.{prefix_at, level_sign, postfix_sign, begins_choices, assignment_sign};
 
 use crate::cursor::Reader;
 use c_syntax::{Expr, PrefixOperator, Sign, TokenKind, Word};
@@ -99,7 +98,7 @@ pub(crate) fn prefix_at(reader: &Reader<'_>) -> Option<PrefixOperator>
 
 /// Whether `?` is next, and its operands may be one deeper.
 pub(crate) fn chooses(reader: &Reader<'_>, depth: u32) -> bool
-    ensures { result ≡ chooses depth reader.now.rest }
+    ensures { result ≡ begins_choices depth reader.now.rest }
 {
     if depth == 0 {
         return false;
@@ -128,7 +127,7 @@ fn is_assignment(sign: Sign) -> bool
 
 /// The rank of the rule that an expression is of, from the outermost in.
 fn rank(x: &Expr) -> u32
-    ensures { result ≡ rank (plain_expr x.now) }
+    ensures { result ≡ expression_rank (plain_expr x.now) }
 {
     match x {
         Expr::Comma { .. } => 0,

@@ -6,8 +6,8 @@ use Rattle.c_syntax.specs.declared.parts.Base.TheVariants as base
 use Rattle.c_syntax.specs.declared.parts.Bound.{Bound}
 use Rattle.c_syntax.specs.Words.{InitialTree, StartTree, EntryList, ItemTree}
 use Rattle.c_syntax.specs.ItemTree as i
-use Rattle.c_parser_expressions.specs.Reading.{Cursor, Read, after}
-use Rattle.c_parser_expressions.specs.Marks.{stands}
+use Rattle.c_parser_expressions.specs.Reading.{Cursor, Read, next_cursor}
+use Rattle.c_parser_expressions.specs.Marks.{begins_with_sign}
 use Rattle.c_parser_expressions.specs.Steps.{◌>>=◌, the_sign, the_name}
 use Rattle.c_parser_expressions.specs.ExpressionParser.{the_base, the_stars}
 use Rattle.c_parser_declarations.specs.DeclarationParser.{the_bounds, initialised_by, more_starts_by}
@@ -25,7 +25,7 @@ struct_by depth token tag c = do
 
 -- a body, or a semicolon
 unfoldable pub body_by : (depth : ℕ) → Cursor → Read (Option EntryList)
-body_by depth c = if stands sign.Semicolon c.rest then Ok (None, after c) else (do
+body_by depth c = if begins_with_sign sign.Semicolon c.rest then Ok (None, next_cursor c) else (do
   y ← the_sign sign.LeftBrace c
   x ← entries_by depth (statements_below depth) y.1
   Ok (Some x.0, x.1))
@@ -63,7 +63,7 @@ globals_by depth h c = do
 
 -- what stands behind a head
 unfoldable pub headed_by : (depth : ℕ) → Head → Cursor → Read ItemTree
-headed_by depth h c = if stands sign.LeftParen c.rest then function_by depth h (after c) else globals_by depth h c
+headed_by depth h c = if begins_with_sign sign.LeftParen c.rest then function_by depth h (next_cursor c) else globals_by depth h c
 
 unfoldable pub head_by : (depth token : ℕ) → Base → (first : ℕ) → ℕ × Cursor → Read Head
 head_by depth token b first stars = do
@@ -77,7 +77,8 @@ declared_by depth token b c = do
   headed_by depth h.0 h.1
 
 abbrev pub item_of : (depth token : ℕ) → Base → Cursor → Read ItemTree
-item_of depth token (base.Struct at tag) c = if stands sign.LeftBrace c.rest then struct_by depth token tag (after c) else declared_by depth token
+item_of depth token (base.Struct at tag) c =
+    if begins_with_sign sign.LeftBrace c.rest then struct_by depth token tag (next_cursor c) else declared_by depth token
     (base.Struct at tag) c
 item_of depth token b c = declared_by depth token b c
 

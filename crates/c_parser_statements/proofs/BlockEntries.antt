@@ -10,8 +10,8 @@ use Rattle.c_syntax.specs.declared.parts.Base.TheVariants as base_is
 use Rattle.c_syntax.specs.StatementTree as s
 use Rattle.c_syntax.specs.Words.{DeclarationTree, StatementTree, EntryList, entry_list, Kinds, a_sign, base_kinds, declaration_kinds, with_commas, start_kinds}
 use Rattle.c_syntax.specs.Words.{expr_kinds, statement_kinds, entry_kinds, ShapedStatement}
-use Rattle.c_parser_expressions.specs.Reading.{Cursor, Same, Rule, Read, Outcome, seq, sign, sign_at}
-use Rattle.c_parser_expressions.specs.Marks.{stands}
+use Rattle.c_parser_expressions.specs.Reading.{Cursor, SameUpTo, Rule, Read, Outcome, sequence_rule, sign_rule, sign_at}
+use Rattle.c_parser_expressions.specs.Marks.{begins_with_sign}
 use Rattle.c_parser_expressions.specs.Steps.{◌>>=◌, the_sign}
 use Rattle.c_parser_expressions.specs.ExpressionParser.{begins_type}
 use Rattle.c_parser_declarations.specs.Declarations.{declaration}
@@ -93,7 +93,7 @@ begins-no_type (kind.Word word_is.Struct ∷ k) h t = cc
 begins-no_type (_ ∷ k) h t = cc
 
 -- what agrees with a list begins with the same token
-same-begins : (last at : ℕ) (ks k : Kinds) → Same last at ks k → BeginsStatement k → BeginsStatement ks
+same-begins : (last at : ℕ) (ks k : Kinds) → SameUpTo last at ks k → BeginsStatement k → BeginsStatement ks
 same-begins last at [] [] same h = h
 same-begins last at [] (y ∷ k) same h = absurd same
 same-begins last at (x ∷ ks) [] same h = absurd same
@@ -133,28 +133,28 @@ brace-no_type (kind.Punctuator x ∷ ks) h t = cc
 brace-no_type (_ ∷ ks) h t = cc
 
 brace-only : (d at last : ℕ) (ks k : Kinds) (xs : EntryList) → sign_at ks ≡ Some sign_is.RightBrace → AreEntries d at xs
-    → Same last at ks ((entry_kinds xs ++ a_sign sign_is.RightBrace) ++ k) → xs ≡ s.no_entries
+    → SameUpTo last at ks ((entry_kinds xs ++ a_sign sign_is.RightBrace) ++ k) → xs ≡ s.no_entries
 brace-only d at last ks k s.no_entries h is same = refl
 brace-only d at last ks k (s.declared v rest) h is same =
     absurd (let split = append_assoc (declaration_kinds v ++ entry_kinds rest) (a_sign sign_is.RightBrace) k
     ∙ append_assoc (declaration_kinds v) (entry_kinds rest) (a_sign sign_is.RightBrace ++ k) in
-    let t = declaration-begins last at ks (entry_kinds rest ++ (a_sign sign_is.RightBrace ++ k)) v (subst (λ (w : Kinds). Same last at ks w) split same) in
+    let t = declaration-begins last at ks (entry_kinds rest ++ (a_sign sign_is.RightBrace ++ k)) v (subst (λ (w : Kinds). SameUpTo last at ks w) split same) in
     brace-no_type ks h t)
 brace-only d at last ks k (s.stated x rest) h is same =
     absurd (begins-brace ks (same-begins last at ks _ same (begins-more ((statement_kinds x ++ entry_kinds rest) ++ a_sign sign_is.RightBrace) k
     (begins-more (statement_kinds x ++ entry_kinds rest) (a_sign sign_is.RightBrace)
     (begins-more (statement_kinds x) (entry_kinds rest) (statement-begins x is.shaped.0))))) h)
 
-brace-leads : (d : ℕ) (c : Cursor) → sign_at c.rest ≡ Some sign_is.RightBrace → Leads (entries_end d) (sign sign_is.RightBrace) c c (λ u. s.no_entries)
-brace-leads d c h = leads-here (entries_end d) (sign sign_is.RightBrace) c (λ u. s.no_entries)
+brace-leads : (d : ℕ) (c : Cursor) → sign_at c.rest ≡ Some sign_is.RightBrace → Leads (entries_end d) (sign_rule sign_is.RightBrace) c c (λ u. s.no_entries)
+brace-leads d c h = leads-here (entries_end d) (sign_rule sign_is.RightBrace) c (λ u. s.no_entries)
     (λ u is. record { shaped = tt; nests = omega arith; placed = tt }) (λ u. refl)
     (λ xs k last is ends le same. (tt, brace-only d c.at last c.rest k xs h is same, tt, record {}))
 
 -- an entry leads to those behind it
 
 declared-back : (d at last : ℕ) (ks k : Kinds) (xs : EntryList) → begins_type ks ≡ true → AreEntries d at xs
-    → Same last at ks ((entry_kinds xs ++ a_sign sign_is.RightBrace) ++ k)
-    → (p : DeclarationTree × EntryList) × (xs ≡ s.declared p.0 p.1) × (seq (declaration 0 (d - 1)) (λ v. entries_end d)).Is at p
+    → SameUpTo last at ks ((entry_kinds xs ++ a_sign sign_is.RightBrace) ++ k)
+    → (p : DeclarationTree × EntryList) × (xs ≡ s.declared p.0 p.1) × (sequence_rule (declaration 0 (d - 1)) (λ v. entries_end d)).Is at p
 declared-back d at last ks k s.no_entries h is same = absurd (type-no_sign last at ks k sign_is.RightBrace h same)
 declared-back d at last ks k (s.declared v rest) h is same =
     let nests = is.nests in (
@@ -175,8 +175,8 @@ declared-back d at last ks k (s.stated x rest) h is same =
     (begins-more (statement_kinds x) (entry_kinds rest) (statement-begins x is.shaped.0))))) h)
 
 declared-leads : (d : ℕ) (c : Cursor) → 1 ≤ d → begins_type c.rest ≡ true
-    → Leads (entries_end d) (seq (declaration 0 (d - 1)) (λ v. entries_end d)) c c (λ p. s.declared p.0 p.1)
-declared-leads d c positive h = leads-here (entries_end d) (seq (declaration 0 (d - 1)) (λ v. entries_end d)) c (λ p. s.declared p.0 p.1)
+    → Leads (entries_end d) (sequence_rule (declaration 0 (d - 1)) (λ v. entries_end d)) c c (λ p. s.declared p.0 p.1)
+declared-leads d c positive h = leads-here (entries_end d) (sequence_rule (declaration 0 (d - 1)) (λ v. entries_end d)) c (λ p. s.declared p.0 p.1)
     (λ p is. (let n1 = is.0.nests in let n2 = is.1.nests in record {
       shaped = (is.0.shaped, is.1.shaped);
       nests = omega arith;
@@ -186,13 +186,13 @@ declared-leads d c positive h = leads-here (entries_end d) (seq (declaration 0 (
     (λ xs k last is ends le same. (let b = declared-back d c.at last c.rest k xs h is same in (b.0, b.1, b.2, record {})))
 
 stated-back : (d at last : ℕ) (ks k : Kinds) (xs : EntryList) → begins_type ks ≡ false → (sign_at ks ≡ Some sign_is.RightBrace → ⊥) → AreEntries d at xs
-    → Same last at ks ((entry_kinds xs ++ a_sign sign_is.RightBrace) ++ k)
-    → (p : StatementTree × EntryList) × (xs ≡ s.stated p.0 p.1) × (seq (inner_statement d) (λ v. entries_end d)).Is at p
+    → SameUpTo last at ks ((entry_kinds xs ++ a_sign sign_is.RightBrace) ++ k)
+    → (p : StatementTree × EntryList) × (xs ≡ s.stated p.0 p.1) × (sequence_rule (inner_statement d) (λ v. entries_end d)).Is at p
 stated-back d at last ks k s.no_entries h other is same = absurd (other (same-sign last at ks k sign_is.RightBrace same))
 stated-back d at last ks k (s.declared v rest) h other is same =
     absurd (let split = append_assoc (declaration_kinds v ++ entry_kinds rest) (a_sign sign_is.RightBrace) k
     ∙ append_assoc (declaration_kinds v) (entry_kinds rest) (a_sign sign_is.RightBrace ++ k) in
-    let t = declaration-begins last at ks (entry_kinds rest ++ (a_sign sign_is.RightBrace ++ k)) v (subst (λ (w : Kinds). Same last at ks w) split same) in
+    let t = declaration-begins last at ks (entry_kinds rest ++ (a_sign sign_is.RightBrace ++ k)) v (subst (λ (w : Kinds). SameUpTo last at ks w) split same) in
     let e : true ≡ false = sym t ∙ h in cc)
 stated-back d at last ks k (s.stated x rest) h other is same =
     let nests = is.nests in (
@@ -209,8 +209,8 @@ stated-back d at last ks k (s.stated x rest) h other is same =
     )
 
 stated-leads : (d : ℕ) (c : Cursor) → begins_type c.rest ≡ false → (sign_at c.rest ≡ Some sign_is.RightBrace → ⊥)
-    → Leads (entries_end d) (seq (inner_statement d) (λ v. entries_end d)) c c (λ p. s.stated p.0 p.1)
-stated-leads d c h other = leads-here (entries_end d) (seq (inner_statement d) (λ v. entries_end d)) c (λ p. s.stated p.0 p.1)
+    → Leads (entries_end d) (sequence_rule (inner_statement d) (λ v. entries_end d)) c c (λ p. s.stated p.0 p.1)
+stated-leads d c h other = leads-here (entries_end d) (sequence_rule (inner_statement d) (λ v. entries_end d)) c (λ p. s.stated p.0 p.1)
     (λ p is. (let n1 = is.0.nests in let n2 = is.1.nests in record {
       shaped = (is.0.shaped, is.1.shaped);
       nests = omega arith;
@@ -228,19 +228,19 @@ add_entry f xs = f xs
 entry-taken : {B : Type 0} (d : ℕ) (P : Rule B) (c : Cursor) (make : B → EntryList → EntryList) (r : Read B)
     → ((at : ℕ) (v : B) (y : EntryList) (k : Kinds) → P.Is at v → AreEntries d (at + length (P.spell v)) y → P.Ends v ((entries_end d).spell y ++ k))
     → ((at : ℕ) (v : B) → P.Is at v → 1 ≤ length (P.spell v))
-    → Leads (entries_end d) (seq P (λ v. entries_end d)) c c (λ p. make p.0 p.1) → Outcome P c r
+    → Leads (entries_end d) (sequence_rule P (λ v. entries_end d)) c c (λ p. make p.0 p.1) → Outcome P c r
     → ClosingIs (entries_end d) add_entry list_end c (Some (r >>= (λ p. Ok (make p.0, p.1))))
 entry-taken d P c make (Ok p) follows some l o = (
-  leads-trans (entries_end d) (seq P (λ v. entries_end d)) (entries_end d) c c p.1 (λ q. make q.0 q.1) (λ y. (p.0, y)) l
+  leads-trans (entries_end d) (sequence_rule P (λ v. entries_end d)) (entries_end d) c c p.1 (λ q. make q.0 q.1) (λ y. (p.0, y)) l
       (seq-leads P (λ v. entries_end d) c p.1 p.0 (λ at v y k v_is y_is ends. follows at v y k v_is y_is) o),
   found-takes P c p.1 p.0 (some c.at p.0 o.is) o,
 )
 entry-taken d P c make (Err i) follows some l o =
-    leads-fails (entries_end d) (seq P (λ v. entries_end d)) c c (λ q. make q.0 q.1) i l
+    leads-fails (entries_end d) (sequence_rule P (λ v. entries_end d)) c c (λ q. make q.0 q.1) i l
     (seq-fails P (λ v. entries_end d) c i (λ at v y k v_is y_is ends. follows at v y k v_is y_is) o)
 
 no-entries : (at last : ℕ) (ks k : Kinds) (xs : EntryList) → (sign_at ks ≡ Some sign_is.RightBrace → ⊥) → AreEntries 0 at xs
-    → Same last at ks ((entry_kinds xs ++ a_sign sign_is.RightBrace) ++ k) → ⊥
+    → SameUpTo last at ks ((entry_kinds xs ++ a_sign sign_is.RightBrace) ++ k) → ⊥
 no-entries at last ks k s.no_entries other is same = other (same-sign last at ks k sign_is.RightBrace same)
 no-entries at last ks k (s.declared v rest) other is same = let n = is.nests in omega arith
 no-entries at last ks k (s.stated x rest) other is same = let n = is.nests in omega arith
@@ -268,8 +268,8 @@ pub entries-closing : ReadsAssignments → ReadsInner → (d : ℕ) (deeper : Cu
     → Closing (entries_end d) (entry_step d deeper) add_entry list_end
 unfolding entry_step
 entries-closing assigns inside d deeper reads = record {
-  is = λ c. elim (cases_Bool (stands sign_is.RightBrace c.rest)) [
-    | inl t ↦ rw t (finish (entries_end d) (sign sign_is.RightBrace) c c (λ u. s.no_entries) (the_sign sign_is.RightBrace c)
+  is = λ c. elim (cases_Bool (begins_with_sign sign_is.RightBrace c.rest)) [
+    | inl t ↦ rw t (finish (entries_end d) (sign_rule sign_is.RightBrace) c c (λ u. s.no_entries) (the_sign sign_is.RightBrace c)
         (brace-leads d c (stands-sign sign_is.RightBrace c.rest (omega arith) t)) (sign-parses sign_is.RightBrace c (omega arith)))
     | inr f ↦ rw f (entry-parses assigns inside d deeper reads c (λ h. let t = sign-stands sign_is.RightBrace c.rest h in cc))
   ];

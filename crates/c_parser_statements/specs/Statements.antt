@@ -3,10 +3,11 @@ use Rattle.std.specs.Prelude.{◌≡◌, ℕ, ◌+◌, ◌≤◌, ◌<◌, true,
 use Rattle.c_syntax.specs.declared.token.Sign.{Sign}
 use Rattle.c_syntax.specs.declared.token.Sign.TheVariants as sign
 use Rattle.c_syntax.specs.declared.token.Word.TheVariants as word
-use Rattle.c_syntax.specs.Words.{ExprTree, ForStartTree, StatementTree, EntryList, Kinds, a_sign, a_word, optional, parenthesized, expr_kinds, for_start_kinds}
+use Rattle.c_syntax.specs.Words.{ExprTree, ForStartTree, StatementTree, EntryList, Kinds, a_sign, a_word, optional_kinds, parenthesized_kinds, expr_kinds}
+use Rattle.c_syntax.specs.Words.{for_start_kinds}
 use Rattle.c_syntax.specs.Words.{statement_kinds, entry_kinds, for_start_nesting, statement_nesting, entries_nesting, ShapedForStart, ends_open}
 use Rattle.c_syntax.specs.Words.{ShapedStatement, ShapedEntries, ForStartAt, StatementAt, EntriesAt}
-use Rattle.c_parser_expressions.specs.Reading.{Rule, Any, word_at}
+use Rattle.c_parser_expressions.specs.Reading.{Rule, AnythingFollows, word_at}
 use Rattle.c_parser_expressions.specs.Expressions.{IsExpr}
 use Rattle.c_parser_statements.specs.StatementParser.{Header}
 
@@ -45,10 +46,10 @@ EndsOtherwise None k = NoElse k
 EndsOtherwise (Some y) k = EndsStatement y k
 
 abbrev pub else_kinds : Option StatementTree → Kinds
-else_kinds o = optional (λ y. a_word word.Else ++ statement_kinds y) o
+else_kinds o = optional_kinds (λ y. a_word word.Else ++ statement_kinds y) o
 
-abbrev pub branches : (d : ℕ) → Rule (StatementTree × Option StatementTree)
-branches d = record {
+abbrev pub if_branches : (d : ℕ) → Rule (StatementTree × Option StatementTree)
+if_branches d = record {
   Is = λ at p. IsInnerStatement d at p.0 × OtherwiseIs d (at + length (statement_kinds p.0)) p.0 p.1;
   spell = λ p. statement_kinds p.0 ++ else_kinds p.1;
   Ends = λ p k. EndsOtherwise p.1 k;
@@ -56,18 +57,18 @@ branches d = record {
 
 -- an expression in parentheses that add nothing to its nesting
 abbrev pub condition : (d : ℕ) → Rule ExprTree
-condition d = record { Is = λ at x. IsExpr 0 d (at + 1) x; spell = λ x. parenthesized (expr_kinds x); Ends = λ x k. Any k }
+condition d = record { Is = λ at x. IsExpr 0 d (at + 1) x; spell = λ x. parenthesized_kinds (expr_kinds x); Ends = λ x k. AnythingFollows k }
 
 -- an expression or none, with a sign behind it
 abbrev pub ended_by : (d : ℕ) → Sign → Rule (Option ExprTree)
-ended_by d s = record { Is = λ at o. IfSome o (IsExpr 0 d at); spell = λ o. optional expr_kinds o ++ a_sign s; Ends = λ o k. Any k }
+ended_by d s = record { Is = λ at o. IfSome o (IsExpr 0 d at); spell = λ o. optional_kinds expr_kinds o ++ a_sign s; Ends = λ o k. AnythingFollows k }
 
 -- what stands behind the body of a `do`
-abbrev pub until : (d : ℕ) → Rule ExprTree
-until d = record {
+abbrev pub do_loop_end : (d : ℕ) → Rule ExprTree
+do_loop_end d = record {
   Is = λ at x. IsExpr 0 d (at + 2) x;
-  spell = λ x. a_word word.While ++ (parenthesized (expr_kinds x) ++ a_sign sign.Semicolon);
-  Ends = λ x k. Any k;
+  spell = λ x. a_word word.While ++ (parenthesized_kinds (expr_kinds x) ++ a_sign sign.Semicolon);
+  Ends = λ x k. AnythingFollows k;
 }
 
 pub record IsForStart (d at : ℕ) (x : ForStartTree) : Type 0 where
@@ -76,20 +77,20 @@ pub record IsForStart (d at : ℕ) (x : ForStartTree) : Type 0 where
   pub placed : ForStartAt at x
 
 abbrev pub for_start : (d : ℕ) → Rule ForStartTree
-for_start d = record { Is = IsForStart d; spell = for_start_kinds; Ends = λ x k. Any k }
+for_start d = record { Is = IsForStart d; spell = for_start_kinds; Ends = λ x k. AnythingFollows k }
 
 -- what stands in the parentheses of a `for`, with them
 abbrev pub header_kinds : Header → Kinds
-header_kinds h = a_sign sign.LeftParen ++ (for_start_kinds h.start ++ ((optional expr_kinds h.condition ++ a_sign sign.Semicolon) ++
-    (optional expr_kinds h.step ++ a_sign sign.RightParen)))
+header_kinds h = a_sign sign.LeftParen ++ (for_start_kinds h.start ++ ((optional_kinds expr_kinds h.condition ++ a_sign sign.Semicolon) ++
+    (optional_kinds expr_kinds h.step ++ a_sign sign.RightParen)))
 
 pub record IsHeader (d at : ℕ) (h : Header) : Type 0 where
   pub start : IsForStart d (at + 1) h.start
   pub condition : IfSome h.condition (IsExpr 0 d (at + 1 + length (for_start_kinds h.start)))
-  pub step : IfSome h.step (IsExpr 0 d (at + 1 + length (for_start_kinds h.start) + length (optional expr_kinds h.condition ++ a_sign sign.Semicolon)))
+  pub step : IfSome h.step (IsExpr 0 d (at + 1 + length (for_start_kinds h.start) + length (optional_kinds expr_kinds h.condition ++ a_sign sign.Semicolon)))
 
-abbrev pub header : (d : ℕ) → Rule Header
-header d = record { Is = IsHeader d; spell = header_kinds; Ends = λ h k. Any k }
+abbrev pub for_header : (d : ℕ) → Rule Header
+for_header d = record { Is = IsHeader d; spell = header_kinds; Ends = λ h k. AnythingFollows k }
 
 -- entries, and the brace behind them
 pub record AreEntries (d at : ℕ) (xs : EntryList) : Type 0 where
@@ -98,4 +99,4 @@ pub record AreEntries (d at : ℕ) (xs : EntryList) : Type 0 where
   pub placed : EntriesAt at xs
 
 abbrev pub entries_end : (d : ℕ) → Rule EntryList
-entries_end d = record { Is = AreEntries d; spell = λ xs. entry_kinds xs ++ a_sign sign.RightBrace; Ends = λ xs k. Any k }
+entries_end d = record { Is = AreEntries d; spell = λ xs. entry_kinds xs ++ a_sign sign.RightBrace; Ends = λ xs k. AnythingFollows k }

@@ -4,12 +4,12 @@ ghost use Rattle.c_syntax.specs.StatementTree as s;
 ghost use Rattle.c_syntax.specs.Plain.{plain_expr, plain_for_start, plain_statement, plain_second, plain_entry};
 ghost use Rattle.c_parser_statements.specs.StatementViews.{plain_header, plain_entry_list, plain_block};
 ghost use Rattle.c_parser_expressions.specs.Marks.{sign_mark};
-ghost use Rattle.c_parser_expressions.specs.Reading.{first};
+ghost use Rattle.c_parser_expressions.specs.Reading.{first_kind};
 ghost use Rattle.c_parser_expressions.specs.Steps.{Gives, all_of};
 ghost use Rattle.c_parser_declarations.specs.Turns.{GivesStep};
 ghost use Rattle.c_parser_statements.specs.StatementParser.{optional_by, condition_by, otherwise_by, if_by, while_by, until_by, do_by, for_start_by};
 ghost use Rattle.c_parser_statements.specs.StatementParser.{header_by, for_by, return_by, jump_by, entry_by, entry_step, entries_by, block_by};
-ghost use Rattle.c_parser_statements.specs.StatementParser.{expression_by, statements, statements_below};
+ghost use Rattle.c_parser_statements.specs.StatementParser.{expression_by, statement_at_depth, statements_below};
 
 use c_parser_declarations::declaration;
 use c_parser_expressions::{Reader, Stop, closed};
@@ -111,7 +111,7 @@ fn expression_statement(
 /// `return` with a value or without one.
 #[tactic(auto, using(c_syntax::proofs::PlainStatements::plain_return), unfolding(crate::specs::StatementParser::return_by))]
 fn return_statement(alloc: Global, reader: &mut Reader<'_>, depth: u32) -> Result<Statement, Stop>
-    requires { IsSome (first reader.old.rest) }
+    requires { IsSome (first_kind reader.old.rest) }
     ensures { Gives plain_statement result reader.new (return_by depth reader.old) }
 {
     let token = reader.at();
@@ -123,7 +123,7 @@ fn return_statement(alloc: Global, reader: &mut Reader<'_>, depth: u32) -> Resul
 /// `break`.
 #[tactic(auto, using(c_syntax::proofs::PlainStatements::plain_break), unfolding(crate::specs::StatementParser::jump_by))]
 fn break_statement(reader: &mut Reader<'_>) -> Result<Statement, Stop>
-    requires { IsSome (first reader.old.rest) }
+    requires { IsSome (first_kind reader.old.rest) }
     ensures { Gives plain_statement result reader.new (jump_by s.Break reader.old) }
 {
     let token = reader.at();
@@ -135,7 +135,7 @@ fn break_statement(reader: &mut Reader<'_>) -> Result<Statement, Stop>
 /// `continue`.
 #[tactic(auto, using(c_syntax::proofs::PlainStatements::plain_continue), unfolding(crate::specs::StatementParser::jump_by))]
 fn continue_statement(reader: &mut Reader<'_>) -> Result<Statement, Stop>
-    requires { IsSome (first reader.old.rest) }
+    requires { IsSome (first_kind reader.old.rest) }
     ensures { Gives plain_statement result reader.new (jump_by s.Continue reader.old) }
 {
     let token = reader.at();
@@ -152,7 +152,7 @@ fn otherwise(
     reader: &mut Reader<'_>,
     depth: u32,
 ) -> Result<Option<Box<Statement>>, Stop>
-    ensures { Gives plain_second result reader.new (otherwise_by (statements depth) reader.old) }
+    ensures { Gives plain_second result reader.new (otherwise_by (statement_at_depth depth) reader.old) }
 {
     if !reader.says(Word::Else) {
         return Ok(None);
@@ -166,7 +166,7 @@ fn otherwise(
 #[cycle(statement)]
 #[tactic(auto, using(crate::proofs::StatementViews::below_is, crate::proofs::StatementViews::plain_if_either), unfolding(crate::specs::StatementParser::if_by))]
 fn if_statement(alloc: Global, reader: &mut Reader<'_>, depth: u32) -> Result<Statement, Stop>
-    requires { IsSome (first reader.old.rest) }
+    requires { IsSome (first_kind reader.old.rest) }
     ensures { Gives plain_statement result reader.new (if_by depth (statements_below depth) reader.old) }
 {
     if depth == 0 {
@@ -190,7 +190,7 @@ fn if_statement(alloc: Global, reader: &mut Reader<'_>, depth: u32) -> Result<St
 #[cycle(statement)]
 #[tactic(auto, using(crate::proofs::StatementViews::below_is, c_syntax::proofs::PlainStatements::plain_while), unfolding(crate::specs::StatementParser::while_by))]
 fn while_statement(alloc: Global, reader: &mut Reader<'_>, depth: u32) -> Result<Statement, Stop>
-    requires { IsSome (first reader.old.rest) }
+    requires { IsSome (first_kind reader.old.rest) }
     ensures { Gives plain_statement result reader.new (while_by depth (statements_below depth) reader.old) }
 {
     if depth == 0 {
@@ -211,7 +211,7 @@ fn while_statement(alloc: Global, reader: &mut Reader<'_>, depth: u32) -> Result
 #[cycle(statement)]
 #[tactic(auto, using(crate::proofs::StatementViews::below_is, c_syntax::proofs::PlainStatements::plain_do), unfolding(crate::specs::StatementParser::do_by))]
 fn do_statement(alloc: Global, reader: &mut Reader<'_>, depth: u32) -> Result<Statement, Stop>
-    requires { IsSome (first reader.old.rest) }
+    requires { IsSome (first_kind reader.old.rest) }
     ensures { Gives plain_statement result reader.new (do_by depth (statements_below depth) reader.old) }
 {
     if depth == 0 {
@@ -233,7 +233,7 @@ fn do_statement(alloc: Global, reader: &mut Reader<'_>, depth: u32) -> Result<St
 #[cycle(statement)]
 #[tactic(auto, using(crate::proofs::StatementViews::below_is, c_syntax::proofs::PlainStatements::plain_for), unfolding(crate::specs::StatementParser::for_by))]
 fn for_statement(alloc: Global, reader: &mut Reader<'_>, depth: u32) -> Result<Statement, Stop>
-    requires { IsSome (first reader.old.rest) }
+    requires { IsSome (first_kind reader.old.rest) }
     ensures { Gives plain_statement result reader.new (for_by depth (statements_below depth) reader.old) }
 {
     if depth == 0 {
@@ -299,7 +299,7 @@ pub fn entries(alloc: Global, reader: &mut Reader<'_>, depth: u32) -> Result<Vec
 #[cycle(statement)]
 #[tactic(auto, using(c_syntax::proofs::PlainStatements::plain_block), unfolding(crate::specs::StatementParser::block_by))]
 fn block(alloc: Global, reader: &mut Reader<'_>, depth: u32) -> Result<Statement, Stop>
-    requires { IsSome (first reader.old.rest) }
+    requires { IsSome (first_kind reader.old.rest) }
     ensures { Gives plain_statement result reader.new (block_by depth (statements_below depth) reader.old) }
 {
     let token = reader.at();
@@ -312,7 +312,7 @@ fn block(alloc: Global, reader: &mut Reader<'_>, depth: u32) -> Result<Statement
 #[cycle(statement)]
 #[tactic(auto, using(crate::proofs::StatementViews::statements_is, c_syntax::proofs::PlainStatements::plain_empty), unfolding(crate::specs::StatementParser::statement_by))]
 fn statement(alloc: Global, reader: &mut Reader<'_>, depth: u32) -> Result<Statement, Stop>
-    ensures { Gives plain_statement result reader.new (statements depth reader.old) }
+    ensures { Gives plain_statement result reader.new (statement_at_depth depth reader.old) }
 {
     let token = reader.at();
     match reader.next() {

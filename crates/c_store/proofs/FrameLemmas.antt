@@ -3,7 +3,7 @@ use Rattle.std.proofs.Common.{◌≡◌, ℕ, zero, suc, ◌+◌, List, [], ◌�
 use Rattle.std.specs.Option.{option_and_then}
 use Rattle.cbi_base.specs.declared.scalar.Class.TheVariants.{Local}
 use Rattle.cbi_base.specs.declared.scalar.Scalar.{Scalar}
-use Rattle.cbi_base.specs.Words.{Objects, made_with, killed, first_cells, all_made, all_killed}
+use Rattle.cbi_base.specs.Words.{Objects, made_with, object_killed, first_cells, all_made, all_killed}
 use Rattle.c_store.specs.declared.objects.Made.TheVariants as made
 use Rattle.c_store.specs.Made.{IsMade, cells_at_start}
 use Rattle.c_store.proofs.Sums.{remove-remove}
@@ -37,13 +37,13 @@ none_made arguments size sizes o p is =
     ap (λ cells. all_made cells o) (first_cells-cons arguments size sizes)
     ∙ on_full (first_cells (drop 1 arguments) sizes) (made_with Local (cells_at_start arguments size) o) o p is
 
-killed_swap : (o : Objects) (j k : ℕ) → killed k (killed j o) ≡ killed j (killed k o)
+killed_swap : (o : Objects) (j k : ℕ) → object_killed k (object_killed j o) ≡ object_killed j (object_killed k o)
 killed_swap o j k = ap (λ l. let p : Objects = record { made = o.made; live = l } in p) (remove-remove o.live j k)
 
-killed_within : (first count k : ℕ) (o : Objects) → killed k (all_killed first count o) ≡ all_killed first count (killed k o)
+killed_within : (first count k : ℕ) (o : Objects) → object_killed k (all_killed first count o) ≡ all_killed first count (object_killed k o)
 killed_within first zero k o = refl
-killed_within first (suc count) k o = killed_swap (all_killed first count o) (first + count) k ∙ ap (killed (first + count)) (killed_within first count k o)
+killed_within first (suc count) k o = killed_swap (all_killed first count o) (first + count) k ∙ ap (object_killed (first + count)) (killed_within first count k o)
 
 -- the last one may be killed first
-pub all_killed-last : (first count : ℕ) (o : Objects) → all_killed first (suc count) o ≡ all_killed first count (killed (first + count) o)
+pub all_killed-last : (first count : ℕ) (o : Objects) → all_killed first (suc count) o ≡ all_killed first count (object_killed (first + count) o)
 all_killed-last first count o = killed_within first count (first + count) o

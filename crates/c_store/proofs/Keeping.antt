@@ -9,16 +9,16 @@ use Rattle.std.proofs.lemmas.List.{length-map}
 use Rattle.base_lists.proofs.Tests.{no_choice, true_both}
 use Rattle.base_lists.proofs.Numbers.{more_apart, same_number}
 use Rattle.base_lists.proofs.Maps.{sum_insert}
-use Rattle.cbi_base.specs.Words.{Object, Objects, live_cells, cell_limit, object_limit, no_objects, has_room, with_object, undefined_in, cleared, killed}
-use Rattle.cbi_base.specs.Words.{is_text, filled}
+use Rattle.cbi_base.specs.Words.{Object, Objects, live_cells, cell_limit, object_limit, no_objects, has_room, with_object, undefined_in, object_made_undefined, object_killed}
+use Rattle.cbi_base.specs.Words.{is_text, object_filled}
 use Rattle.cbi_base.specs.declared.scalar.Scalar.{Scalar}
 use Rattle.cbi_base.specs.declared.scalar.Scalar.TheVariants.{Undefined}
 use Rattle.cbi_base.specs.declared.trap.Trap.{Trap}
 use Rattle.cbi_base.specs.declared.trap.Trap.TheVariants as trap
-use Rattle.c_store.specs.Written.{with_each, with_cell, put_back, stored_in, filled_map, after}
+use Rattle.c_store.specs.Written.{with_each, with_cell, put_back, stored_in, filled_map, state_or_trap}
 use Rattle.c_store.specs.Kept.{AreObjectsKept}
 use Rattle.cbi_base.specs.Frames as frames
-use Rattle.c_store.specs.Made.{undone}
+use Rattle.c_store.specs.Made.{last_object_undone}
 use Rattle.c_store.proofs.Sums.{sum-remove, sum-replace, remove-insert, remove_none, gone}
 
 nothing : (es : List (ℕ × Object)) → length es ≡ 0 → sum_by (λ o. length o.cells) (map (λ e. e.1) es) ≡ 0
@@ -51,7 +51,7 @@ none_left true o none = refl
 none_left false o none = none
 
 pub kept_by_kill : (cells : ℕ) (o : Objects) (k : AreObjectsKept cells o) (number : ℕ) (object : Object) → get o.live number ≡ Some object →
-    AreObjectsKept (cells - length object.cells) (killed number o)
+    AreObjectsKept (cells - length object.cells) (object_killed number o)
 kept_by_kill cells o k number object at =
     record {
       counted = let sum = sum-remove (λ o. length o.cells) o.live number object at in omega (arith, k.counted, sum);
@@ -95,7 +95,7 @@ pub kept_by_fill : (cells : ℕ) (o : Objects) (k : AreObjectsKept cells o) (num
 kept_by_fill cells o k number value = fill_kept cells o k number value (get o.live number) refl
 
 changed : {A : Type 0} (cells : ℕ) (o : Objects) (k : AreObjectsKept cells o) (number offset : ℕ) (value : Scalar) (found : Option Object) (r : Result A Trap) (m : FinMap nat_cmp Object) →
-    get o.live number ≡ found → stored_in number offset value found o.live ≡ after r m → (OnErr r (m ≡ o.live)) → AreObjectsKept cells (record o { live = m })
+    get o.live number ≡ found → stored_in number offset value found o.live ≡ state_or_trap r m → (OnErr r (m ≡ o.live)) → AreObjectsKept cells (record o { live = m })
 changed cells o k number offset value found (Err t) m is stored same = subst (λ l. AreObjectsKept cells (record o { live = l })) (sym same) k
 changed cells o k number offset value None (Ok done) m is stored same = absurd cc
 changed cells o k number offset value (Some object) (Ok done) m is stored same =
@@ -112,7 +112,7 @@ changed cells o k number offset value (Some object) (Ok done) m is stored same =
         (kept_by_change cells o k number object (with_cell offset value object) is (length-set object.cells offset value))
 
 pub kept_by_store : {A : Type 0} (cells : ℕ) (o : Objects) (k : AreObjectsKept cells o) (number offset : ℕ) (value : Scalar) (r : Result A Trap) (m : FinMap nat_cmp Object) →
-    stored_in number offset value (get o.live number) o.live ≡ after r m → OnErr r (m ≡ o.live) → AreObjectsKept cells (record o { live = m })
+    stored_in number offset value (get o.live number) o.live ≡ state_or_trap r m → OnErr r (m ≡ o.live) → AreObjectsKept cells (record o { live = m })
 kept_by_store cells o k number offset value r m stored same = changed cells o k number offset value (get o.live number) r m refl stored same
 
 -- the same of a store that may do nothing
@@ -149,7 +149,7 @@ room_parts cells o room =
 
 -- an object that was just made is undone
 pub undone_made : (o : Objects) (object : Object) (m : FinMap nat_cmp Object) → get o.live o.made ≡ None → m ≡ insert o.live o.made object →
-    undone (record { made = o.made + 1; live = m }) ≡ o
+    last_object_undone (record { made = o.made + 1; live = m }) ≡ o
 undone_made o object m none is =
     let back : o.made + 1 - 1 ≡ o.made = omega arith in
     ap (λ n. let p : Objects = record { made = n; live = remove m n } in p) back
@@ -157,21 +157,21 @@ undone_made o object m none is =
     ∙ ap (λ l. let p : Objects = record { made = o.made; live = l } in p) (remove-insert o.live o.made object none)
 
 -- to kill what doesn't live changes nothing
-pub killed_none : (o : Objects) (number : ℕ) → get o.live number ≡ None → o ≡ killed number o
+pub killed_none : (o : Objects) (number : ℕ) → get o.live number ≡ None → o ≡ object_killed number o
 killed_none o number none = ap (λ l. let p : Objects = record { made = o.made; live = l } in p) (sym (remove_none o.live number none))
 
-pub kept_without : (cells : ℕ) (o : Objects) (k : AreObjectsKept cells o) (number : ℕ) → get o.live number ≡ None → AreObjectsKept cells (killed number o)
+pub kept_without : (cells : ℕ) (o : Objects) (k : AreObjectsKept cells o) (number : ℕ) → get o.live number ≡ None → AreObjectsKept cells (object_killed number o)
 kept_without cells o k number none = subst (AreObjectsKept cells) (killed_none o number none) k
 
 undefined_each : (o : Objects) (number : ℕ) (found : Option Object) → frames.filled_in o number Undefined found ≡ undefined_in o number found
 undefined_each o number None = refl
 undefined_each o number (Some object) = refl
 
-pub filled_undefined : (number : ℕ) (o : Objects) → filled number Undefined o ≡ cleared number o
+pub filled_undefined : (number : ℕ) (o : Objects) → object_filled number Undefined o ≡ object_made_undefined number o
 filled_undefined number o = undefined_each o number (get o.live number)
 
 -- the object of the last number is dead once it was killed
-pub undo_is : (cells : ℕ) (o p : Objects) (k : AreObjectsKept cells p) → p ≡ killed (o.made - 1) o → AreObjectsKept cells (record { made = o.made - 1; live = p.live })
+pub undo_is : (cells : ℕ) (o p : Objects) (k : AreObjectsKept cells p) → p ≡ object_killed (o.made - 1) o → AreObjectsKept cells (record { made = o.made - 1; live = p.live })
 undo_is cells o p k is =
     let made : p.made ≡ o.made = ap (λ q. q.made) is in
     let live : p.live ≡ remove o.live (o.made - 1) = ap (λ q. q.live) is in

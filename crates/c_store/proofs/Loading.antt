@@ -3,12 +3,12 @@ use Rattle.std.proofs.Common.{◌≡◌, ◌≤◌, ℕ, ℤ, pos, ◌+ℤ◌, i
 use Rattle.std.specs.Option.{option_and_then}
 use Rattle.std.specs.FinMap.{get}
 use Rattle.cbi_base.specs.declared.scalar.Scalar.{Scalar}
-use Rattle.cbi_base.specs.declared.scalar.Scalar.TheVariants.{Number, Place, Null, Undefined}
+use Rattle.cbi_base.specs.declared.scalar.Scalar.TheVariants.{Number, Place, Undefined}
 use Rattle.cbi_base.specs.declared.scalar.Kind.TheVariants as kind
 use Rattle.cbi_base.specs.declared.scalar.Want.{Want}
 use Rattle.cbi_base.specs.declared.scalar.Want.TheVariants as want
 use Rattle.cbi_base.specs.declared.trap.Trap.TheVariants as trap
-use Rattle.cbi_base.specs.Objects.{Object, Objects, ◌>>=◌, live_or, is_wanted, found_cell, loaded, moved, moved_in}
+use Rattle.cbi_base.specs.Objects.{Object, Objects, ◌>>=◌, live_or, is_wanted, found_cell, loaded_value, moved_pointer, moved_in}
 use Rattle.c_store.specs.Word.{cell_of}
 use Rattle.std.proofs.lemmas.Bool.Decides.{nat_tests}
 
@@ -29,8 +29,8 @@ in_object w offset value None is wanted = absurd cc
 in_object w offset value (Some object) is wanted = ap (found_cell w) is ∙ wanted_found w value wanted
 
 pub loaded_there : (w : Want) (number offset : ℕ) (value : Scalar) (o : Objects) → cell_of number offset o ≡ Some value → is_wanted w value ≡ true →
-    loaded w (Place number offset) o ≡ Ok value
-unfolding loaded
+    loaded_value w (Place number offset) o ≡ Ok value
+unfolding loaded_value
 loaded_there w number offset value o is wanted = in_object w offset value (get o.live number) is wanted
 
 pub cell_there : (number offset : ℕ) (value : Scalar) (o : Objects) (object : Object) → get o.live number ≡ Some object →
@@ -44,8 +44,8 @@ moved_within : (number to : ℕ) (object : Object) → to ≤ length object.cell
 moved_within number to object upto = rw (within 0 to (omega arith), within to (length object.cells) upto) refl
 
 pub moved_there : (number offset to : ℕ) (cells : ℤ) (o : Objects) (object : Object) → get o.live number ≡ Some object → pos to ≡ pos offset +ℤ cells →
-    to ≤ length object.cells → moved (Place number offset) cells o ≡ Ok (Place number to)
-unfolding moved
+    to ≤ length object.cells → moved_pointer (Place number offset) cells o ≡ Ok (Place number to)
+unfolding moved_pointer
 moved_there number offset to cells o object there is upto =
     ap (λ found. live_or found >>= λ p. moved_in number (pos offset +ℤ cells) p) there
     ∙ ap (λ z. moved_in number z object) (sym is)

@@ -1,14 +1,14 @@
 -- Two pointers.
-use Rattle.std.proofs.Common.{◌≡◌, ℕ, ◌≤◌, ℤ, pos, ◌-ℤ◌, ◌≤ℤ◌, Bool, true, false, ◌&&◌, IsTrue, Option, None, Some, Result, Ok, Err, refl, ap, sym, ◌∙◌, arith}
+use Rattle.std.proofs.Common.{◌≡◌, ℕ, ◌≤◌, ℤ, pos, ◌-ℤ◌, ◌≤ℤ◌, Bool, true, false, ◌&&◌, Option, None, Some, Result, Ok, Err, refl, ap, sym, ◌∙◌}
 use Rattle.std.specs.Prelude.{◌==◌, if◌then◌else◌}
 use Rattle.std.specs.FinMap.{get}
 use Rattle.cbi_base.specs.declared.operators.Order.{Order}
-use Rattle.cbi_base.specs.declared.operators.Order.TheVariants.{Lt, Le, Gt, Ge, Eq, Ne}
+use Rattle.cbi_base.specs.declared.operators.Order.TheVariants.{Eq, Ne}
 use Rattle.cbi_base.specs.declared.scalar.Scalar.{Scalar}
 use Rattle.cbi_base.specs.declared.scalar.Scalar.TheVariants.{Number, Place, Null, Undefined}
 use Rattle.cbi_base.specs.declared.trap.Trap.{Trap}
 use Rattle.cbi_base.specs.declared.trap.Trap.TheVariants as trap
-use Rattle.cbi_base.specs.Objects.{Object, Objects, ◌>>=◌, live_or, of_pointers, within_one, in_order, compared, difference, elements}
+use Rattle.cbi_base.specs.Objects.{Object, Objects, ◌>>=◌, live_or, of_pointers, within_one, in_order, pointer_comparison, pointer_difference, elements_between}
 
 abbrev pub checked : Scalar → Scalar → Result (Unit {0}) Trap
 checked left right = of_pointers left right (Ok tt)
@@ -54,15 +54,15 @@ by_offsets (Place n i) (Place m j) o f = both_live (get o.live n) (get o.live m)
 by_offsets left right o f = refl
 
 ordered : (order : Order) (left right : Scalar) (o : Objects) → (order ≡ Eq → ⊥) → (order ≡ Ne → ⊥) →
-    compared order left right o ≡ of_pointers left right (within_one left right o (λ i j. Ok (in_order order i j)))
-unfolding compared
+    pointer_comparison order left right o ≡ of_pointers left right (within_one left right o (λ i j. Ok (in_order order i j)))
+unfolding pointer_comparison
 ordered Eq left right o eq ne = absurd (eq refl)
 ordered Ne left right o eq ne = absurd (ne refl)
 ordered order left right o eq ne = refl
 
 pub compared_by : (order : Order) (left right : Scalar) (o : Objects) (r : Result (ℕ × ℕ) Trap) → (order ≡ Eq → ⊥) → (order ≡ Ne → ⊥) →
     checked left right ≡ Ok (tt {0}) →
-    r ≡ offsets left right o → compared order left right o ≡ (r >>= λ p. Ok (in_order order p.0 p.1))
+    r ≡ offsets left right o → pointer_comparison order left right o ≡ (r >>= λ p. Ok (in_order order p.0 p.1))
 compared_by order left right o r eq ne two is =
     ordered order left right o eq ne
     ∙ of_two left right (within_one left right o (λ i j. Ok (in_order order i j))) two
@@ -70,9 +70,9 @@ compared_by order left right o r eq ne two is =
     ∙ ap (λ x. x >>= λ p. Ok (in_order order p.0 p.1)) (sym is)
 
 pub difference_by : (left right : Scalar) (size : ℕ) (o : Objects) (r : Result (ℕ × ℕ) Trap) → checked left right ≡ Ok (tt {0}) →
-    r ≡ offsets left right o → difference left right size o ≡ (r >>= λ p. elements size (pos p.0 -ℤ pos p.1))
-unfolding difference
+    r ≡ offsets left right o → pointer_difference left right size o ≡ (r >>= λ p. elements_between size (pos p.0 -ℤ pos p.1))
+unfolding pointer_difference
 difference_by left right size o r two is =
-    of_two left right (within_one left right o (λ i j. elements size (pos i -ℤ pos j))) two
-    ∙ by_offsets left right o (λ i j. elements size (pos i -ℤ pos j))
-    ∙ ap (λ x. x >>= λ p. elements size (pos p.0 -ℤ pos p.1)) (sym is)
+    of_two left right (within_one left right o (λ i j. elements_between size (pos i -ℤ pos j))) two
+    ∙ by_offsets left right o (λ i j. elements_between size (pos i -ℤ pos j))
+    ∙ ap (λ x. x >>= λ p. elements_between size (pos p.0 -ℤ pos p.1)) (sym is)

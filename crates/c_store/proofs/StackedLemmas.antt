@@ -1,6 +1,6 @@
 -- What the objects that are kept in order and apart answer, as the finite map of all does.
 use Rattle.std.proofs.Common.{◌≡◌, ℕ, zero, suc, ◌+◌, ◌-◌, ◌<◌, ◌≤◌, Bool, true, false, cond, List, [], ◌∷◌, ◌++◌, take, length, get_or, slice_set}
-use Rattle.std.proofs.Common.{slice_get, slice_index, Option, Some, None, is_some, OnErr, Result, Ok, Err, nat_eq, nat_lt, refl, ap, sym, ◌∙◌, subst}
+use Rattle.std.proofs.Common.{slice_get, slice_index, Option, Some, None, is_some, Result, Ok, Err, nat_eq, nat_lt, refl, ap, sym, ◌∙◌, subst}
 use Rattle.std.proofs.Common.{arith, length-append}
 use Rattle.std.specs.List.{zip, remove}
 use Rattle.std.specs.Map.{lookup}
@@ -13,7 +13,7 @@ use Rattle.std.proofs.lemmas.List.Edits.{length-remove, get_or-remove_below, get
 use Rattle.base_lists.proofs.Numbers.{equal_number}
 use Rattle.cbi_base.specs.Objects.{Object}
 use Rattle.c_store.specs.Stacked.{IsRising, IsBelow, StandsAt, IsMissing, IsApart, IsStacked, map_of}
-use Rattle.c_store.specs.Written.{with_each, written_at, put_back, stored_in, filled_map, after}
+use Rattle.c_store.specs.Written.{with_each, written_at, put_back, stored_in, filled_map, state_or_trap}
 use Rattle.c_store.proofs.Sums.{same_put}
 use Rattle.cbi_base.specs.declared.scalar.Scalar.{Scalar}
 use Rattle.cbi_base.specs.declared.trap.Trap.{Trap}
@@ -251,8 +251,8 @@ filled_none m k value at = sym (ap (λ o. filled_map k value o m) at)
 
 -- a value stored in an object that lives
 pub stored_some : {A : Type 0} (m n : map.FinMap nat_cmp Object) (k offset : ℕ) (value : Scalar) (b w : Object) (r : Result A Trap) →
-    map.get m k ≡ Some b → written_at offset value b ≡ after r w → n ≡ map.insert m k w →
-    stored_in k offset value (map.get m k) m ≡ after r n
+    map.get m k ≡ Some b → written_at offset value b ≡ state_or_trap r w → n ≡ map.insert m k w →
+    stored_in k offset value (map.get m k) m ≡ state_or_trap r n
 stored_some m n k offset value b w (Ok done) at is becomes =
     ap (λ o. stored_in k offset value o m) at ∙ ap (put_back m k) is ∙ ap Ok (sym becomes)
 stored_some m n k offset value b w (Err t) at is becomes =

@@ -1,17 +1,17 @@
 -- What a store leaves.
 use Rattle.std.proofs.Common.{◌≡◌, ℕ, zero, suc, ◌<◌, ◌==◌, Bool, true, false, cond, nat_lt, if◌then◌else◌, List, [], ◌∷◌, length, slice_get}
 use Rattle.std.proofs.Common.{slice_set, Option, Some, None, Ok, Err, refl, ap, sym, ◌∙◌, arith}
-use Rattle.std.specs.Ordering.{nat_cmp, eq_by_cmp}
-use Rattle.std.specs.Cmp.{nat_cmp_total, unsigned_tied}
+use Rattle.std.specs.Ordering.{nat_cmp}
+use Rattle.std.specs.Cmp.{nat_cmp_total}
 use Rattle.std.specs.Option.{option_and_then}
 use Rattle.std.specs.FinMap.{FinMap, get, insert, get-insert}
 use Rattle.std.proofs.lemmas.Bool.Decides.{nat_tests}
 use Rattle.base_lists.proofs.Numbers.{key_apart, key_itself}
 use Rattle.cbi_base.specs.declared.scalar.Scalar.{Scalar}
-use Rattle.cbi_base.specs.declared.scalar.Scalar.TheVariants.{Number, Place, Null, Undefined}
+use Rattle.cbi_base.specs.declared.scalar.Scalar.TheVariants.{Place, Undefined}
 use Rattle.cbi_base.specs.declared.scalar.Want.{Want}
 use Rattle.cbi_base.specs.declared.trap.Trap.TheVariants as trap
-use Rattle.cbi_base.specs.Objects.{Object, Objects, is_text, is_wanted, loaded, stored}
+use Rattle.cbi_base.specs.Objects.{Object, Objects, is_text, is_wanted, loaded_value, value_stored}
 use Rattle.c_store.specs.Word.{cell_of}
 use Rattle.c_store.specs.Written.{with_cell, put_back, stored_in}
 use Rattle.c_store.proofs.Storing.{stored_place, with_live}
@@ -39,8 +39,8 @@ by_object number offset value o p None there is = absurd cc
 by_object number offset value o p (Some object) there is =
     by_tests number offset value o p object (nat_lt offset (length object.cells)) (is_text object.class) there refl is
 
-was_stored : (number offset : ℕ) (value : Scalar) (o p : Objects) → stored (Place number offset) value o ≡ Ok p → IsStored number offset value o p
-unfolding stored
+was_stored : (number offset : ℕ) (value : Scalar) (o p : Objects) → value_stored (Place number offset) value o ≡ Ok p → IsStored number offset value o p
+unfolding value_stored
 was_stored number offset Undefined o p is = absurd cc
 was_stored number offset value o p is = by_object number offset value o p (get o.live number) refl (sym (stored_place number offset value o (λ no. cc)) ∙ is)
 
@@ -61,8 +61,8 @@ get_other : (m : FinMap nat_cmp Object) (j k : ℕ) (b : Object) → (j ≡ k �
 get_other m j k b other = get-insert nat_cmp_total m k b j ∙ ap (λ t. cond t (Some b) (get m j)) (key_apart j k other)
 
 -- a load finds what was stored
-pub stored_found : (number offset : ℕ) (value : Scalar) (o p : Objects) (w : Want) → stored (Place number offset) value o ≡ Ok p →
-    is_wanted w value ≡ true → loaded w (Place number offset) p ≡ Ok value
+pub stored_found : (number offset : ℕ) (value : Scalar) (o p : Objects) (w : Want) → value_stored (Place number offset) value o ≡ Ok p →
+    is_wanted w value ≡ true → loaded_value w (Place number offset) p ≡ Ok value
 stored_found number offset value o p w is wanted =
     let s = was_stored number offset value o p is in
     let there : get p.live number ≡ Some (with_cell offset value s.object) = ap (λ m. get m number) s.live
@@ -70,7 +70,7 @@ stored_found number offset value o p w is wanted =
     loaded_there w number offset value p (cell_there number offset value p (with_cell offset value s.object) there (set_here s.object.cells offset value s.within)) wanted
 
 -- every other cell stays
-pub others_stay : (number offset other at : ℕ) (value : Scalar) (o p : Objects) → stored (Place number offset) value o ≡ Ok p → (other ≡ number →
+pub others_stay : (number offset other at : ℕ) (value : Scalar) (o p : Objects) → value_stored (Place number offset) value o ≡ Ok p → (other ≡ number →
     at ≡ offset → ⊥) → cell_of other at p ≡ cell_of other at o
 others_stay number offset other at value o p is differ =
     let s = was_stored number offset value o p is in

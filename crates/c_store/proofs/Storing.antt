@@ -3,10 +3,10 @@ use Rattle.std.proofs.Common.{◌≡◌, ℕ, Bool, true, false, nat_lt, length,
 use Rattle.std.specs.Ordering.{nat_cmp}
 use Rattle.std.specs.FinMap.{FinMap, get}
 use Rattle.cbi_base.specs.declared.scalar.Scalar.{Scalar}
-use Rattle.cbi_base.specs.declared.scalar.Scalar.TheVariants.{Number, Place, Null, Undefined}
+use Rattle.cbi_base.specs.declared.scalar.Scalar.TheVariants.{Place, Undefined}
 use Rattle.cbi_base.specs.declared.trap.Trap.{Trap}
-use Rattle.cbi_base.specs.Objects.{Object, Objects, ◌>>=◌, live_or, set_in, stored, is_text}
-use Rattle.c_store.specs.Written.{stored_in, after}
+use Rattle.cbi_base.specs.Objects.{Object, Objects, ◌>>=◌, live_or, set_in, value_stored, is_text}
+use Rattle.c_store.specs.Written.{stored_in, state_or_trap}
 
 -- the same objects with another map of those that live
 abbrev pub with_live : Objects → Result (FinMap nat_cmp Object) Trap → Result Objects Trap
@@ -26,11 +26,11 @@ by_object number offset value o None = refl
 by_object number offset value o (Some object) = in_object number offset value o object (nat_lt offset (length object.cells)) (is_text object.class) refl refl
 
 pub stored_place : (number offset : ℕ) (value : Scalar) (o : Objects) → (value ≡ Undefined → ⊥) →
-    stored (Place number offset) value o ≡ with_live o (stored_in number offset value (get o.live number) o.live)
-unfolding stored
+    value_stored (Place number offset) value o ≡ with_live o (stored_in number offset value (get o.live number) o.live)
+unfolding value_stored
 stored_place number offset Undefined o defined = absurd (defined refl)
 stored_place number offset value o defined = by_object number offset value o (get o.live number)
 
-pub lifted : {A : Type 0} (o : Objects) (r : Result A Trap) (m : FinMap nat_cmp Object) → with_live o (after r m) ≡ after r (record o { live = m })
+pub lifted : {A : Type 0} (o : Objects) (r : Result A Trap) (m : FinMap nat_cmp Object) → with_live o (state_or_trap r m) ≡ state_or_trap r (record o { live = m })
 lifted o (Ok done) m = refl
 lifted o (Err t) m = refl

@@ -23,9 +23,9 @@ cells_at_start [] size = replicate size Undefined
 cells_at_start (argument ∷ arguments) size = argument ∷ replicate (size - 1) Undefined
 
 -- without the object that was made last
-abbrev pub undone : Objects → Objects
-undone o = record { made = o.made - 1; live = remove o.live (o.made - 1) }
+abbrev pub last_object_undone : Objects → Objects
+last_object_undone o = record { made = o.made - 1; live = remove o.live (o.made - 1) }
 
 abbrev pub all_undone : ℕ → Objects → Objects
 all_undone zero o = o
-all_undone (suc count) o = all_undone count (undone o)
+all_undone (suc count) o = all_undone count (last_object_undone o)

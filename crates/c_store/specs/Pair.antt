@@ -6,7 +6,7 @@ use Rattle.cbi_base.specs.declared.scalar.Kind.TheVariants.{Char, Int, Unsigned}
 use Rattle.cbi_base.specs.declared.scalar.Scalar.{Scalar}
 use Rattle.cbi_base.specs.declared.scalar.Scalar.TheVariants.{Number, Place, Null, Undefined}
 use Rattle.c_store.specs.Held.{IsHeldScalar}
-use Rattle.c_store.specs.Place.{half, place_from_bits}
+use Rattle.c_store.specs.Place.{half_of_object_numbers, place_from_bits}
 use Rattle.c_store.specs.declared.word.Word.TheInside.{Inside}
 
 abbrev pub tag_of : Kind → ℕ
@@ -25,9 +25,9 @@ scalar_of w =
 
 abbrev pub pair_of_place : ℕ → ℕ → Inside
 pair_of_place object offset =
-    if nat_lt object half
+    if nat_lt object half_of_object_numbers
     then record { tag = 5 + 256 * offset; bits = pos object }
-    else record { tag = 6 + 256 * offset; bits = pos (object - half) }
+    else record { tag = 6 + 256 * offset; bits = pos (object - half_of_object_numbers) }
 
 abbrev pub pair_of : Scalar → Inside
 pair_of Undefined = record { tag = 0; bits = pos 0 }

@@ -3,11 +3,11 @@ use Rattle.std.specs.Prelude.{ℕ, ◌+◌, ◌/◌, ◌%◌, ◌^◌, ◌==◌,
 use Rattle.cbi_base.specs.declared.scalar.Scalar.{Scalar}
 use Rattle.cbi_base.specs.declared.scalar.Scalar.TheVariants.{Place}
 
-abbrev pub half : ℕ
-half = 2 ^ 63
+abbrev pub half_of_object_numbers : ℕ
+half_of_object_numbers = 2 ^ 63
 
 abbrev pub place_from_bits : ℕ → ℤ → Scalar
 place_from_bits tag bits =
     if tag % 256 == 5
     then Place (unsigned_abs bits) (tag / 256)
-    else Place (half + unsigned_abs bits) (tag / 256)
+    else Place (half_of_object_numbers + unsigned_abs bits) (tag / 256)

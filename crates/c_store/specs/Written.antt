@@ -35,6 +35,6 @@ filled_map number value None m = m
 filled_map number value (Some object) m = insert m number (with_each value object)
 
 -- what stands after a call that changes it, or its trap
-abbrev pub after : {A B : Type 0} → Result A Trap → B → Result B Trap
-after (Ok done) new = Ok new
-after (Err t) new = Err t
+abbrev pub state_or_trap : {A B : Type 0} → Result A Trap → B → Result B Trap
+state_or_trap (Ok done) new = Ok new
+state_or_trap (Err t) new = Err t

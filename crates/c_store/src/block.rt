@@ -1,6 +1,6 @@
 ghost use Rattle.std.specs.Prelude.{◌≡◌, ◌-◌, [], ◌∷◌, length, replicate, slice_get, IfOk, OnErr, IsTrue, IsFalse, Ok};
 ghost use Rattle.cbi_base.specs.declared.scalar.Scalar.TheVariants.{Undefined};
-ghost use Rattle.c_store.specs.Written.{with_each, written_at, after};
+ghost use Rattle.c_store.specs.Written.{with_each, written_at, state_or_trap};
 
 use crate::word::Word;
 use cbi_base::{Class, Memory, Trap};
@@ -119,7 +119,7 @@ impl Block {
     /// Stores a value at an offset.
     #[inline(always)]
     pub fn set(&mut self, offset: u32, value: Word) -> Result<(), Trap>
-        ensures value { written_at offset value self.old ≡ after result self.new }
+        ensures value { written_at offset value self.old ≡ state_or_trap result self.new }
         ensures trap { OnErr result (self.new ≡ self.old) }
     {
         if offset as usize >= self.len() {

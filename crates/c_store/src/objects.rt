@@ -1,14 +1,16 @@
 ghost use Rattle.std.specs.Prelude.{◌≡◌, ◌≤◌, Ok, IfOk, ◌+◌, OnOk, OnErr, IfSome, IsTrue, IsFalse, Some, All, drop, length, option_map, replicate};
 ghost use Rattle.std.specs.FinMap.{get};
 ghost use Rattle.cbi_base.specs.declared.scalar.Scalar.TheVariants.{Undefined};
-ghost use Rattle.cbi_base.specs.Words.{no_objects, has_room, one_object_more, made_with, killed, cleared, loaded, stored, released, moved, compared};
-ghost use Rattle.cbi_base.specs.Words.{difference, live_cells, cell_limit, found_cell, within_one, LiesIn, first_cells, all_made, all_killed, filled};
+ghost use Rattle.cbi_base.specs.Words.{no_objects, has_room, one_object_more, made_with, object_killed, object_made_undefined, loaded_value, value_stored};
+ghost use Rattle.cbi_base.specs.Words.{object_released, moved_pointer, pointer_comparison};
+ghost use Rattle.cbi_base.specs.Words.{pointer_difference, live_cells, cell_limit, found_cell, within_one, LiesIn, first_cells, all_made, all_killed};
+ghost use Rattle.cbi_base.specs.Words.{object_filled};
 ghost use Rattle.cbi_base.specs.declared.scalar.Kind.TheVariants.{Int};
 ghost use Rattle.cbi_base.specs.declared.scalar.Class.TheVariants.{Local};
 ghost use Rattle.c_store.specs.Held.{IsHeldScalar};
-ghost use Rattle.c_store.specs.Made.{IsMade, IsObject, cells_at_start, undone, all_undone};
+ghost use Rattle.c_store.specs.Made.{IsMade, IsObject, cells_at_start, last_object_undone, all_undone};
 ghost use Rattle.c_store.specs.Word.{cell_of};
-ghost use Rattle.c_store.specs.Written.{after};
+ghost use Rattle.c_store.specs.Written.{state_or_trap};
 
 use crate::block::Block;
 use crate::places::Guess;
@@ -130,7 +132,7 @@ impl Objects {
     fn add(&mut self, block: Block) -> Result<Made, Memory>
         requires { IsTrue (has_room (length block.cells) self.old) }
         ensures made { IfOk result (IsMade (Some (one_object_more block.class block.cells self.old)) self.old self.new) }
-        ensures back { OnOk result (undone self.new ≡ self.old) }
+        ensures back { OnOk result (last_object_undone self.new ≡ self.old) }
         ensures memory { OnErr result (self.new ≡ self.old) }
     {
         let number = self.made;
@@ -185,7 +187,7 @@ impl Objects {
     #[inline(always)]
     fn make_local(&mut self, arguments: &[Word], size: u32) -> Result<Made, Memory>
         ensures made { IfOk result (IsMade (made_with Local (cells_at_start arguments.now size) self.old) self.old self.new) }
-        ensures back { IfOk result (λ m. IsObject m → undone self.new ≡ self.old) }
+        ensures back { IfOk result (λ m. IsObject m → last_object_undone self.new ≡ self.old) }
         ensures memory { OnErr result (self.new ≡ self.old) }
     {
         let first = arguments.first().copied();
@@ -206,7 +208,7 @@ impl Objects {
     /// The object that was made last is as if it had not been made.
     fn undo(&mut self)
         requires { 1 ≤ self.old.made }
-        ensures { self.new ≡ undone self.old }
+        ensures { self.new ≡ last_object_undone self.old }
     {
         let number = self.made - 1;
         self.kill(number);
@@ -252,7 +254,7 @@ impl Objects {
     /// The object is dead from now on, where it lives.
     #[inline(always)]
     pub fn kill(&mut self, object: u64)
-        ensures { self.new ≡ killed object self.old }
+        ensures { self.new ≡ object_killed object self.old }
     {
         if let Some(block) = self.table.remove(object) {
             self.cells -= block.len() as u32;
@@ -262,7 +264,7 @@ impl Objects {
     /// The object so many numbers behind another is dead from now on, where it lives.
     #[inline(always)]
     fn kill_behind(&mut self, first: u64, more: u32)
-        ensures { self.new ≡ killed (first + more) self.old }
+        ensures { self.new ≡ object_killed (first + more) self.old }
     {
         match first.checked_add(u64::from(more)) {
             Some(number) => self.kill(number),
@@ -285,14 +287,14 @@ impl Objects {
 
     /// Each cell of the object, where it lives, has this value from now on.
     pub fn fill(&mut self, object: u64, value: Word)
-        ensures { self.new ≡ filled object value self.old }
+        ensures { self.new ≡ object_filled object value self.old }
     {
         self.table.fill(object, value);
     }
 
     /// The cells of the object, where it lives, are undefined from now on.
     pub fn clear(&mut self, object: u64)
-        ensures { self.new ≡ cleared object self.old }
+        ensures { self.new ≡ object_made_undefined object self.old }
     {
         self.fill(object, Word::undefined());
     }
@@ -308,9 +310,9 @@ impl Objects {
     }
 
     /// `free`: null does nothing, and anything but the start of a live object of `malloc` is trap BadFree.
-    #[tactic(auto, unfolding(cbi_base::specs::Objects::released))]
+    #[tactic(auto, unfolding(cbi_base::specs::Objects::object_released))]
     pub fn release(&mut self, pointer: Scalar) -> Result<(), Trap>
-        ensures value { released pointer self.old ≡ after result self.new }
+        ensures value { object_released pointer self.old ≡ state_or_trap result self.new }
         ensures trap { OnErr result (self.new ≡ self.old) }
     {
         match pointer {
@@ -329,7 +331,7 @@ impl Objects {
 
     /// `release` of a word.
     pub fn release_word(&mut self, pointer: Word) -> Result<(), Trap>
-        ensures value { released pointer self.old ≡ after result self.new }
+        ensures value { object_released pointer self.old ≡ state_or_trap result self.new }
         ensures trap { OnErr result (self.new ≡ self.old) }
     {
         self.release(pointer.scalar())
@@ -339,7 +341,7 @@ impl Objects {
     #[inline(always)]
     #[tactic(auto, using(crate::proofs::Loading::loaded_there))]
     pub fn quick_load(&self, pointer: Word, want: Want) -> Option<Word>
-        ensures { IfSome result (λ value. loaded want pointer self.now ≡ Ok value) }
+        ensures { IfSome result (λ value. loaded_value want pointer self.now ≡ Ok value) }
     {
         let (object, offset) = pointer.place_parts()?;
         let word = self.quick_cell(Guess::Any, object, offset)?;
@@ -354,7 +356,7 @@ impl Objects {
     #[inline(always)]
     #[tactic(auto, using(crate::proofs::Loading::loaded_there))]
     pub fn local_value(&self, object: u64, want: Want) -> Option<Word>
-        ensures { IfSome result (λ value. loaded want (Scalar.Place object 0) self.now ≡ Ok value) }
+        ensures { IfSome result (λ value. loaded_value want (Scalar.Place object 0) self.now ≡ Ok value) }
     {
         let word = self.quick_cell(Guess::Last, object, 0)?;
         if word.is_wanted(want) {
@@ -366,7 +368,7 @@ impl Objects {
 
     /// The value at a pointer, of the kind that is wanted.
     pub fn load_word(&self, pointer: Word, want: Want) -> Result<Word, Trap>
-        ensures { result ≡ loaded want pointer self.now }
+        ensures { result ≡ loaded_value want pointer self.now }
     {
         self.load_at(pointer.scalar(), want)
     }
@@ -380,9 +382,9 @@ impl Objects {
         self.table.quick(guess, object)?.cell(offset)
     }
 
-    #[tactic(auto, unfolding(cbi_base::specs::Objects::loaded))]
+    #[tactic(auto, unfolding(cbi_base::specs::Objects::loaded_value))]
     fn load_at(&self, pointer: Scalar, want: Want) -> Result<Word, Trap>
-        ensures { result ≡ loaded want pointer self.now }
+        ensures { result ≡ loaded_value want pointer self.now }
     {
         match pointer {
             Scalar::Undefined => Err(Trap::Undefined),
@@ -399,7 +401,7 @@ impl Objects {
 
     /// The value at a pointer, of the kind that is wanted.
     pub fn load(&self, pointer: Scalar, want: Want) -> Result<Scalar, Trap>
-        ensures value { result ≡ loaded want pointer self.now }
+        ensures value { result ≡ loaded_value want pointer self.now }
         ensures held { IfOk result IsHeldScalar }
     {
         let value = self.load_at(pointer, want)?;
@@ -407,9 +409,9 @@ impl Objects {
     }
 
     /// Stores a value at a place.
-    #[tactic(auto, using(crate::proofs::Storing::stored_place, crate::proofs::Storing::lifted), unfolding(cbi_base::specs::Objects::stored))]
+    #[tactic(auto, using(crate::proofs::Storing::stored_place, crate::proofs::Storing::lifted), unfolding(cbi_base::specs::Objects::value_stored))]
     fn store_in(&mut self, object: u64, offset: u32, value: Word) -> Result<(), Trap>
-        ensures value { stored (Scalar.Place object offset) value self.old ≡ after result self.new }
+        ensures value { value_stored (Scalar.Place object offset) value self.old ≡ state_or_trap result self.new }
         ensures trap { OnErr result (self.new ≡ self.old) }
     {
         if value.is_undefined() {
@@ -419,9 +421,9 @@ impl Objects {
     }
 
     /// Stores a value at a pointer.
-    #[tactic(auto, unfolding(cbi_base::specs::Objects::stored))]
+    #[tactic(auto, unfolding(cbi_base::specs::Objects::value_stored))]
     fn store_at(&mut self, pointer: Scalar, value: Word) -> Result<(), Trap>
-        ensures value { stored pointer value self.old ≡ after result self.new }
+        ensures value { value_stored pointer value self.old ≡ state_or_trap result self.new }
         ensures trap { OnErr result (self.new ≡ self.old) }
     {
         if value.is_undefined() {
@@ -437,9 +439,9 @@ impl Objects {
 
     /// Stores a defined value at a place, where its cell is found without a search and can be written; false where nothing was done.
     #[inline(always)]
-    #[tactic(auto, using(crate::proofs::Storing::stored_place, crate::proofs::Storing::lifted), unfolding(cbi_base::specs::Objects::stored))]
+    #[tactic(auto, using(crate::proofs::Storing::stored_place, crate::proofs::Storing::lifted), unfolding(cbi_base::specs::Objects::value_stored))]
     fn quick_store_in(&mut self, guess: Guess, object: u64, offset: u32, value: Word) -> bool
-        ensures done { IsTrue result → stored (Scalar.Place object offset) value self.old ≡ Ok self.new }
+        ensures done { IsTrue result → value_stored (Scalar.Place object offset) value self.old ≡ Ok self.new }
         ensures nothing { IsFalse result → self.new ≡ self.old }
     {
         if value.is_undefined() {
@@ -451,7 +453,7 @@ impl Objects {
     /// Stores a defined value at a pointer, where its cell is found without a search and can be written; false where nothing was done.
     #[inline(always)]
     pub fn quick_store(&mut self, pointer: Word, value: Word) -> bool
-        ensures done { IsTrue result → stored pointer value self.old ≡ Ok self.new }
+        ensures done { IsTrue result → value_stored pointer value self.old ≡ Ok self.new }
         ensures nothing { IsFalse result → self.new ≡ self.old }
     {
         let Some((object, offset)) = pointer.place_parts() else {
@@ -463,7 +465,7 @@ impl Objects {
     /// Stores a defined value in the first cell of a local of the running function; false where nothing was done.
     #[inline(always)]
     pub fn set_local(&mut self, object: u64, value: Word) -> bool
-        ensures done { IsTrue result → stored (Scalar.Place object 0) value self.old ≡ Ok self.new }
+        ensures done { IsTrue result → value_stored (Scalar.Place object 0) value self.old ≡ Ok self.new }
         ensures nothing { IsFalse result → self.new ≡ self.old }
     {
         self.quick_store_in(Guess::Last, object, 0, value)
@@ -471,7 +473,7 @@ impl Objects {
 
     /// Stores a value at a pointer.
     pub fn store_word(&mut self, pointer: Word, value: Word) -> Result<(), Trap>
-        ensures value { stored pointer value self.old ≡ after result self.new }
+        ensures value { value_stored pointer value self.old ≡ state_or_trap result self.new }
         ensures trap { OnErr result (self.new ≡ self.old) }
     {
         if self.quick_store(pointer, value) {
@@ -482,7 +484,7 @@ impl Objects {
 
     /// Stores a value at a pointer, whose object is looked for without a guess.
     pub fn store_slowly(&mut self, pointer: Word, value: Word) -> Result<(), Trap>
-        ensures value { stored pointer value self.old ≡ after result self.new }
+        ensures value { value_stored pointer value self.old ≡ state_or_trap result self.new }
         ensures trap { OnErr result (self.new ≡ self.old) }
     {
         self.store_at(pointer.scalar(), value)
@@ -491,15 +493,15 @@ impl Objects {
     /// Stores a value at a pointer.
     pub fn store(&mut self, pointer: Scalar, value: Scalar) -> Result<(), Trap>
         requires { IsHeldScalar value }
-        ensures value { stored pointer value self.old ≡ after result self.new }
+        ensures value { value_stored pointer value self.old ≡ state_or_trap result self.new }
         ensures trap { OnErr result (self.new ≡ self.old) }
     {
         self.store_at(pointer, Word::of(value))
     }
 
-    #[tactic(auto, unfolding(cbi_base::specs::Objects::moved))]
+    #[tactic(auto, unfolding(cbi_base::specs::Objects::moved_pointer))]
     fn move_at(&self, pointer: Scalar, cells: i64) -> Result<Word, Trap>
-        ensures { result ≡ moved pointer cells self.now }
+        ensures { result ≡ moved_pointer pointer cells self.now }
     {
         match pointer {
             Scalar::Undefined => Err(Trap::Undefined),
@@ -542,8 +544,8 @@ impl Objects {
     /// nothing.
     #[inline(always)]
     pub fn quick_load_behind(&self, pointer: Word, cells: i64, want: Want) -> Option<(Word, Word)>
-        ensures moved { IfSome result (λ p. moved pointer cells self.now ≡ Ok p.0) }
-        ensures loaded { IfSome result (λ p. loaded want p.0 self.now ≡ Ok p.1) }
+        ensures moved { IfSome result (λ p. moved_pointer pointer cells self.now ≡ Ok p.0) }
+        ensures loaded { IfSome result (λ p. loaded_value want p.0 self.now ≡ Ok p.1) }
     {
         let (object, offset) = pointer.place_parts()?;
         let block = self.quick_block(object)?;
@@ -558,9 +560,9 @@ impl Objects {
 
     /// The pointer moved by so many cells, where its object is found without a search and it stays within it. None tells nothing.
     #[inline(always)]
-    #[tactic(auto, unfolding(cbi_base::specs::Objects::moved))]
+    #[tactic(auto, unfolding(cbi_base::specs::Objects::moved_pointer))]
     pub fn quick_move(&self, pointer: Word, cells: i64) -> Option<Word>
-        ensures { IfSome result (λ place. moved pointer cells self.now ≡ Ok place) }
+        ensures { IfSome result (λ place. moved_pointer pointer cells self.now ≡ Ok place) }
     {
         let (object, offset) = pointer.place_parts()?;
         let length = self.quick_length(object)?;
@@ -572,14 +574,14 @@ impl Objects {
 
     /// The pointer moved by so many cells, within its object or to its end.
     pub fn move_word(&self, pointer: Word, cells: i64) -> Result<Word, Trap>
-        ensures { result ≡ moved pointer cells self.now }
+        ensures { result ≡ moved_pointer pointer cells self.now }
     {
         self.move_at(pointer.scalar(), cells)
     }
 
     /// The pointer moved by so many cells, within its object or to its end.
     pub fn move_pointer(&self, pointer: Scalar, cells: i64) -> Result<Scalar, Trap>
-        ensures value { result ≡ moved pointer cells self.now }
+        ensures value { result ≡ moved_pointer pointer cells self.now }
         ensures held { IfOk result IsHeldScalar }
     {
         let place = self.move_at(pointer, cells)?;
@@ -622,9 +624,9 @@ impl Objects {
     }
 
     /// Two pointers compared (C99 6.5.8 and 6.5.9).
-    #[tactic(auto, using(crate::proofs::PairLemmas::compared_by), unfolding(cbi_base::specs::Objects::compared))]
+    #[tactic(auto, using(crate::proofs::PairLemmas::compared_by), unfolding(cbi_base::specs::Objects::pointer_comparison))]
     pub fn compare(&self, order: Order, left: Scalar, right: Scalar) -> Result<bool, Trap>
-        ensures { result ≡ compared order left right self.now }
+        ensures { result ≡ pointer_comparison order left right self.now }
     {
         check_pointers(left, right)?;
         match order {
@@ -639,16 +641,16 @@ impl Objects {
 
     /// Two pointers compared (C99 6.5.8 and 6.5.9).
     pub fn compare_words(&self, order: Order, left: Word, right: Word) -> Result<bool, Trap>
-        ensures { result ≡ compared order left right self.now }
+        ensures { result ≡ pointer_comparison order left right self.now }
     {
         self.compare(order, left.scalar(), right.scalar())
     }
 
     /// How many elements of so many cells lie between two pointers (C99 6.5.6p9).
-    #[tactic(auto, unfolding(cbi_base::specs::Objects::difference))]
+    #[tactic(auto, unfolding(cbi_base::specs::Objects::pointer_difference))]
     pub fn difference(&self, left: Scalar, right: Scalar, size: u32) -> Result<i64, Trap>
         requires { 1 ≤ size }
-        ensures value { result ≡ difference left right size self.now }
+        ensures value { result ≡ pointer_difference left right size self.now }
         ensures in_range { IsHeldScalar left → IsHeldScalar right → IfOk result (LiesIn Int) }
     {
         check_pointers(left, right)?;
@@ -659,7 +661,7 @@ impl Objects {
     /// How many elements of so many cells lie between two pointers (C99 6.5.6p9), which an `int` holds.
     pub fn difference_of_words(&self, left: Word, right: Word, size: u32) -> Result<i64, Trap>
         requires { 1 ≤ size }
-        ensures value { result ≡ difference left right size self.now }
+        ensures value { result ≡ pointer_difference left right size self.now }
         ensures in_range { IfOk result (LiesIn Int) }
     {
         self.difference(left.scalar(), right.scalar(), size)

@@ -1,7 +1,7 @@
 //! What is asked of pointers apart from the objects that they lead to.
 
 ghost use Rattle.std.specs.Prelude.{◌≡◌, ◌≤◌, pos, ◌+ℤ◌, Ok, IfOk, IfSome, unsigned_abs};
-ghost use Rattle.cbi_base.specs.Objects.{of_pointers, same_place, in_order, elements, cell_limit};
+ghost use Rattle.cbi_base.specs.Objects.{of_pointers, same_place, in_order, elements_between, cell_limit};
 ghost use Rattle.c_store.specs.Places.{moved_to};
 
 use crate::word::Word;
@@ -52,7 +52,7 @@ pub fn in_order(order: Order, left: u32, right: u32) -> bool
 /// How many elements of this size so many cells are.
 pub fn elements(size: u32, cells: i64) -> Result<i64, Trap>
     requires { 1 ≤ size }
-    ensures value { result ≡ elements size cells }
+    ensures value { result ≡ elements_between size cells }
     ensures near { IfOk result (λ count. unsigned_abs count ≤ unsigned_abs cells) }
 {
     let size = i64::from(size);

@@ -3,7 +3,7 @@ ghost use Rattle.std.specs.Option.{option_copied};
 ghost use Rattle.std.specs.FinMap as map;
 ghost use Rattle.cbi_base.specs.Objects.{is_heap_start};
 ghost use Rattle.c_store.specs.Stacked.{IsRising, IsApart, StandsAt, IsMissing};
-ghost use Rattle.c_store.specs.Written.{stored_in, filled_map, after};
+ghost use Rattle.c_store.specs.Written.{stored_in, filled_map, state_or_trap};
 
 use crate::block::Block;
 use crate::places::{Guess, Notes, is_above, place_by, search};
@@ -168,7 +168,7 @@ impl Table {
     /// Stores a value in a cell of an object.
     #[inline(never)]
     pub fn set_by_search(&mut self, number: u64, offset: u32, value: Word) -> Result<(), Trap>
-        ensures value { stored_in number offset value (map.get self.old number) self.old ≡ after result self.new }
+        ensures value { stored_in number offset value (map.get self.old number) self.old ≡ state_or_trap result self.new }
         ensures trap { OnErr result (self.new ≡ self.old) }
     {
         if let Some(block) = self.heap.get_mut(&number) {

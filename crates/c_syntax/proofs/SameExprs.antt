@@ -8,7 +8,7 @@ use Rattle.c_syntax.specs.declared.expr.Expr.TheViews.{out-Expr, out-PostfixOper
 use Rattle.c_syntax.specs.declared.expr.Link.{Link}
 use Rattle.c_syntax.specs.declared.expr.PostfixOperator.{PostfixOperator}
 use Rattle.c_syntax.specs.ExprTree as e
-use Rattle.c_syntax.specs.ExprTree.{ExprTree, ExprList, LinkList, PostfixList}
+use Rattle.c_syntax.specs.ExprTree.{ExprTree, LinkList, PostfixList}
 use Rattle.c_syntax.specs.Plain.{plain_expr, plain_link, plain_postfix, plain_links, plain_operators, expr_level, postfix_level, link_level, expr_list}
 use Rattle.c_syntax.specs.Same.{LinksAlike, OperatorsAlike, SameExprLayer, SameExpr, SameLink, SamePostfixLayer, SamePostfix}
 use Rattle.c_syntax.proofs.PlainExprs.{plain_link_before}

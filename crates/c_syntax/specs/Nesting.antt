@@ -13,31 +13,31 @@ use Rattle.c_syntax.specs.StatementTree.{InitialTree, StartTree, DeclarationTree
 use Rattle.c_syntax.specs.ItemTree as i
 use Rattle.c_syntax.specs.ItemTree.{ItemTree, SourceTree}
 
-abbrev pub deepest : {A : Type 0} → (A → ℕ) → List A → ℕ
-deepest f [] = 0
-deepest f (x ∷ xs) = max (f x) (deepest f xs)
+abbrev pub deepest_nesting : {A : Type 0} → (A → ℕ) → List A → ℕ
+deepest_nesting f [] = 0
+deepest_nesting f (x ∷ xs) = max (f x) (deepest_nesting f xs)
 
-abbrev pub deep : {A : Type 0} → (A → ℕ) → Option A → ℕ
-deep f None = 0
-deep f (Some x) = f x
+abbrev pub optional_nesting : {A : Type 0} → (A → ℕ) → Option A → ℕ
+optional_nesting f None = 0
+optional_nesting f (Some x) = f x
 
 -- A declarator and a parameter are one deeper for each `*` and each `[` in them.
 abbrev pub declarator_nesting : Declarator → ℕ
 declarator_nesting d = d.stars + length d.bounds
 
 abbrev pub members_nesting : Members → ℕ
-members_nesting m = deepest declarator_nesting m.declarators
+members_nesting m = deepest_nesting declarator_nesting m.declarators
 
 abbrev pub name_nesting : ParamName → ℕ
-name_nesting n = deep (λ b. 1) n.bound
+name_nesting n = optional_nesting (λ b. 1) n.bound
 
 abbrev pub param_nesting : Param → ℕ
-param_nesting p = p.stars + deep name_nesting p.name
+param_nesting p = p.stars + optional_nesting name_nesting p.name
 
 abbrev pub params_nesting : Params → ℕ
 params_nesting params.Empty = 0
 params_nesting params.Void = 0
-params_nesting (params.List list) = deepest param_nesting list
+params_nesting (params.List list) = deepest_nesting param_nesting list
 
 abbrev mutual
   -- What stands within parentheses or brackets, an argument, an operand of a prefix operator or of a cast, the second and third
@@ -87,15 +87,15 @@ initial_nesting (s.Braced token items comma) = arguments_nesting items
 
 -- `by` is how much deeper the initialisers are than their declaration: 1 for a global, else 0
 abbrev pub start_nesting : ℕ → StartTree → ℕ
-start_nesting by x = max (declarator_nesting x.declarator) (deep (λ y. by + initial_nesting y) x.initial)
+start_nesting by x = max (declarator_nesting x.declarator) (optional_nesting (λ y. by + initial_nesting y) x.initial)
 
 abbrev pub declaration_nesting : ℕ → DeclarationTree → ℕ
-declaration_nesting by d = deepest (start_nesting by) d.starts
+declaration_nesting by d = deepest_nesting (start_nesting by) d.starts
 
 -- A declaration within a `for` is one deeper than the statement, an expression isn't.
 abbrev pub for_start_nesting : ForStartTree → ℕ
 for_start_nesting (s.Declares declaration) = 1 + declaration_nesting 0 declaration
-for_start_nesting (s.Computes x) = deep expr_nesting x
+for_start_nesting (s.Computes x) = optional_nesting expr_nesting x
 
 abbrev mutual
   -- What stands in a statement, other than its own expressions, is one deeper.
@@ -108,8 +108,8 @@ abbrev mutual
   statement_nesting (s.While token condition body) = max (expr_nesting condition) (1 + statement_nesting body)
   statement_nesting (s.Do token body condition) = max (1 + statement_nesting body) (expr_nesting condition)
   statement_nesting (s.For token start condition step body) =
-      max (for_start_nesting start) (max (deep expr_nesting condition) (max (deep expr_nesting step) (1 + statement_nesting body)))
-  statement_nesting (s.Return token value) = deep expr_nesting value
+      max (for_start_nesting start) (max (optional_nesting expr_nesting condition) (max (optional_nesting expr_nesting step) (1 + statement_nesting body)))
+  statement_nesting (s.Return token value) = optional_nesting expr_nesting value
   statement_nesting (s.Break token) = 0
   statement_nesting (s.Continue token) = 0
 
@@ -120,10 +120,10 @@ abbrev mutual
   entries_nesting (s.stated statement rest) = max (1 + statement_nesting statement) (entries_nesting rest)
 
 abbrev pub item_nesting : ItemTree → ℕ
-item_nesting (i.Struct token tag members) = deepest members_nesting members
-item_nesting (i.Function token base stars name ps body) = max stars (max (params_nesting ps) (deep entries_nesting body))
+item_nesting (i.Struct token tag members) = deepest_nesting members_nesting members
+item_nesting (i.Function token base stars name ps body) = max stars (max (params_nesting ps) (optional_nesting entries_nesting body))
 item_nesting (i.Declaration declaration) = declaration_nesting 1 declaration
 
 -- the nesting of a tree's deepest part
 abbrev pub tree_nesting : SourceTree → ℕ
-tree_nesting t = deepest item_nesting t.items
+tree_nesting t = deepest_nesting item_nesting t.items

@@ -15,7 +15,7 @@ use Rattle.c_syntax.specs.StatementTree as s
 use Rattle.c_syntax.specs.StatementTree.{InitialTree, StartTree, DeclarationTree, ForStartTree, StatementTree, EntryList}
 use Rattle.c_syntax.specs.ItemTree as i
 use Rattle.c_syntax.specs.ItemTree.{ItemTree}
-use Rattle.c_syntax.specs.Spelling.{Kinds, optional, base_kinds, type_kinds, declarator_kinds, members_kinds, param_kinds, params_kinds, expr_kinds}
+use Rattle.c_syntax.specs.Spelling.{Kinds, optional_kinds, base_kinds, type_kinds, declarator_kinds, members_kinds, param_kinds, params_kinds, expr_kinds}
 use Rattle.c_syntax.specs.Spelling.{start_kinds, declaration_kinds, for_start_kinds, statement_kinds}
 
 -- parts one after another, with `gap` tokens between two of them
@@ -118,8 +118,9 @@ abbrev mutual
   StatementAt at (s.For token start condition step body) =
       (token ≡ at) × ForStartAt (at + 2) start ×
       IfSome condition (ExprAt (at + 2 + length (for_start_kinds start))) ×
-      IfSome step (ExprAt (at + 2 + length (for_start_kinds start) + length (optional expr_kinds condition) + 1)) ×
-      StatementAt (at + 2 + length (for_start_kinds start) + length (optional expr_kinds condition) + 1 + length (optional expr_kinds step) + 1) body
+      IfSome step (ExprAt (at + 2 + length (for_start_kinds start) + length (optional_kinds expr_kinds condition) + 1)) ×
+      StatementAt (at + 2 + length (for_start_kinds start) + length (optional_kinds expr_kinds condition) + 1 + length (optional_kinds expr_kinds step) + 1)
+      body
   StatementAt at (s.Return token value) = (token ≡ at) × IfSome value (ExprAt (at + 1))
   StatementAt at (s.Break token) = token ≡ at
   StatementAt at (s.Continue token) = token ≡ at

@@ -55,16 +55,16 @@ is_assignment sign.OrEqual = true
 is_assignment _ = false
 
 -- The rules of expressions from the outermost in: a place for one rule takes the rules after it too.
-abbrev pub rank : ExprTree → ℕ
-rank (e.Comma token operands) = 0
-rank (e.Assign token x target value) = 1
-rank (e.Conditional token condition first second) = 2
-rank (e.Chain level first links) = level + 2
-rank (e.Cast token b stars operand) = 13
-rank (e.Prefix token operator operand) = 14
-rank (e.SizeOfType token b stars) = 14
-rank (e.Postfix primary operators) = 15
-rank _ = 16
+abbrev pub expression_rank : ExprTree → ℕ
+expression_rank (e.Comma token operands) = 0
+expression_rank (e.Assign token x target value) = 1
+expression_rank (e.Conditional token condition first second) = 2
+expression_rank (e.Chain level first links) = level + 2
+expression_rank (e.Cast token b stars operand) = 13
+expression_rank (e.Prefix token operator operand) = 14
+expression_rank (e.SizeOfType token b stars) = 14
+expression_rank (e.Postfix primary operators) = 15
+expression_rank _ = 16
 
 -- the rank that a prefix operator's operand has at least: a unary expression, or a cast
 abbrev pub operand_rank : PrefixOperator → ℕ
@@ -97,15 +97,15 @@ abbrev mutual
   pub ShapedExpr : ExprTree → Type 0
   ShapedExpr (e.Comma token operands) = HasTwo operands × ShapedExprs operands
   ShapedExpr (e.Assign token x target value) =
-      IsTrue (is_assignment x) × (14 ≤ rank target) × ShapedExpr target × (1 ≤ rank value) × ShapedExpr value
+      IsTrue (is_assignment x) × (14 ≤ expression_rank target) × ShapedExpr target × (1 ≤ expression_rank value) × ShapedExpr value
   ShapedExpr (e.Conditional token condition first second) =
-      (3 ≤ rank condition) × ShapedExpr condition × ShapedExpr first × (2 ≤ rank second) × ShapedExpr second
+      (3 ≤ expression_rank condition) × ShapedExpr condition × ShapedExpr first × (2 ≤ expression_rank second) × ShapedExpr second
   ShapedExpr (e.Chain level first links) =
-      (1 ≤ level) × (level ≤ 10) × (level + 3 ≤ rank first) × ShapedExpr first × HasLink links × ShapedLinks level links
-  ShapedExpr (e.Cast token b stars operand) = (13 ≤ rank operand) × ShapedExpr operand
-  ShapedExpr (e.Prefix token operator operand) = (operand_rank operator ≤ rank operand) × ShapedExpr operand
+      (1 ≤ level) × (level ≤ 10) × (level + 3 ≤ expression_rank first) × ShapedExpr first × HasLink links × ShapedLinks level links
+  ShapedExpr (e.Cast token b stars operand) = (13 ≤ expression_rank operand) × ShapedExpr operand
+  ShapedExpr (e.Prefix token operator operand) = (operand_rank operator ≤ expression_rank operand) × ShapedExpr operand
   ShapedExpr (e.SizeOfType token b stars) = Unit {0}
-  ShapedExpr (e.Postfix primary operators) = (16 ≤ rank primary) × ShapedExpr primary × HasPostfix operators × ShapedPostfix operators
+  ShapedExpr (e.Postfix primary operators) = (16 ≤ expression_rank primary) × ShapedExpr primary × HasPostfix operators × ShapedPostfix operators
   ShapedExpr (e.Name token name) = Unit {0}
   ShapedExpr (e.Call token name arguments) = ShapedExprs arguments
   ShapedExpr (e.Constant token kind value) = Unit {0}
@@ -117,12 +117,13 @@ abbrev mutual
   -- operands of a comma expression, arguments and items of a braced list: none of them is a comma expression itself
   pub ShapedExprs : ExprList → Type 0
   ShapedExprs e.no_exprs = Unit {0}
-  ShapedExprs (e.more_exprs x rest) = (1 ≤ rank x) × ShapedExpr x × ShapedExprs rest
+  ShapedExprs (e.more_exprs x rest) = (1 ≤ expression_rank x) × ShapedExpr x × ShapedExprs rest
 
   -- operators of this level, with operands of the next one
   pub ShapedLinks : ℕ → LinkList → Type 0
   ShapedLinks level e.no_links = Unit {0}
-  ShapedLinks level (e.more_links token x operand rest) = (level_of x ≡ level) × (level + 3 ≤ rank operand) × ShapedExpr operand × ShapedLinks level rest
+  ShapedLinks level (e.more_links token x operand rest) =
+      (level_of x ≡ level) × (level + 3 ≤ expression_rank operand) × ShapedExpr operand × ShapedLinks level rest
 
   pub ShapedPostfix : PostfixList → Type 0
   ShapedPostfix e.no_postfix = Unit {0}
@@ -133,7 +134,7 @@ abbrev mutual
   ShapedPostfix (e.decrement token rest) = ShapedPostfix rest
 
 abbrev pub ShapedInitial : InitialTree → Type 0
-ShapedInitial (s.Value value) = (1 ≤ rank value) × ShapedExpr value
+ShapedInitial (s.Value value) = (1 ≤ expression_rank value) × ShapedExpr value
 ShapedInitial (s.Braced token items comma) = HasExpr items × ShapedExprs items
 
 abbrev pub ShapedStart : StartTree → Type 0

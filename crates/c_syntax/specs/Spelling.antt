@@ -42,9 +42,9 @@ a_name x = kind.Name x ∷ []
 abbrev pub a_constant : Kind → ℤ → Kinds
 a_constant k v = kind.Constant k v ∷ []
 
-abbrev pub optional : {A : Type 0} → (A → Kinds) → Option A → Kinds
-optional f None = []
-optional f (Some x) = f x
+abbrev pub optional_kinds : {A : Type 0} → (A → Kinds) → Option A → Kinds
+optional_kinds f None = []
+optional_kinds f (Some x) = f x
 
 -- each with a comma before it
 abbrev pub after_commas : {A : Type 0} → (A → Kinds) → List A → Kinds
@@ -76,7 +76,7 @@ abbrev pub constant_kinds : Constant → Kinds
 constant_kinds c = a_constant c.kind c.value
 
 abbrev pub bound_kinds : Bound → Kinds
-bound_kinds b = a_sign sign.LeftBracket ++ optional constant_kinds b.length ++ a_sign sign.RightBracket
+bound_kinds b = a_sign sign.LeftBracket ++ optional_kinds constant_kinds b.length ++ a_sign sign.RightBracket
 
 abbrev pub declarator_kinds : Declarator → Kinds
 declarator_kinds d = star_kinds d.stars ++ a_name d.name ++ flat_map bound_kinds d.bounds
@@ -85,10 +85,10 @@ abbrev pub members_kinds : Members → Kinds
 members_kinds m = base_kinds m.base ++ with_commas declarator_kinds m.declarators ++ a_sign sign.Semicolon
 
 abbrev pub param_name_kinds : ParamName → Kinds
-param_name_kinds n = a_name n.name ++ optional bound_kinds n.bound
+param_name_kinds n = a_name n.name ++ optional_kinds bound_kinds n.bound
 
 abbrev pub param_kinds : Param → Kinds
-param_kinds p = type_kinds p.base p.stars ++ optional param_name_kinds p.name
+param_kinds p = type_kinds p.base p.stars ++ optional_kinds param_name_kinds p.name
 
 abbrev pub params_kinds : Params → Kinds
 params_kinds params.Empty = []
@@ -126,8 +126,8 @@ prefix_of _ = None
 abbrev pub text_kinds : List (List ℕ) → Kinds
 text_kinds parts = map (λ bytes. kind.Text bytes) parts
 
-abbrev pub parenthesized : Kinds → Kinds
-parenthesized inner = a_sign sign.LeftParen ++ inner ++ a_sign sign.RightParen
+abbrev pub parenthesized_kinds : Kinds → Kinds
+parenthesized_kinds inner = a_sign sign.LeftParen ++ inner ++ a_sign sign.RightParen
 
 abbrev mutual
   pub expr_kinds : ExprTree → Kinds
@@ -136,15 +136,15 @@ abbrev mutual
   expr_kinds (e.Conditional token condition first second) =
       expr_kinds condition ++ a_sign sign.Question ++ expr_kinds first ++ a_sign sign.Colon ++ expr_kinds second
   expr_kinds (e.Chain level first links) = expr_kinds first ++ link_kinds links
-  expr_kinds (e.Cast token b stars operand) = parenthesized (type_kinds b stars) ++ expr_kinds operand
+  expr_kinds (e.Cast token b stars operand) = parenthesized_kinds (type_kinds b stars) ++ expr_kinds operand
   expr_kinds (e.Prefix token operator operand) = prefix_kinds operator ++ expr_kinds operand
-  expr_kinds (e.SizeOfType token b stars) = a_word word.Sizeof ++ parenthesized (type_kinds b stars)
+  expr_kinds (e.SizeOfType token b stars) = a_word word.Sizeof ++ parenthesized_kinds (type_kinds b stars)
   expr_kinds (e.Postfix primary operators) = expr_kinds primary ++ postfix_kinds operators
   expr_kinds (e.Name token name) = a_name name
-  expr_kinds (e.Call token name arguments) = a_name name ++ parenthesized (exprs_kinds arguments)
+  expr_kinds (e.Call token name arguments) = a_name name ++ parenthesized_kinds (exprs_kinds arguments)
   expr_kinds (e.Constant token k value) = a_constant k value
   expr_kinds (e.Strings token parts) = text_kinds parts
-  expr_kinds (e.Paren token inner) = parenthesized (expr_kinds inner)
+  expr_kinds (e.Paren token inner) = parenthesized_kinds (expr_kinds inner)
   expr_kinds (e.Null token) = a_word word.Null
   expr_kinds (e.EndOfFile token) = a_word word.EndOfFile
 
@@ -170,41 +170,42 @@ abbrev mutual
   postfix_kinds (e.increment token rest) = a_sign sign.PlusPlus ++ postfix_kinds rest
   postfix_kinds (e.decrement token rest) = a_sign sign.MinusMinus ++ postfix_kinds rest
 
-abbrev pub braced : Kinds → Kinds
-braced inner = a_sign sign.LeftBrace ++ inner ++ a_sign sign.RightBrace
+abbrev pub braced_kinds : Kinds → Kinds
+braced_kinds inner = a_sign sign.LeftBrace ++ inner ++ a_sign sign.RightBrace
 
 abbrev pub comma_kinds : Bool → Kinds
 comma_kinds comma = if comma then a_sign sign.Comma else []
 
 abbrev pub initial_kinds : InitialTree → Kinds
 initial_kinds (s.Value value) = expr_kinds value
-initial_kinds (s.Braced token items comma) = braced (exprs_kinds items ++ comma_kinds comma)
+initial_kinds (s.Braced token items comma) = braced_kinds (exprs_kinds items ++ comma_kinds comma)
 
 abbrev pub start_kinds : StartTree → Kinds
-start_kinds x = declarator_kinds x.declarator ++ optional (λ y. a_sign sign.Equal ++ initial_kinds y) x.initial
+start_kinds x = declarator_kinds x.declarator ++ optional_kinds (λ y. a_sign sign.Equal ++ initial_kinds y) x.initial
 
 abbrev pub declaration_kinds : DeclarationTree → Kinds
 declaration_kinds d = base_kinds d.base ++ with_commas start_kinds d.starts ++ a_sign sign.Semicolon
 
 abbrev pub for_start_kinds : ForStartTree → Kinds
 for_start_kinds (s.Declares declaration) = declaration_kinds declaration
-for_start_kinds (s.Computes x) = optional expr_kinds x ++ a_sign sign.Semicolon
+for_start_kinds (s.Computes x) = optional_kinds expr_kinds x ++ a_sign sign.Semicolon
 
 abbrev mutual
   pub statement_kinds : StatementTree → Kinds
-  statement_kinds (s.Block token entries) = braced (entry_kinds entries)
+  statement_kinds (s.Block token entries) = braced_kinds (entry_kinds entries)
   statement_kinds (s.Empty token) = a_sign sign.Semicolon
   statement_kinds (s.Expr token x) = expr_kinds x ++ a_sign sign.Semicolon
-  statement_kinds (s.If token condition first) = a_word word.If ++ parenthesized (expr_kinds condition) ++ statement_kinds first
+  statement_kinds (s.If token condition first) = a_word word.If ++ parenthesized_kinds (expr_kinds condition) ++ statement_kinds first
   statement_kinds (s.IfElse token condition first second) =
-      a_word word.If ++ parenthesized (expr_kinds condition) ++ statement_kinds first ++ a_word word.Else ++ statement_kinds second
-  statement_kinds (s.While token condition body) = a_word word.While ++ parenthesized (expr_kinds condition) ++ statement_kinds body
+      a_word word.If ++ parenthesized_kinds (expr_kinds condition) ++ statement_kinds first ++ a_word word.Else ++ statement_kinds second
+  statement_kinds (s.While token condition body) = a_word word.While ++ parenthesized_kinds (expr_kinds condition) ++ statement_kinds body
   statement_kinds (s.Do token body condition) =
-      a_word word.Do ++ statement_kinds body ++ a_word word.While ++ parenthesized (expr_kinds condition) ++ a_sign sign.Semicolon
+      a_word word.Do ++ statement_kinds body ++ a_word word.While ++ parenthesized_kinds (expr_kinds condition) ++ a_sign sign.Semicolon
   statement_kinds (s.For token start condition step body) =
-      a_word word.For ++ parenthesized (for_start_kinds start ++ optional expr_kinds condition ++ a_sign sign.Semicolon ++ optional expr_kinds step) ++
+      a_word word.For ++ parenthesized_kinds (for_start_kinds start ++ optional_kinds expr_kinds condition ++ a_sign sign.Semicolon
+      ++ optional_kinds expr_kinds step) ++
       statement_kinds body
-  statement_kinds (s.Return token value) = a_word word.Return ++ optional expr_kinds value ++ a_sign sign.Semicolon
+  statement_kinds (s.Return token value) = a_word word.Return ++ optional_kinds expr_kinds value ++ a_sign sign.Semicolon
   statement_kinds (s.Break token) = a_word word.Break ++ a_sign sign.Semicolon
   statement_kinds (s.Continue token) = a_word word.Continue ++ a_sign sign.Semicolon
 
@@ -216,11 +217,11 @@ abbrev mutual
 -- a body, or a semicolon where there is none
 abbrev pub body_kinds : Option EntryList → Kinds
 body_kinds None = a_sign sign.Semicolon
-body_kinds (Some entries) = braced (entry_kinds entries)
+body_kinds (Some entries) = braced_kinds (entry_kinds entries)
 
 abbrev pub item_kinds : ItemTree → Kinds
-item_kinds (i.Struct token tag members) = a_word word.Struct ++ a_name tag ++ braced (flat_map members_kinds members) ++ a_sign sign.Semicolon
-item_kinds (i.Function token b stars name ps body) = type_kinds b stars ++ a_name name ++ parenthesized (params_kinds ps) ++ body_kinds body
+item_kinds (i.Struct token tag members) = a_word word.Struct ++ a_name tag ++ braced_kinds (flat_map members_kinds members) ++ a_sign sign.Semicolon
+item_kinds (i.Function token b stars name ps body) = type_kinds b stars ++ a_name name ++ parenthesized_kinds (params_kinds ps) ++ body_kinds body
 item_kinds (i.Declaration declaration) = declaration_kinds declaration
 
 -- the tokens of a tree

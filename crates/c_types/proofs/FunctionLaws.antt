@@ -23,11 +23,11 @@ use Rattle.c_types_expressions.specs.declared.walk.FunctionEntry.{FunctionEntry}
 use Rattle.c_types_expressions.specs.declared.walk.Parameter.{Parameter}
 use Rattle.c_types_expressions.specs.declared.walk.VariableEntry.{VariableEntry}
 use Rattle.c_types_expressions.specs.declared.walk.Walk.{Walk}
-use Rattle.c_types.specs.Answers.{noted}
-use Rattle.c_types_expressions.specs.Words.{base_type, beginning, found, is_here, Walked, Fine, Faulty, ◌>>=◌, Done, closing, replaced}
+use Rattle.c_types.specs.Answers.{note_at}
+use Rattle.c_types_expressions.specs.Words.{base_type, empty_walk, declared_meaning, is_here, Walked, Fine, Faulty, ◌>>=◌, Done, scope_closed, item_replaced}
 use Rattle.c_types.specs.Fault.{ends_with, last_fault, walk_tree}
-use Rattle.c_types_walk.specs.ItemWalk.{clashes, declares, entered, has_type, is_defined, known_as, listed_params, typed_function, walk_body, walk_item, walk_items, walk_params, walk_struct, with_definition, with_function, with_tag, walk_members, defined}
-use Rattle.c_types.specs.Numbers.{HasNumber, frame, frame_of, frames_from, function_of, locals_behind, variables_in}
+use Rattle.c_types_walk.specs.ItemWalk.{is_clashing_name, function_checked, body_scope_opened, has_type, is_defined, known_as, listed_params, typed_function, walk_body, walk_item, walk_items, walk_params, walk_struct, with_definition, with_function, with_tag, walk_members, struct_defined}
+use Rattle.c_types.specs.Numbers.{HasNumber, definition_frame, frame_of, frames_from, function_of, locals_behind, variables_in}
 use Rattle.c_types.specs.Parts.{Part, Expression, Use, Declared, Begins, declaration_parts, entries_parts, item_parts, params_parts}
 use Rattle.c_types_walk.specs.StatementWalk.{walk_declaration, walk_entries}
 use Rattle.c_types.proofs.Noted.{Functions, length_replaced, Gives, Seen, Step, functions_of, gives_more, gives_then, noting, noting_all, plainly, seen, stage}
@@ -37,7 +37,7 @@ use Rattle.c_types.proofs.NotedStatements.{declaration_notes}
 
 -- what is noted at a place of a list
 
-noted_get : (xs : List (Option ℕ)) (k : ℕ) → noted xs k ≡ get_or xs k None
+noted_get : (xs : List (Option ℕ)) (k : ℕ) → note_at xs k ≡ get_or xs k None
 noted_get xs k = unwrap_or-slice_get xs k None
 
 get_none : (xs : List (Option ℕ)) (k : ℕ) → get_or (xs ++ None ∷ []) k None ≡ get_or xs k None
@@ -46,7 +46,7 @@ get_none [] zero = refl
 get_none [] (suc k) = refl
 get_none (x ∷ xs) zero = refl
 
-noted_none : (xs : List (Option ℕ)) (k : ℕ) → noted (xs ++ None ∷ []) k ≡ noted xs k
+noted_none : (xs : List (Option ℕ)) (k : ℕ) → note_at (xs ++ None ∷ []) k ≡ note_at xs k
 noted_none xs k = noted_get (xs ++ None ∷ []) k ∙ get_none xs k ∙ sym (noted_get xs k)
 
 set_here : (b : Bool) (xs : List (Option ℕ)) (k x : ℕ) → b ≡ true → k < length xs → get_or (if b then slice_set xs k (Some x) else xs) k None ≡ Some x
@@ -57,11 +57,11 @@ set_apart : (b : Bool) (xs : List (Option ℕ)) (i k x : ℕ) → (k ≡ i → �
 set_apart true xs i k x h = get_or-set_other xs i k (Some x) None h
 set_apart false xs i k x h = refl
 
-noted_here : (xs : List (Option ℕ)) (k x : ℕ) → k < length xs → noted (replaced xs k (Some x)) k ≡ Some x
-noted_here xs k x less = noted_get (replaced xs k (Some x)) k ∙ set_here (nat_lt k (length xs)) xs k x (lt-ltb k (length xs) less) less
+noted_here : (xs : List (Option ℕ)) (k x : ℕ) → k < length xs → note_at (item_replaced xs k (Some x)) k ≡ Some x
+noted_here xs k x less = noted_get (item_replaced xs k (Some x)) k ∙ set_here (nat_lt k (length xs)) xs k x (lt-ltb k (length xs) less) less
 
-noted_apart : (xs : List (Option ℕ)) (i k x : ℕ) → (k ≡ i → ⊥) → noted (replaced xs i (Some x)) k ≡ noted xs k
-noted_apart xs i k x h = noted_get (replaced xs i (Some x)) k ∙ set_apart (nat_lt i (length xs)) xs i k x h ∙ sym (noted_get xs k)
+noted_apart : (xs : List (Option ℕ)) (i k x : ℕ) → (k ≡ i → ⊥) → note_at (item_replaced xs i (Some x)) k ≡ note_at xs k
+noted_apart xs i k x h = noted_get (item_replaced xs i (Some x)) k ∙ set_apart (nat_lt i (length xs)) xs i k x h ∙ sym (noted_get xs k)
 
 -- one more definition
 
@@ -69,7 +69,7 @@ abbrev defines : List Definition → ℕ → Option ℕ
 defines ds n = option_map function_of (slice_get ds n)
 
 abbrev Numbered : List (Option ℕ) → List Definition → Type 0
-Numbered numbers ds = (place number : ℕ) → (noted numbers place ≡ Some number) ↔ (defines ds number ≡ Some place)
+Numbered numbers ds = (place number : ℕ) → (note_at numbers place ≡ Some number) ↔ (defines ds number ≡ Some place)
 
 defines_last : (ds : List Definition) (d : Definition) → defines (ds ++ d ∷ []) (length ds) ≡ Some d.function
 defines_last ds d =
@@ -85,35 +85,35 @@ defines_before ds d n less =
 defines_past : (ds : List Definition) (n : ℕ) → length ds ≤ n → defines ds n ≡ None
 defines_past ds n past = ap (option_map function_of) (slice_get_past ds n past)
 
-module _ (numbers : List (Option ℕ)) (ds : List Definition) (d : Definition) (free : noted numbers d.function ≡ None) (within : d.function < length numbers)
+module _ (numbers : List (Option ℕ)) (ds : List Definition) (d : Definition) (free : note_at numbers d.function ≡ None) (within : d.function < length numbers)
     (h : Numbered numbers ds) where
-  number_to : (place number : ℕ) → noted (replaced numbers d.function (Some (length ds))) place ≡ Some number → defines (ds ++ d ∷ []) number ≡ Some place
+  number_to : (place number : ℕ) → note_at (item_replaced numbers d.function (Some (length ds))) place ≡ Some number → defines (ds ++ d ∷ []) number ≡ Some place
   number_to place number is =
       ⊎_elim
       (λ e.
-      let same : length ds ≡ number = same_Some (length ds) number (sym (noted_here numbers d.function (length ds) within) ∙ ap (noted (replaced numbers d.function (Some (length ds)))) (sym e) ∙ is) in
+      let same : length ds ≡ number = same_Some (length ds) number (sym (noted_here numbers d.function (length ds) within) ∙ ap (note_at (item_replaced numbers d.function (Some (length ds)))) (sym e) ∙ is) in
       ap (defines (ds ++ d ∷ [])) (sym same) ∙ defines_last ds d ∙ ap Some (sym e))
       (λ n.
       let old : defines ds number ≡ Some place = (h place number).0 (sym (noted_apart numbers d.function place (length ds) n) ∙ is) in
       ⊎_elim (λ less. defines_before ds d number less ∙ old) (λ past. none_is_some (defines ds number) place (defines_past ds number past) old) (cases_lt number (length ds)))
       (cases_eq place d.function)
 
-  number_from : (place number : ℕ) → defines (ds ++ d ∷ []) number ≡ Some place → noted (replaced numbers d.function (Some (length ds))) place ≡ Some number
+  number_from : (place number : ℕ) → defines (ds ++ d ∷ []) number ≡ Some place → note_at (item_replaced numbers d.function (Some (length ds))) place ≡ Some number
   number_from place number is =
       ⊎_elim
       (λ less.
-      let old : noted numbers place ≡ Some number = (h place number).1 (sym (defines_before ds d number less) ∙ is) in
-      noted_apart numbers d.function place (length ds) (λ e. none_is_some (noted numbers place) number (ap (noted numbers) e ∙ free) old) ∙ old)
+      let old : note_at numbers place ≡ Some number = (h place number).1 (sym (defines_before ds d number less) ∙ is) in
+      noted_apart numbers d.function place (length ds) (λ e. none_is_some (note_at numbers place) number (ap (note_at numbers) e ∙ free) old) ∙ old)
       (λ past.
       ⊎_elim
       (λ e.
       let same : d.function ≡ place = same_Some d.function place (sym (defines_last ds d) ∙ ap (defines (ds ++ d ∷ [])) (sym e) ∙ is) in
-      ap (noted (replaced numbers d.function (Some (length ds)))) (sym same) ∙ noted_here numbers d.function (length ds) within ∙ ap Some (sym e))
+      ap (note_at (item_replaced numbers d.function (Some (length ds)))) (sym same) ∙ noted_here numbers d.function (length ds) within ∙ ap Some (sym e))
       (λ n. none_is_some (defines (ds ++ d ∷ []) number) place (defines_past (ds ++ d ∷ []) number (omega (arith, past, n, length-append ds (d ∷ [])))) is)
       (cases_eq number (length ds)))
       (cases_lt number (length ds))
 
-  one_defined : Numbered (replaced numbers d.function (Some (length ds))) (ds ++ d ∷ [])
+  one_defined : Numbered (item_replaced numbers d.function (Some (length ds))) (ds ++ d ∷ [])
   one_defined place number = (number_to place number, number_from place number)
 
 -- the functions of the walk
@@ -158,13 +158,13 @@ place_within : (name : List ℕ) (f : FunctionType) (known : Option ℕ) (w : Wa
 place_within name f None w known h = omega (arith, h.0, length-append w.defined_as (None ∷ []))
 place_within name f (Some index) w known h = omega (arith, h.0, known index refl)
 
-place_free : (name : List ℕ) (f : FunctionType) (known : Option ℕ) (w : Walk) (k : ℕ) → noted w.defined_as k ≡ None → noted (with_function name f known w).defined_as k ≡ None
+place_free : (name : List ℕ) (f : FunctionType) (known : Option ℕ) (w : Walk) (k : ℕ) → note_at w.defined_as k ≡ None → note_at (with_function name f known w).defined_as k ≡ None
 place_free name f None w k h = noted_none w.defined_as k ∙ h
 place_free name f (Some index) w k h = h
 
 -- what an item does to the functions
 abbrev Does : Functions → List (ℕ × ℕ) → Walk → Type 0
-Does q frames v = (AreFit q → AreFit (functions_of v)) × (map frame v.definitions ≡ map frame q.definitions ++ frames)
+Does q frames v = (AreFit q → AreFit (functions_of v)) × (map definition_frame v.definitions ≡ map definition_frame q.definitions ++ frames)
 
 locals_are : (ps : List Part) (s : Seen) → (noting_all ps s).locals ≡ locals_behind s.locals ps
 locals_are [] s = refl
@@ -187,13 +187,13 @@ variables_more (Declared false token name ∷ ps) s =
     variables_more ps (noting (Declared false token name) s) ∙ one_longer s.variables _ (variables_in ps)
 variables_more (Begins ∷ ps) s = variables_more ps (noting Begins s)
 
-defined_does : (q : Functions) (u : Walk) (index first : ℕ) → functions_of u ≡ q → noted q.numbers index ≡ None → index < length q.numbers → AreFit q →
+defined_does : (q : Functions) (u : Walk) (index first : ℕ) → functions_of u ≡ q → note_at q.numbers index ≡ None → index < length q.numbers → AreFit q →
     AreFit (functions_of (with_definition index first u))
 defined_does q u index first same free within h =
     let g : AreFit (functions_of u) = subst AreFit (sym same) h in (
       length_replaced u.defined_as index (Some (length u.definitions)) ∙ g.0,
       one_defined u.defined_as u.definitions (record { function = index; first = first; count = u.locals })
-          (subst (λ (p : Functions). noted p.numbers index ≡ None) (sym same) free) (subst (λ (p : Functions). index < length p.numbers) (sym same) within) g.1,
+          (subst (λ (p : Functions). note_at p.numbers index ≡ None) (sym same) free) (subst (λ (p : Functions). index < length p.numbers) (sym same) within) g.1,
     )
 
 body_does : (token : ℕ) (f : FunctionType) (name : List ℕ) (ps : List Parameter) (body : EntryList) (known : Option ℕ) (w : Walk) → IsKnownIn known w →
@@ -204,19 +204,19 @@ body_does token f name ps body known w valid =
     let v : Walk = with_function name f known w in
     let index : ℕ = unwrap_or known (length w.functions) in
     let frames : List (ℕ × ℕ) = (length w.variables, locals_behind 0 parts) ∷ [] in
-    gives_then (λ _ u. Step parts (stage v) (stage u)) (λ _ u. Does (functions_of w) frames u) (walk_entries f.gives false body (entered ps v) >>= closing) _
+    gives_then (λ _ u. Step parts (stage v) (stage u)) (λ _ u. Does (functions_of w) frames u) (walk_entries f.gives false body (body_scope_opened ps v) >>= scope_closed) _
     (inner_notes f.gives ps body v)
     (λ _ u h. gives_then (λ _ r. Step [] (stage u) (stage r) × (is_refused name known w ≡ false)) (λ _ r. Does (functions_of w) frames r)
-    (declares token (is_refused name known w) f.gives u) _ (declares_gives token (is_refused name known w) f.gives u)
+    (function_checked token (is_refused name known w) f.gives u) _ (declares_gives token (is_refused name known w) f.gives u)
     (λ _ r k.
     let same : functions_of r ≡ functions_of v = k.0.2 ∙ h.2 in
     let count : r.locals ≡ locals_behind 0 parts = ap (λ (s : Seen). s.locals) (k.0.0 ∙ h.0) ∙ locals_are parts (seen v) in (
       λ fit. defined_does (functions_of v) r index (length w.variables) same
-          (place_free name f known w index (not_some (noted w.defined_as index) (or_second_false (clashes name known w) (is_defined index w.defined_as) k.1)))
+          (place_free name f known w index (not_some (note_at w.defined_as index) (or_second_false (is_clashing_name name known w) (is_defined index w.defined_as) k.1)))
           (place_within name f known w valid fit) (fit_function name f known w fit),
-      map-append frame r.definitions (record { function = index; first = length w.variables; count = r.locals } ∷ [])
-          ∙ ap (λ ds. map frame ds ++ (length w.variables, r.locals) ∷ []) (ap (λ (p : Functions). p.definitions) same ∙ same_definitions name f known w)
-          ∙ ap (λ n. map frame w.definitions ++ (length w.variables, n) ∷ []) count,
+      map-append definition_frame r.definitions (record { function = index; first = length w.variables; count = r.locals } ∷ [])
+          ∙ ap (λ ds. map definition_frame ds ++ (length w.variables, r.locals) ∷ []) (ap (λ (p : Functions). p.definitions) same ∙ same_definitions name f known w)
+          ∙ ap (λ n. map definition_frame w.definitions ++ (length w.variables, n) ∷ []) count,
     )))
 
 -- a function with a body
@@ -228,24 +228,24 @@ with_body_does token f name xs body parts w v h =
     subst (λ q. Gives (λ _ u. Does q ((length w.variables, locals_behind 0 (Begins ∷ parts ++ entries_parts body)) ∷ []) u) (typed_function token f name xs (Some body) v)) same
     (subst (λ n. Gives (λ _ u. Does (functions_of v) ((n, locals_behind 0 (Begins ∷ parts ++ entries_parts body)) ∷ []) u) (typed_function token f name xs (Some body) v)) long
     (subst (λ ps. Gives (λ _ u. Does (functions_of v) ((length v.variables, locals_behind 0 (Begins ∷ ps ++ entries_parts body)) ∷ []) u) (typed_function token f name xs (Some body) v)) h.1
-    (body_does token f name xs body (known_as f (found name v.names) v) v (known_in_walk f (found name v.names) v))))
+    (body_does token f name xs body (known_as f (declared_meaning name v.names) v) v (known_in_walk f (declared_meaning name v.names) v))))
 
 stays_so : (q : Functions) (v : Walk) → functions_of v ≡ q → Does q [] v
 stays_so q v same =
-    (λ fit. subst AreFit (sym same) fit, ap (λ (p : Functions). map frame p.definitions) same ∙ sym (append-nil (map frame q.definitions)))
+    (λ fit. subst AreFit (sym same) fit, ap (λ (p : Functions). map definition_frame p.definitions) same ∙ sym (append-nil (map definition_frame q.definitions)))
 
 without_body_does : (token : ℕ) (f : FunctionType) (name : List ℕ) (xs : List Parameter) (w v : Walk) → Step [] (stage w) (stage v) →
     Gives (λ _ u. Does (functions_of w) [] u) (typed_function token f name xs None v)
 without_body_does token f name xs w v same =
-    let known : Option ℕ = known_as f (found name v.names) v in
-    gives_more (λ _ u. Step [] (stage (with_function name f known v)) (stage u) × (clashes name known v ≡ false)) (λ _ u. Does (functions_of w) [] u)
+    let known : Option ℕ = known_as f (declared_meaning name v.names) v in
+    gives_more (λ _ u. Step [] (stage (with_function name f known v)) (stage u) × (is_clashing_name name known v ≡ false)) (λ _ u. Does (functions_of w) [] u)
     (typed_function token f name xs None v)
     (λ _ u k. (
       λ fit. subst AreFit (sym k.0.2) (fit_function name f known v (subst AreFit (sym same.2) fit)),
-      ap (λ (p : Functions). map frame p.definitions) k.0.2 ∙ ap (map frame) (same_definitions name f known v) ∙ ap (λ (p : Functions). map frame p.definitions) same.2
-          ∙ sym (append-nil (map frame w.definitions)),
+      ap (λ (p : Functions). map definition_frame p.definitions) k.0.2 ∙ ap (map definition_frame) (same_definitions name f known v) ∙ ap (λ (p : Functions). map definition_frame p.definitions) same.2
+          ∙ sym (append-nil (map definition_frame w.definitions)),
     ))
-    (declares_gives token (clashes name known v) f.gives (with_function name f known v))
+    (declares_gives token (is_clashing_name name known v) f.gives (with_function name f known v))
 
 function_does : (token : ℕ) (b : Base) (stars : ℕ) (name : List ℕ) (ps : Params) (body : Option EntryList) (w : Walk) →
     Gives (λ _ v. Does (functions_of w) (frame_of (length w.variables) (i.Function token b stars name ps body)) v) (walk_item (i.Function token b stars name ps body) w)
@@ -267,7 +267,7 @@ struct_by true c token s v q same = tt
 struct_by false true token s v q same = same
 struct_by false false token s v q same = tt
 
-defined_same : (token : ℕ) (twice : Bool) (s : StructType) (v : Walk) (q : Functions) → functions_of v ≡ q → Gives (λ _ u. functions_of u ≡ q) (defined token twice s v)
+defined_same : (token : ℕ) (twice : Bool) (s : StructType) (v : Walk) (q : Functions) → functions_of v ≡ q → Gives (λ _ u. functions_of u ≡ q) (struct_defined token twice s v)
 defined_same token twice s v q same = struct_by twice (nat_le s.cells most_cells) token s v q same
 
 item_does : (x : ItemTree) (w : Walk) → Gives (λ _ v. Does (functions_of w) (frame_of (length w.variables) x) v) (walk_item x w)
@@ -286,7 +286,7 @@ gives_two P Q (Faulty kind token) h k = tt
 
 does_then : (q : Functions) (first rest : List (ℕ × ℕ)) (v u : Walk) → Does q first v → Does (functions_of v) rest u → Does q (first ++ rest) u
 does_then q first rest v u h k =
-    (λ fit. k.0 (h.0 fit), k.1 ∙ ap (λ fs. fs ++ rest) h.1 ∙ append_assoc (map frame q.definitions) first rest)
+    (λ fit. k.0 (h.0 fit), k.1 ∙ ap (λ fs. fs ++ rest) h.1 ∙ append_assoc (map definition_frame q.definitions) first rest)
 
 items_do : (xs : List ItemTree) (w : Walk) → Gives (λ _ v. Does (functions_of w) (frames_from (length w.variables) xs) v) (walk_items xs w)
 items_do [] w = stays_so (functions_of w) w refl
@@ -304,22 +304,22 @@ items_do (x ∷ xs) w =
 none_fit : AreFit (record { entries = []; numbers = []; definitions = [] })
 none_fit = (refl, λ place number. ((λ is. none_is_some None number refl is), (λ is. none_is_some None place refl is)))
 
-ends_do : (t : SourceTree) (f : Option (FaultKind × ℕ)) (w : Walk) → Does (functions_of (beginning (length t.lines))) (frames_from 0 t.items) w →
-    Gives (λ _ v. Does (functions_of (beginning (length t.lines))) (frames_from 0 t.items) v) (ends_with f w)
+ends_do : (t : SourceTree) (f : Option (FaultKind × ℕ)) (w : Walk) → Does (functions_of (empty_walk (length t.lines))) (frames_from 0 t.items) w →
+    Gives (λ _ v. Does (functions_of (empty_walk (length t.lines))) (frames_from 0 t.items) v) (ends_with f w)
 ends_do t None w h = h
 ends_do t (Some f) w h = tt
 
-all_done : (t : SourceTree) (w : Walk) → walk_tree t ≡ Fine tt w → Does (functions_of (beginning (length t.lines))) (frames_from 0 t.items) w
+all_done : (t : SourceTree) (w : Walk) → walk_tree t ≡ Fine tt w → Does (functions_of (empty_walk (length t.lines))) (frames_from 0 t.items) w
 all_done t w is =
-    subst (Gives (λ _ v. Does (functions_of (beginning (length t.lines))) (frames_from 0 t.items) v)) is
-    (gives_then (λ _ v. Does (functions_of (beginning (length t.lines))) (frames_from 0 t.items) v)
-    (λ _ v. Does (functions_of (beginning (length t.lines))) (frames_from 0 t.items) v) (walk_items t.items (beginning (length t.lines))) _
-    (items_do t.items (beginning (length t.lines))) (λ _ v h. ends_do t (last_fault (length t.lines) v) v h))
+    subst (Gives (λ _ v. Does (functions_of (empty_walk (length t.lines))) (frames_from 0 t.items) v)) is
+    (gives_then (λ _ v. Does (functions_of (empty_walk (length t.lines))) (frames_from 0 t.items) v)
+    (λ _ v. Does (functions_of (empty_walk (length t.lines))) (frames_from 0 t.items) v) (walk_items t.items (empty_walk (length t.lines))) _
+    (items_do t.items (empty_walk (length t.lines))) (λ _ v h. ends_do t (last_fault (length t.lines) v) v h))
 
 -- The number of a function is the place of its definition.
 pub functions_numbered : (t : SourceTree) (w : Walk) → walk_tree t ≡ Fine tt w → (place number : ℕ) → HasNumber w place number
 functions_numbered t w is = ((all_done t w is).0 none_fit).1
 
 -- The definitions stand in their order, each with where its locals begin and how many they are.
-pub frames_are : (t : SourceTree) (w : Walk) → walk_tree t ≡ Fine tt w → map frame w.definitions ≡ frames_from 0 t.items
+pub frames_are : (t : SourceTree) (w : Walk) → walk_tree t ≡ Fine tt w → map definition_frame w.definitions ≡ frames_from 0 t.items
 frames_are t w is = (all_done t w is).1

@@ -11,7 +11,7 @@ use Rattle.c_types_expressions.specs.declared.walk.Variable.TheVariants as varia
 use Rattle.c_types_expressions.specs.declared.walk.VariableEntry.{VariableEntry}
 use Rattle.c_types_expressions.specs.declared.walk.Walk.{Walk}
 use Rattle.c_types.specs.Parts.{Part, Expression, Use, Declared, Begins}
-use Rattle.c_types_expressions.specs.Words.{Walked, Fine, Faulty, ◌>>=◌, replaced, with_type, with_variable, with_use}
+use Rattle.c_types_expressions.specs.Words.{Walked, Fine, Faulty, ◌>>=◌, item_replaced, with_type, with_variable, with_use}
 pub use Rattle.c_types_expressions.proofs.Giving.{Gives, gives_more, gives_then}
 
 -- what the walk has noted: at which tokens a type and a variable, the variables, how many are numbered, and the structs
@@ -35,15 +35,15 @@ seen w = record {
 
 -- what is noted of a part
 abbrev pub noting : Part → Seen → Seen
-noting (Expression token) s = record s { typed = replaced s.typed token true }
-noting (Use token) s = record s { named = replaced s.named token true }
+noting (Expression token) s = record s { typed = item_replaced s.typed token true }
+noting (Use token) s = record s { named = item_replaced s.named token true }
 noting (Declared true token name) s = record s {
-  named = replaced s.named token true;
+  named = item_replaced s.named token true;
   variables = s.variables ++ record { name = name; variable = variable.Global s.globals; from = token } ∷ [];
   globals = s.globals + 1;
 }
 noting (Declared false token name) s = record s {
-  named = replaced s.named token true;
+  named = item_replaced s.named token true;
   variables = s.variables ++ record { name = name; variable = variable.Local s.locals; from = token } ∷ [];
   locals = s.locals + 1;
 }
@@ -133,7 +133,7 @@ map_if : {A B : Type 0} (f : A → B) (b : Bool) (xs ys : List A) → map f (if 
 map_if f true xs ys = refl
 map_if f false xs ys = refl
 
-map_replaced : {A B : Type 0} (f : A → B) (xs : List A) (i : ℕ) (x : A) → map f (replaced xs i x) ≡ replaced (map f xs) i (f x)
+map_replaced : {A B : Type 0} (f : A → B) (xs : List A) (i : ℕ) (x : A) → map f (item_replaced xs i x) ≡ item_replaced (map f xs) i (f x)
 map_replaced f xs i x =
     map_if f (nat_lt i (length xs)) (slice_set xs i x) xs
     ∙ ap (λ ys. if nat_lt i (length xs) then ys else map f xs) (map-set f xs i x)
@@ -143,7 +143,7 @@ pub length_if : {A : Type 0} (b : Bool) (xs ys : List A) → length xs ≡ lengt
 length_if true xs ys h = h
 length_if false xs ys h = refl
 
-pub length_replaced : {A : Type 0} (xs : List A) (i : ℕ) (x : A) → length (replaced xs i x) ≡ length xs
+pub length_replaced : {A : Type 0} (xs : List A) (i : ℕ) (x : A) → length (item_replaced xs i x) ≡ length xs
 length_replaced xs i x = length_if (nat_lt i (length xs)) (slice_set xs i x) xs (length-set xs i x)
 
 fit_if : (b : Bool) (count : ℕ) (notes : List (Option ℕ)) (i at : ℕ) → (b ≡ true → i < length notes) → at < count → Fit count notes →
@@ -155,7 +155,7 @@ fit_if true count notes i at within less fit = λ k place is.
     (λ other. fit k place (sym (get_or-set_other notes i k (Some at) None other) ∙ is))
     (cases_eq k i)
 
-fit_replaced : (count : ℕ) (notes : List (Option ℕ)) (i at : ℕ) → at < count → Fit count notes → Fit count (replaced notes i (Some at))
+fit_replaced : (count : ℕ) (notes : List (Option ℕ)) (i at : ℕ) → at < count → Fit count notes → Fit count (item_replaced notes i (Some at))
 fit_replaced count notes i at less fit = fit_if (nat_lt i (length notes)) count notes i at (ltb-true i (length notes)) less fit
 
 pub typed_one : (token : ℕ) (t : TypeTree) (w : Walk) → Step (Expression token ∷ []) (stage w) (stage (with_type token t w))
@@ -170,7 +170,7 @@ use_one token index t w is = (
 
 fits_more : (token : ℕ) (t : TypeTree) (v : VariableEntry) (w : Walk) → Fits w →
     (length (w.declared_types ++ t ∷ []) ≡ length (w.variables ++ v ∷ [])) ×
-    Fit (length (w.variables ++ v ∷ [])) (replaced w.variables_at token (Some (length w.variables)))
+    Fit (length (w.variables ++ v ∷ [])) (item_replaced w.variables_at token (Some (length w.variables)))
 fits_more token t v w h =
     let more : length w.variables < length (w.variables ++ v ∷ []) = omega (arith, length-append w.variables (v ∷ [])) in (
       omega (arith, h.0, length-append w.declared_types (t ∷ []), length-append w.variables (v ∷ [])),

@@ -7,15 +7,15 @@ use Rattle.c_syntax.specs.ExprTree.{ExprTree, ExprList, LinkList, PostfixList}
 use Rattle.c_types_rules.specs.declared.fault.FaultKind.{FaultKind}
 use Rattle.c_types_rules.specs.declared.layout.Member.{Member}
 use Rattle.c_types_rules.specs.declared.operand.Operand.{Operand}
-use Rattle.c_types_rules.specs.Words.{TypeTree, Looked, constant_of, enclosed, null_of, place_of, string_of, value_of, library_called}
+use Rattle.c_types_rules.specs.Words.{TypeTree, OperandOrFault, constant_of, parenthesized_operand, null_of, place_of, string_of, value_of, library_called}
 use Rattle.c_types_rules.specs.TypeTree as t
 use Rattle.c_types_rules.specs.Functions as functions
 use Rattle.c_types_expressions.specs.declared.names.Meaning.{Meaning}
 use Rattle.c_types_expressions.specs.declared.names.Meaning.TheVariants as meaning
 use Rattle.c_types_expressions.specs.declared.walk.FunctionEntry.{FunctionEntry}
 use Rattle.c_types_expressions.specs.declared.walk.Walk.{Walk}
-use Rattle.c_types_expressions.specs.Words.{found, meaning_of, Walked, ◌>>=◌, base_type, called_name, format_of, is_printf, looked, named, of_function}
-use Rattle.c_types_expressions.specs.Words.{of_variable, selected, string_cells, tagged_type, walk_expr, walk_exprs, walk_links, walk_postfix, walk_whole}
+use Rattle.c_types_expressions.specs.Words.{declared_meaning, meaning_of, Walked, ◌>>=◌, base_type, called_name, format_of, is_printf, operand_noted, named_operand, of_function}
+use Rattle.c_types_expressions.specs.Words.{of_variable, selected_member, string_cells, tagged_type, walk_expr, walk_exprs, walk_links, walk_postfix, walk_whole}
 use Rattle.c_types_expressions.specs.Words.{whole_call, with_call, with_offset, with_use}
 use Rattle.c_types.specs.Parts.{Part, Expression, Use, expr_parts, exprs_parts, links_parts, postfix_parts}
 use Rattle.c_types.proofs.Noted.{Notes, behind, both, either, stage, then_on, typed_one, use_one}
@@ -25,32 +25,32 @@ tagged_notes token (Some (meaning.Struct index)) w = (refl, (λ h. h), refl)
 tagged_notes token m w = tt
 
 pub base_notes : (b : Base) (w : Walk) → Notes [] (stage w) (base_type b w)
-base_notes (base.Struct token tag) w = tagged_notes token (found tag w.tags) w
+base_notes (base.Struct token tag) w = tagged_notes token (declared_meaning tag w.tags) w
 base_notes b w = (refl, (λ h. h), refl)
 
-pub looked_notes : (token : ℕ) (l : Looked) (w : Walk) → Notes (Expression token ∷ []) (stage w) (looked token l w)
+pub looked_notes : (token : ℕ) (l : OperandOrFault) (w : Walk) → Notes (Expression token ∷ []) (stage w) (operand_noted token l w)
 looked_notes token (Ok x) w = typed_one token x.ctype w
 looked_notes token (Err kind) w = tt
 
 -- a construct that is looked at, and what comes behind it
-looked_on : {A : Type 0} (qs : List Part) (token : ℕ) (l : Looked) (w : Walk) (next : Operand → Walk → Walked A) → ((x : Operand) (v : Walk) → Notes qs (stage v) (next x v)) →
-    Notes (Expression token ∷ qs) (stage w) (looked token l w >>= next)
-looked_on qs token l w next k = both (Expression token ∷ []) qs (stage w) (looked token l w) next (looked_notes token l w) k
+looked_on : {A : Type 0} (qs : List Part) (token : ℕ) (l : OperandOrFault) (w : Walk) (next : Operand → Walk → Walked A) → ((x : Operand) (v : Walk) → Notes qs (stage v) (next x v)) →
+    Notes (Expression token ∷ qs) (stage w) (operand_noted token l w >>= next)
+looked_on qs token l w next k = both (Expression token ∷ []) qs (stage w) (operand_noted token l w) next (looked_notes token l w) k
 
 variable_notes : (token index : ℕ) (declared : Option TypeTree) (w : Walk) → slice_get w.declared_types index ≡ declared →
     Notes (Use token ∷ Expression token ∷ []) (stage w) (of_variable token index declared w)
 variable_notes token index None w is = tt
 variable_notes token index (Some t) w is =
-    behind (Use token ∷ []) (Expression token ∷ []) (stage w) (stage (with_use token index w)) (looked token (Ok (place_of t)) (with_use token index w)) (use_one token index t w is)
+    behind (Use token ∷ []) (Expression token ∷ []) (stage w) (stage (with_use token index w)) (operand_noted token (Ok (place_of t)) (with_use token index w)) (use_one token index t w is)
     (looked_notes token (Ok (place_of t)) (with_use token index w))
 
-named_notes : (token : ℕ) (m : Option Meaning) (w : Walk) → Notes (Use token ∷ Expression token ∷ []) (stage w) (named token m w)
+named_notes : (token : ℕ) (m : Option Meaning) (w : Walk) → Notes (Use token ∷ Expression token ∷ []) (stage w) (named_operand token m w)
 named_notes token (Some (meaning.Variable index)) w = variable_notes token index (slice_get w.declared_types index) w refl
 named_notes token m w = tt
 
 function_notes : (token index : ℕ) (f : Option FunctionEntry) (xs : List Operand) (w : Walk) → Notes (Expression token ∷ []) (stage w) (of_function token index f xs w)
 function_notes token index None xs w = tt
-function_notes token index (Some f) xs w = looked_notes token (functions.called f.ctype xs) (with_call token index w)
+function_notes token index (Some f) xs w = looked_notes token (functions.typed_call f.ctype xs) (with_call token index w)
 
 called_notes : (token : ℕ) (m : Option Meaning) (xs : List Operand) (w : Walk) → Notes (Expression token ∷ []) (stage w) (called_name token m xs w)
 called_notes token (Some (meaning.Function index)) xs w = function_notes token index (slice_get w.functions index) xs w
@@ -58,9 +58,9 @@ called_notes token (Some (meaning.Library function)) xs w = looked_notes token (
 called_notes token m xs w = tt
 
 selected_on : {A : Type 0} (qs : List Part) (token : ℕ) (place : Bool) (m : Result Member FaultKind) (w : Walk) (next : Operand → Walk → Walked A) →
-    ((x : Operand) (v : Walk) → Notes qs (stage v) (next x v)) → Notes (Expression token ∷ qs) (stage w) (selected token place m w >>= next)
+    ((x : Operand) (v : Walk) → Notes qs (stage v) (next x v)) → Notes (Expression token ∷ qs) (stage w) (selected_member token place m w >>= next)
 selected_on qs token place (Err kind) w next k = tt
-selected_on qs token place (Ok m) w next k = both (Expression token ∷ []) qs (stage w) (selected token place (Ok m) w) next (typed_one token m.ctype (with_offset token m.offset w)) k
+selected_on qs token place (Ok m) w next k = both (Expression token ∷ []) qs (stage w) (selected_member token place (Ok m) w) next (typed_one token m.ctype (with_offset token m.offset w)) k
 
 mutual
   pub expr_notes : (x : ExprTree) (w : Walk) → Notes (expr_parts x) (stage w) (walk_expr x w)
@@ -89,7 +89,7 @@ mutual
   expr_notes (e.Constant token kind value) w = looked_notes token (Ok (constant_of kind value)) w
   expr_notes (e.Strings token parts) w = looked_notes token (Ok (string_of (string_cells parts))) w
   expr_notes (e.Paren token inner) w =
-      both (expr_parts inner) (Expression token ∷ []) (stage w) (walk_expr inner w) _ (expr_notes inner w) (λ x v. looked_notes token (Ok (enclosed x)) v)
+      both (expr_parts inner) (Expression token ∷ []) (stage w) (walk_expr inner w) _ (expr_notes inner w) (λ x v. looked_notes token (Ok (parenthesized_operand x)) v)
   expr_notes (e.Null token) w = looked_notes token (Ok null_of) w
   expr_notes (e.EndOfFile token) w = looked_notes token (Ok (value_of t.Int)) w
 
@@ -116,7 +116,7 @@ mutual
 
 whole_call_notes : (token : ℕ) (m : Option Meaning) (arguments : ExprList) (xs : List Operand) (w : Walk) → Notes (Expression token ∷ []) (stage w) (whole_call token m arguments xs w)
 whole_call_notes token m arguments xs w =
-    either (Expression token ∷ []) (stage w) (is_printf m) (looked token (format_of arguments xs) w) (called_name token m xs w) (looked_notes token (format_of arguments xs) w)
+    either (Expression token ∷ []) (stage w) (is_printf m) (operand_noted token (format_of arguments xs) w) (called_name token m xs w) (looked_notes token (format_of arguments xs) w)
     (called_notes token m xs w)
 
 -- the whole expression of a statement

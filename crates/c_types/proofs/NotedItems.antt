@@ -19,10 +19,10 @@ use Rattle.c_types_rules.specs.Words.{TypeTree, is_scalar, is_struct, member_nam
 use Rattle.c_types_expressions.specs.declared.walk.Parameter.{Parameter}
 use Rattle.c_types_expressions.specs.declared.walk.Walk.{Walk}
 use Rattle.c_types_walk.specs.Declarators.{declared_type}
-use Rattle.c_types_expressions.specs.Words.{beginning, found, is_here, is_reserved, Walked, Fine, Faulty, ◌>>=◌, Done, closing, opened, base_type, with_stars}
+use Rattle.c_types_expressions.specs.Words.{empty_walk, declared_meaning, is_here, is_reserved, Walked, Fine, Faulty, ◌>>=◌, Done, scope_closed, scope_opened, base_type, with_stars}
 use Rattle.c_types.specs.Fault.{ends_with, last_fault, walk_tree}
 use Rattle.c_types_walk.specs.StatementWalk.{walk_declaration, walk_entries}
-use Rattle.c_types_walk.specs.ItemWalk.{clashes, declares, entered, has_length, is_among, is_defined, known_as, listed_params, looked_param, param_type, scalar_param, typed_function, typed_member, walk_body, walk_declarators, walk_item, walk_items, walk_member, walk_members, walk_param, walk_params, walk_struct, with_function, with_param, with_params, with_tag}
+use Rattle.c_types_walk.specs.ItemWalk.{is_clashing_name, function_checked, body_scope_opened, has_length, is_among, is_defined, known_as, listed_params, looked_param, param_type, scalar_param, typed_function, typed_member, walk_body, walk_declarators, walk_item, walk_items, walk_member, walk_members, walk_param, walk_params, walk_struct, with_function, with_param, with_params, with_tag}
 use Rattle.c_types.specs.Parts.{Part, Declared, Begins, declaration_parts, entries_parts, item_parts, items_parts, named_parts, params_parts, parts_of}
 use Rattle.c_types.proofs.Noted.{Fits, Gives, Notes, Stage, Step, and_done, behind, declared_one, either, gives_more, gives_then, noting_all, noting_both, plainly, plainly_all, seen, stage, step_done, step_then, then_on}
 use Rattle.c_types.proofs.NotedExprs.{base_notes}
@@ -103,18 +103,18 @@ function_one name f None w = (refl, λ h. h)
 function_one name f (Some index) w = (refl, λ h. h)
 
 -- the parameters are the first locals
-entered_one : (ps : List Parameter) (w : Walk) → Step (Begins ∷ parts_from ps) (stage w) (stage (entered ps w))
+entered_one : (ps : List Parameter) (w : Walk) → Step (Begins ∷ parts_from ps) (stage w) (stage (body_scope_opened ps w))
 entered_one ps w =
-    let v : Walk = opened (record w { locals = 0 }) in
+    let v : Walk = scope_opened (record w { locals = 0 }) in
     step_then (Begins ∷ []) (parts_from ps) (stage w) (stage v) (stage (with_params ps v)) (refl, (λ h. h), refl) (params_one ps v)
 
 -- the parameters and the body of a function
 pub inner_notes : (gives : TypeTree) (ps : List Parameter) (body : EntryList) (w : Walk) →
-    Notes (Begins ∷ parts_from ps ++ entries_parts body) (stage w) (walk_entries gives false body (entered ps w) >>= closing)
+    Notes (Begins ∷ parts_from ps ++ entries_parts body) (stage w) (walk_entries gives false body (body_scope_opened ps w) >>= scope_closed)
 inner_notes gives ps body w =
-    and_done (Begins ∷ parts_from ps ++ entries_parts body) (stage w) (walk_entries gives false body (entered ps w)) closing
-    (behind (Begins ∷ parts_from ps) (entries_parts body) (stage w) (stage (entered ps w)) (walk_entries gives false body (entered ps w)) (entered_one ps w)
-    (entries_notes gives false body (entered ps w)))
+    and_done (Begins ∷ parts_from ps ++ entries_parts body) (stage w) (walk_entries gives false body (body_scope_opened ps w)) scope_closed
+    (behind (Begins ∷ parts_from ps) (entries_parts body) (stage w) (stage (body_scope_opened ps w)) (walk_entries gives false body (body_scope_opened ps w)) (entered_one ps w)
+    (entries_notes gives false body (body_scope_opened ps w)))
     (λ _ u. (refl, (λ h. h), refl))
 
 -- a function that is declared otherwise than before, or twice defined, is refused
@@ -124,12 +124,12 @@ declares_by true c token w = tt
 declares_by false true token w = tt
 declares_by false false token w = ((refl, (λ h. h), refl), refl)
 
-pub declares_gives : (token : ℕ) (taken : Bool) (gives : TypeTree) (w : Walk) → Gives (λ _ v. Step [] (stage w) (stage v) × (taken ≡ false)) (declares token taken gives w)
+pub declares_gives : (token : ℕ) (taken : Bool) (gives : TypeTree) (w : Walk) → Gives (λ _ v. Step [] (stage w) (stage v) × (taken ≡ false)) (function_checked token taken gives w)
 declares_gives token taken gives w = declares_by taken (is_struct gives) token w
 
 -- whether the function is refused where it has a body
 abbrev pub is_refused : List ℕ → Option ℕ → Walk → Bool
-is_refused name known w = clashes name known w || is_defined (unwrap_or known (length w.functions)) w.defined_as
+is_refused name known w = is_clashing_name name known w || is_defined (unwrap_or known (length w.functions)) w.defined_as
 
 body_notes : (token : ℕ) (f : FunctionType) (name : List ℕ) (ps : List Parameter) (body : EntryList) (known : Option ℕ) (w : Walk) →
     Gives (λ _ v. Outer (Begins ∷ parts_from ps ++ entries_parts body) (stage w) (stage v)) (walk_body token f name ps body known w)
@@ -137,10 +137,10 @@ unfolding walk_body
 body_notes token f name ps body known w =
     let parts : List Part = Begins ∷ parts_from ps ++ entries_parts body in
     let v : Walk = with_function name f known w in
-    gives_then (λ _ u. Step parts (stage v) (stage u)) (λ _ u. Outer parts (stage w) (stage u)) (walk_entries f.gives false body (entered ps v) >>= closing) _
+    gives_then (λ _ u. Step parts (stage v) (stage u)) (λ _ u. Outer parts (stage w) (stage u)) (walk_entries f.gives false body (body_scope_opened ps v) >>= scope_closed) _
     (inner_notes f.gives ps body v)
     (λ _ u h. gives_then (λ _ r. Step [] (stage u) (stage r) × (is_refused name known w ≡ false)) (λ _ r. Outer parts (stage w) (stage r))
-    (declares token (is_refused name known w) f.gives u) _ (declares_gives token (is_refused name known w) f.gives u)
+    (function_checked token (is_refused name known w) f.gives u) _ (declares_gives token (is_refused name known w) f.gives u)
     (λ _ r k. (k.0.0 ∙ h.0 ∙ ap (noting_all parts) (function_one name f known w).0, λ fits. k.0.1 (h.1 ((function_one name f known w).1 fits)))))
 
 with_body : (token : ℕ) (f : FunctionType) (name : List ℕ) (xs : List Parameter) (body : EntryList) (parts : List Part) (s : Stage) (w : Walk) → AreListed s parts xs w →
@@ -152,16 +152,16 @@ with_body token f name xs body parts s w h =
       k.0 ∙ ap (λ ps. noting_all (Begins ∷ ps ++ entries_parts body) (seen w)) h.1 ∙ ap (noting_all (Begins ∷ parts ++ entries_parts body)) h.0.0,
       λ fits. k.1 (h.0.1 fits),
     ))
-    (body_notes token f name xs body (known_as f (found name w.names) w) w)
+    (body_notes token f name xs body (known_as f (declared_meaning name w.names) w) w)
 
 without_body : (token : ℕ) (f : FunctionType) (name : List ℕ) (xs : List Parameter) (s : Stage) (w : Walk) → Step [] s (stage w) →
     Gives (λ _ v. Outer [] s (stage v)) (typed_function token f name xs None w)
 without_body token f name xs s w same =
-    let known : Option ℕ = known_as f (found name w.names) w in
+    let known : Option ℕ = known_as f (declared_meaning name w.names) w in
     let v : Walk = with_function name f known w in
-    gives_more (λ _ u. Step [] (stage v) (stage u) × (clashes name known w ≡ false)) (λ _ u. Outer [] s (stage u)) (typed_function token f name xs None w)
+    gives_more (λ _ u. Step [] (stage v) (stage u) × (is_clashing_name name known w ≡ false)) (λ _ u. Outer [] s (stage u)) (typed_function token f name xs None w)
     (λ _ u k. (k.0.0 ∙ (function_one name f known w).0 ∙ same.0, λ fits. k.0.1 ((function_one name f known w).1 (same.1 fits))))
-    (declares_gives token (clashes name known w) f.gives v)
+    (declares_gives token (is_clashing_name name known w) f.gives v)
 
 pub function_notes : (token : ℕ) (b : Base) (stars : ℕ) (name : List ℕ) (ps : Params) (body : Option EntryList) (w : Walk) →
     Gives (λ _ v. Outer (item_parts (i.Function token b stars name ps body)) (stage w) (stage v)) (walk_item (i.Function token b stars name ps body) w)
@@ -241,7 +241,7 @@ items_notes (x ∷ xs) w =
 
 -- what was noted of a whole text without a fault
 abbrev IsNoted : SourceTree → Walk → Type 0
-IsNoted t w = (plainly (seen w) ≡ noting_all (parts_of t) (plainly (seen (beginning (length t.lines))))) × Fits w
+IsNoted t w = (plainly (seen w) ≡ noting_all (parts_of t) (plainly (seen (empty_walk (length t.lines))))) × Fits w
 
 ends_is : (t : SourceTree) (f : Option (FaultKind × ℕ)) (w : Walk) → IsNoted t w → Gives (λ _ v. IsNoted t v) (ends_with f w)
 ends_is t None w h = h
@@ -252,12 +252,12 @@ none_noted : (n k : ℕ) → get_or (replicate {A = Option ℕ} n None) k None �
 none_noted n k =
     ⊎_elim (λ less. get_or-replicate n k None None less) (λ past. get_or_past (replicate n None) k None (omega (arith, past, length-replicate {A = Option ℕ} n None))) (cases_lt k n)
 
-begins_fit : (n : ℕ) → Fits (beginning n)
+begins_fit : (n : ℕ) → Fits (empty_walk n)
 begins_fit n = (refl, λ k place is. none_is_some (get_or (replicate {A = Option ℕ} n None) k None) place (none_noted n k) is)
 
 pub text_notes : (t : SourceTree) (w : Walk) → walk_tree t ≡ Fine tt w → IsNoted t w
 text_notes t w is =
     subst (Gives (λ _ v. IsNoted t v)) is
-    (gives_then (λ _ v. PlainStep (parts_of t) (stage (beginning (length t.lines))) (stage v)) (λ _ v. IsNoted t v) (walk_items t.items (beginning (length t.lines))) _
-    (items_notes t.items (beginning (length t.lines)))
+    (gives_then (λ _ v. PlainStep (parts_of t) (stage (empty_walk (length t.lines))) (stage v)) (λ _ v. IsNoted t v) (walk_items t.items (empty_walk (length t.lines))) _
+    (items_notes t.items (empty_walk (length t.lines)))
     (λ _ v h. ends_is t (last_fault (length t.lines) v) v (h.0, h.1 (begins_fit (length t.lines)))))

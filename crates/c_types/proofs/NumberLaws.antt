@@ -4,7 +4,7 @@ use Rattle.std.proofs.lemmas.List.{append-nil}
 use Rattle.c_syntax.specs.ItemTree.{SourceTree}
 use Rattle.c_types_expressions.specs.declared.walk.Variable.TheVariants as variable
 use Rattle.c_types_expressions.specs.declared.walk.Walk.{Walk}
-use Rattle.c_types_expressions.specs.Words.{beginning, Fine}
+use Rattle.c_types_expressions.specs.Words.{empty_walk, Fine}
 use Rattle.c_types.specs.Fault.{walk_tree}
 use Rattle.c_types.specs.Numbers.{numbered_from, variables_of}
 use Rattle.c_types.specs.Parts.{Part, Expression, Use, Declared, Begins, parts_of}
@@ -26,4 +26,4 @@ numbered_behind (Begins ∷ ps) s = numbered_behind ps (noting Begins s)
 -- The variables are those of the text, in their order.
 pub variables_are : (t : SourceTree) (w : Walk) → walk_tree t ≡ Fine tt w → w.variables ≡ variables_of t
 variables_are t w is =
-    ap (λ (s : Seen). s.variables) (text_notes t w is).0 ∙ numbered_behind (parts_of t) (plainly (seen (beginning (length t.lines))))
+    ap (λ (s : Seen). s.variables) (text_notes t w is).0 ∙ numbered_behind (parts_of t) (plainly (seen (empty_walk (length t.lines))))

@@ -19,7 +19,7 @@ use Rattle.c_types_rules.specs.TypeTree as t
 use Rattle.c_types_rules.specs.Words.{TypeTree, member_named, cells_of, empty_struct, is_complete, is_object, most_cells, struct_cells, with_member}
 use Rattle.c_types_expressions.specs.declared.walk.Walk.{Walk}
 use Rattle.c_types_walk.specs.Declarators.{declared_type}
-use Rattle.c_types_expressions.specs.Words.{base_type, beginning, is_here, Walked, Fine, Faulty, Done}
+use Rattle.c_types_expressions.specs.Words.{base_type, empty_walk, is_here, Walked, Fine, Faulty, Done}
 use Rattle.c_types.specs.Fault.{ends_with, last_fault, walk_tree}
 use Rattle.c_types_walk.specs.ItemWalk.{typed_member, walk_declarators, walk_item, walk_items, walk_member, walk_members, walk_struct, with_tag}
 use Rattle.c_types.specs.Laid.{AreLaid, IsKnown, IsSummed, member_cells}
@@ -196,5 +196,5 @@ ends_sums (Some f) w h = tt
 pub structs_summed : (t : SourceTree) (w : Walk) → walk_tree t ≡ Fine tt w → AllByRecursion (IsSummed w.structs) w.structs
 structs_summed t w is =
     subst (Gives (λ _ v. AllSummed v.structs)) is
-    (gives_then (λ _ v. KeepsSums (beginning (length t.lines)) v) (λ _ v. AllSummed v.structs) (walk_items t.items (beginning (length t.lines))) _
-    (items_keep t.items (beginning (length t.lines))) (λ _ v h. ends_sums (last_fault (length t.lines) v) v (h tt)))
+    (gives_then (λ _ v. KeepsSums (empty_walk (length t.lines)) v) (λ _ v. AllSummed v.structs) (walk_items t.items (empty_walk (length t.lines))) _
+    (items_keep t.items (empty_walk (length t.lines))) (λ _ v h. ends_sums (last_fault (length t.lines) v) v (h tt)))

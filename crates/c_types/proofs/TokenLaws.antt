@@ -10,8 +10,8 @@ use Rattle.c_syntax.specs.ItemTree.{SourceTree}
 use Rattle.c_types_rules.specs.TypeTree.{TypeTree}
 use Rattle.c_types_expressions.specs.declared.walk.VariableEntry.{VariableEntry}
 use Rattle.c_types_expressions.specs.declared.walk.Walk.{Walk}
-use Rattle.c_types.specs.Answers.{noted, place_at, type_at, variable_at, variable_of}
-use Rattle.c_types_expressions.specs.Words.{beginning, Fine, replaced}
+use Rattle.c_types.specs.Answers.{note_at, place_at, type_at, variable_at, variable_of}
+use Rattle.c_types_expressions.specs.Words.{empty_walk, Fine, item_replaced}
 use Rattle.c_types.specs.Fault.{walk_tree}
 use Rattle.c_types.specs.Parts.{Part, Expression, Use, Declared, Begins, has_expression, has_variable, is_expression_at, is_variable_at, parts_of}
 use Rattle.c_types.proofs.Noted.{Seen, length_replaced, noting, noting_all, plainly, seen}
@@ -26,10 +26,10 @@ apart_if : (b : Bool) (xs : List Bool) (own k : ℕ) → (k ≡ own → ⊥) →
 apart_if true xs own k h = get_or-set_other xs own k true false h
 apart_if false xs own k h = refl
 
-at_replaced : (xs : List Bool) (own k : ℕ) → k < length xs → get_or (replaced xs own true) k false ≡ (own == k || get_or xs k false)
+at_replaced : (xs : List Bool) (own k : ℕ) → k < length xs → get_or (item_replaced xs own true) k false ≡ (own == k || get_or xs k false)
 at_replaced xs own k less =
     ⊎_elim
-    (λ e. subst (λ o. get_or (replaced xs o true) k false ≡ (o == k || get_or xs k false)) (sym e)
+    (λ e. subst (λ o. get_or (item_replaced xs o true) k false ≡ (o == k || get_or xs k false)) (sym e)
     (here_if (nat_lt k (length xs)) xs k (lt-ltb k (length xs) less) less ∙ sym (ap (λ b. b || get_or xs k false) (eq-eqb k k refl))))
     (λ n. apart_if (nat_lt own (length xs)) xs own k (λ e. n (sym e)) ∙ sym (ap (λ b. b || get_or xs k false) (ne_eqb own k n)))
     (cases_eq own k)
@@ -74,7 +74,7 @@ named_at (Declared false own name ∷ ps) s k less =
     ∙ swapped (list_any (is_variable_at k) ps) (own == k) (get_or s.named k false)
 named_at (Begins ∷ ps) s k less = named_at ps (noting Begins s) k less
 
-noted_is : {A : Type 0} (notes : List (Option A)) (k : ℕ) → is_some (noted notes k) ≡ get_or (map is_some notes) k false
+noted_is : {A : Type 0} (notes : List (Option A)) (k : ℕ) → is_some (note_at notes k) ≡ get_or (map is_some notes) k false
 noted_is notes k = ap is_some (unwrap_or-slice_get notes k None) ∙ sym (get_or-map is_some notes k None)
 
 none_at_first : (A : Type 0) (n k : ℕ) → k < n → get_or (map is_some (replicate {A = Option A} n None)) k false ≡ false
@@ -88,7 +88,7 @@ pub types_at : (t : SourceTree) (w : Walk) → walk_tree t ≡ Fine tt w → (k 
 types_at t w is k less =
     noted_is w.types k
     ∙ ap (λ s. get_or s.typed k false) (text_notes t w is).0
-    ∙ typed_at (parts_of t) (plainly (seen (beginning (length t.lines)))) k (as_long TypeTree (length t.lines) k less)
+    ∙ typed_at (parts_of t) (plainly (seen (empty_walk (length t.lines)))) k (as_long TypeTree (length t.lines) k less)
     ∙ or_none (has_expression t k) _ (none_at_first TypeTree (length t.lines) k less)
 
 -- A variable is noted exactly at the names that declare or name one.
@@ -96,7 +96,7 @@ pub places_at : (t : SourceTree) (w : Walk) → walk_tree t ≡ Fine tt w → (k
 places_at t w is k less =
     noted_is w.variables_at k
     ∙ ap (λ s. get_or s.named k false) (text_notes t w is).0
-    ∙ named_at (parts_of t) (plainly (seen (beginning (length t.lines)))) k (as_long ℕ (length t.lines) k less)
+    ∙ named_at (parts_of t) (plainly (seen (empty_walk (length t.lines)))) k (as_long ℕ (length t.lines) k less)
     ∙ or_none (has_variable t k) _ (none_at_first ℕ (length t.lines) k less)
 
 -- the place that was noted is one of a variable
@@ -131,16 +131,16 @@ named_long (Begins ∷ ps) s = named_long ps (noting Begins s)
 begins_long : (A : Type 0) (n : ℕ) → length (map is_some (replicate {A = Option A} n None)) ≡ n
 begins_long A n = length-map (replicate {A = Option A} n None) is_some ∙ length-replicate n None
 
-none_noted : {A : Type 0} (notes : List (Option A)) (n k : ℕ) → length (map is_some notes) ≡ n → n ≤ k → noted notes k ≡ None
-none_noted notes n k long past = not_some (noted notes k) (noted_is notes k ∙ get_or_past (map is_some notes) k false (omega (arith, long, past)))
+none_noted : {A : Type 0} (notes : List (Option A)) (n k : ℕ) → length (map is_some notes) ≡ n → n ≤ k → note_at notes k ≡ None
+none_noted notes n k long past = not_some (note_at notes k) (noted_is notes k ∙ get_or_past (map is_some notes) k false (omega (arith, long, past)))
 
 pub no_type_beyond : (t : SourceTree) (w : Walk) → walk_tree t ≡ Fine tt w → (k : ℕ) → length t.lines ≤ k → type_at w k ≡ None
 no_type_beyond t w is k past =
     none_noted w.types (length t.lines) k
-    (ap (λ (s : Seen). length s.typed) (text_notes t w is).0 ∙ typed_long (parts_of t) (plainly (seen (beginning (length t.lines)))) ∙ begins_long TypeTree (length t.lines)) past
+    (ap (λ (s : Seen). length s.typed) (text_notes t w is).0 ∙ typed_long (parts_of t) (plainly (seen (empty_walk (length t.lines)))) ∙ begins_long TypeTree (length t.lines)) past
 
 pub no_variable_beyond : (t : SourceTree) (w : Walk) → walk_tree t ≡ Fine tt w → (k : ℕ) → length t.lines ≤ k → variable_at w k ≡ None
 no_variable_beyond t w is k past =
     ap (λ place. option_and_then (λ p. option_map variable_of (slice_get w.variables p)) place)
     (none_noted w.variables_at (length t.lines) k
-    (ap (λ (s : Seen). length s.named) (text_notes t w is).0 ∙ named_long (parts_of t) (plainly (seen (beginning (length t.lines)))) ∙ begins_long ℕ (length t.lines)) past)
+    (ap (λ (s : Seen). length s.named) (text_notes t w is).0 ∙ named_long (parts_of t) (plainly (seen (empty_walk (length t.lines)))) ∙ begins_long ℕ (length t.lines)) past)

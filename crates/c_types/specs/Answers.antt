@@ -29,16 +29,16 @@ IsTypeFault found (types.BadType kind index) = found ≡ Some (kind, index)
 IsTypeFault found types.Memory = Unit {0}
 
 -- what was noted at the token
-abbrev pub noted : {A : Type 0} → List (Option A) → ℕ → Option A
-noted notes token = unwrap_or (slice_get notes token) None
+abbrev pub note_at : {A : Type 0} → List (Option A) → ℕ → Option A
+note_at notes token = unwrap_or (slice_get notes token) None
 
 -- the type of the expression whose own token it is
 abbrev pub type_at : Walk → ℕ → Option TypeTree
-type_at w token = noted w.types token
+type_at w token = note_at w.types token
 
 -- the place, among all variables, of the one that the name at the token declares or names
 abbrev pub place_at : Walk → ℕ → Option ℕ
-place_at w token = noted w.variables_at token
+place_at w token = note_at w.variables_at token
 
 abbrev pub variable_of : VariableEntry → Variable
 variable_of v = v.variable
@@ -53,11 +53,11 @@ declared_at w token = option_and_then (λ place. slice_get w.declared_types plac
 
 -- the offset of the member that a `.` or `->` at the token names
 abbrev pub offset_at : Walk → ℕ → Option ℕ
-offset_at w token = noted w.offsets_at token
+offset_at w token = note_at w.offsets_at token
 
 -- the number of the defined function whose call has its name at the token
 abbrev pub function_at : Walk → ℕ → Option ℕ
-function_at w token = option_and_then (λ place. noted w.defined_as place) (noted w.functions_at token)
+function_at w token = option_and_then (λ place. note_at w.defined_as place) (note_at w.functions_at token)
 
 abbrev pub ends_behind : ℕ → Option ℕ → Bool
 ends_behind token None = true

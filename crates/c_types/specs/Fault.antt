@@ -8,7 +8,7 @@ use Rattle.c_types_expressions.specs.declared.names.Meaning.{Meaning}
 use Rattle.c_types_expressions.specs.declared.names.Meaning.TheVariants as meaning
 use Rattle.c_types_expressions.specs.declared.walk.FunctionEntry.{FunctionEntry}
 use Rattle.c_types_expressions.specs.declared.walk.Walk.{Walk}
-use Rattle.c_types_expressions.specs.Words.{beginning, found, Walked, Fine, Faulty, ◌>>=◌, Done}
+use Rattle.c_types_expressions.specs.Words.{empty_walk, declared_meaning, Walked, Fine, Faulty, ◌>>=◌, Done}
 use Rattle.c_types_walk.specs.ItemWalk.{walk_items, is_defined}
 
 -- `int main` without parameters (C99 5.1.2.2.1)
@@ -21,7 +21,7 @@ is_main (Some (meaning.Function index)) w = begins_program (slice_get w.function
 is_main m w = false
 
 abbrev pub has_main : Walk → Bool
-has_main w = is_main (found (codes "main") w.names) w
+has_main w = is_main (declared_meaning (codes "main") w.names) w
 
 abbrev pub lacks_definition : Option ℕ → List (Option ℕ) → Bool
 lacks_definition None defined_as = false
@@ -46,7 +46,7 @@ ends_with None w = Fine tt w
 ends_with (Some f) w = Faulty f.0 f.1
 
 abbrev pub walk_tree : SourceTree → Walked Done
-walk_tree t = walk_items t.items (beginning (length t.lines)) >>= λ _ w. ends_with (last_fault (length t.lines) w) w
+walk_tree t = walk_items t.items (empty_walk (length t.lines)) >>= λ _ w. ends_with (last_fault (length t.lines) w) w
 
 abbrev pub fault_in : Walked Done → Option (ℕ × ℕ)
 fault_in (Fine value known) = None

@@ -6,7 +6,7 @@ use Rattle.c_types_expressions.specs.declared.walk.Definition.{Definition}
 use Rattle.c_types_expressions.specs.declared.walk.Variable.TheVariants as variable
 use Rattle.c_types_expressions.specs.declared.walk.VariableEntry.{VariableEntry}
 use Rattle.c_types_expressions.specs.declared.walk.Walk.{Walk}
-use Rattle.c_types.specs.Answers.{noted}
+use Rattle.c_types.specs.Answers.{note_at}
 use Rattle.c_types.specs.Parts.{Part, Expression, Use, Declared, Begins, item_parts, parts_of}
 
 -- the variables that these parts declare, behind so many globals and so many locals of the present function
@@ -29,7 +29,7 @@ function_of d = d.function
 
 -- The declared function at the place has the number exactly where the definition with this number is its own.
 abbrev pub HasNumber : Walk → ℕ → ℕ → Type 0
-HasNumber w place number = (noted w.defined_as place ≡ Some number) ↔ (option_map function_of (slice_get w.definitions number) ≡ Some place)
+HasNumber w place number = (note_at w.defined_as place ≡ Some number) ↔ (option_map function_of (slice_get w.definitions number) ≡ Some place)
 
 -- how many variables the parts declare
 abbrev pub variables_in : List Part → ℕ
@@ -49,8 +49,8 @@ locals_behind locals (Declared false token name ∷ parts) = locals_behind (loca
 locals_behind locals (Begins ∷ parts) = locals_behind 0 parts
 
 -- where the locals of a definition begin among all variables, and how many they are
-abbrev pub frame : Definition → ℕ × ℕ
-frame d = (d.first, d.count)
+abbrev pub definition_frame : Definition → ℕ × ℕ
+definition_frame d = (d.first, d.count)
 
 abbrev pub frame_of : ℕ → ItemTree → List (ℕ × ℕ)
 frame_of before (i.Struct token tag members) = []

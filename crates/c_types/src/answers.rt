@@ -1,5 +1,5 @@
 ghost use Rattle.std.specs.Prelude.{◌≡◌};
-ghost use Rattle.c_types.specs.Answers.{ends_behind, noted};
+ghost use Rattle.c_types.specs.Answers.{ends_behind, note_at};
 
 /// Whether a scope with this last token goes to the token.
 pub fn ends_behind(token: u32, end: &Option<u32>) -> bool
@@ -13,7 +13,7 @@ pub fn ends_behind(token: u32, end: &Option<u32>) -> bool
 
 /// What was noted at the place.
 pub fn note_at(notes: &[Option<u32>], place: usize) -> Option<u32>
-    ensures { result ≡ noted notes.now place }
+    ensures { result ≡ note_at notes.now place }
 {
     match notes.get(place) {
         None => None,

@@ -54,7 +54,7 @@ impl Checked {
     ghost use Rattle.c_types_rules.specs.Words.{plain_type, cells_of, is_complete, most_cells};
     ghost use Rattle.c_types.specs.Answers.{IsChecked, declared_at, function_at, known_of, offset_at, place_at, scope_holds, tree_of, type_at, variable_at};
     ghost use Rattle.c_types.specs.Fault.{walk_tree};
-    ghost use Rattle.c_types_expressions.specs.Words.{found, Fine};
+    ghost use Rattle.c_types_expressions.specs.Words.{declared_meaning, Fine};
 
     /// A tree through which the walk came, with what it came to know.
     pub(crate) fn new(tree: Tree, walk: Walk) -> Checked
@@ -203,7 +203,7 @@ impl Checked {
 
     /// What a name was declared as outside all functions.
     pub fn find(&self, name: &Name) -> Option<Meaning>
-        ensures { result ≡ found name.now (known_of self.now).names }
+        ensures { result ≡ declared_meaning name.now (known_of self.now).names }
     {
         self.walk.names.find(name)
     }

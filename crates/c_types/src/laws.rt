@@ -7,8 +7,8 @@ ghost use Rattle.c_types.specs.Answers.{type_at, variable_at};
 ghost use Rattle.c_types.specs.Fault.{walk_tree};
 ghost use Rattle.c_types.specs.Hiding.{declaration_of};
 ghost use Rattle.c_types.specs.Laid.{IsSummed};
-ghost use Rattle.c_types_expressions.specs.Words.{closed, found, Fine};
-ghost use Rattle.c_types.specs.Numbers.{HasNumber, frame, frames_from, variables_of};
+ghost use Rattle.c_types_expressions.specs.Words.{names_after_scope, declared_meaning, Fine};
+ghost use Rattle.c_types.specs.Numbers.{HasNumber, definition_frame, frames_from, variables_of};
 ghost use Rattle.c_types.specs.Parts.{has_expression, has_variable};
 ghost use Rattle.c_types_expressions.specs.declared.names.Meaning.{Meaning};
 ghost use Rattle.c_types_expressions.specs.declared.names.ScopeEntry.{ScopeEntry};
@@ -18,8 +18,8 @@ ghost use Rattle.c_types_expressions.specs.declared.walk.Walk.{Walk};
 /// A name means its latest declaration, whatever stands before that; and at the end of a scope, whatever was declared in
 /// it, each name means again what it meant before.
 pub fn inner_names_hide()
-    ensures hides { (name : List ℕ) (m : Meaning) (outer : List ScopeEntry) → found name (Declares name m ∷ outer) ≡ Some m }
-    ensures back { (inner : List (List ℕ × Meaning)) (outer : List ScopeEntry) → closed (map declaration_of inner ++ Opens ∷ outer) ≡ outer }
+    ensures hides { (name : List ℕ) (m : Meaning) (outer : List ScopeEntry) → declared_meaning name (Declares name m ∷ outer) ≡ Some m }
+    ensures back { (inner : List (List ℕ × Meaning)) (outer : List ScopeEntry) → names_after_scope (map declaration_of inner ++ Opens ∷ outer) ≡ outer }
 {}
 
 /// In a text without a fault, exactly the own tokens of expressions have a type: an operator's own token is its sign, a
@@ -55,5 +55,5 @@ pub fn variables_are_numbered_in_order()
 /// are declared before it.
 pub fn functions_are_numbered_in_order()
     ensures numbers { (t : SourceTree) (known : Walk) → walk_tree t ≡ Fine tt known → (place number : ℕ) → HasNumber known place number }
-    ensures frames { (t : SourceTree) (known : Walk) → walk_tree t ≡ Fine tt known → map frame known.definitions ≡ frames_from 0 t.items }
+    ensures frames { (t : SourceTree) (known : Walk) → walk_tree t ≡ Fine tt known → map definition_frame known.definitions ≡ frames_from 0 t.items }
 {}

@@ -11,7 +11,7 @@ use Rattle.c_types_expressions.specs.declared.names.Meaning.{Meaning}
 use Rattle.c_types_expressions.specs.declared.names.ScopeEntry.{ScopeEntry}
 use Rattle.c_types_expressions.specs.declared.names.ScopeEntry.TheVariants.{Opens, Declares}
 use Rattle.c_types_expressions.specs.Indexed.{IsIndex, IsPopped, IsPushed, IsSame, but_last, declarations, depth_of, last_of, stack_of}
-use Rattle.c_types_expressions.specs.Names.{found, is_here, or_before}
+use Rattle.c_types_expressions.specs.Names.{declared_meaning, is_here, or_before}
 
 -- no more scopes are open than there are entries
 pub depth_short : (entries : List ScopeEntry) → depth_of entries ≤ length entries
@@ -41,16 +41,16 @@ found_next : (b : Bool) (m : Meaning) (d : ℕ) (before : Option Meaning) (ms : 
 found_next true m d before ms h = sym (ap meaning_in (last_pushed ms (record { depth = d; meaning = m })))
 found_next false m d before ms h = h
 
-found_last : (name : List ℕ) (entries : List ScopeEntry) → found name entries ≡ meaning_in (last_of (declarations name entries))
+found_last : (name : List ℕ) (entries : List ScopeEntry) → declared_meaning name entries ≡ meaning_in (last_of (declarations name entries))
 found_last name [] = refl
 found_last name (Opens ∷ rest) = found_last name rest
-found_last name (Declares other m ∷ rest) = found_next (bytes_eq other name) m (depth_of rest) (found name rest) (declarations name rest) (found_last name rest)
+found_last name (Declares other m ∷ rest) = found_next (bytes_eq other name) m (depth_of rest) (declared_meaning name rest) (declarations name rest) (found_last name rest)
 
-pub finds_none : (name : List ℕ) (entries : List ScopeEntry) (index : Index) → IsIndex entries index → last_of (stack_of index.stacks.entries name) ≡ None → None ≡ found name entries
+pub finds_none : (name : List ℕ) (entries : List ScopeEntry) (index : Index) → IsIndex entries index → last_of (stack_of index.stacks.entries name) ≡ None → None ≡ declared_meaning name entries
 finds_none name entries index h is = sym (found_last name entries ∙ ap (λ ms. meaning_in (last_of ms)) (sym (h.stacked name)) ∙ ap meaning_in is)
 
 pub finds_some : (name : List ℕ) (entries : List ScopeEntry) (index : Index) (m : ScopedMeaning) → IsIndex entries index →
-    last_of (stack_of index.stacks.entries name) ≡ Some m → Some m.meaning ≡ found name entries
+    last_of (stack_of index.stacks.entries name) ≡ Some m → Some m.meaning ≡ declared_meaning name entries
 finds_some name entries index m h is = sym (found_last name entries ∙ ap (λ ms. meaning_in (last_of ms)) (sym (h.stacked name)) ∙ ap meaning_in is)
 
 abbrev is_at : ℕ → Option ScopedMeaning → Bool

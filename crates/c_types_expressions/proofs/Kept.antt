@@ -8,15 +8,15 @@ use Rattle.c_syntax.specs.ExprTree.{ExprTree, ExprList, LinkList, PostfixList}
 use Rattle.c_types_rules.specs.declared.fault.FaultKind.{FaultKind}
 use Rattle.c_types_rules.specs.declared.layout.Member.{Member}
 use Rattle.c_types_rules.specs.declared.operand.Operand.{Operand}
-use Rattle.c_types_rules.specs.Words.{TypeTree, Int, Looked, constant_of, enclosed, null_of, place_of, string_of, value_of, library_called}
+use Rattle.c_types_rules.specs.Words.{TypeTree, Int, OperandOrFault, constant_of, parenthesized_operand, null_of, place_of, string_of, value_of, library_called}
 use Rattle.c_types_rules.specs.Functions as functions
 use Rattle.c_types_expressions.specs.declared.names.Meaning.{Meaning}
 use Rattle.c_types_expressions.specs.declared.names.Meaning.TheVariants as meaning
 use Rattle.c_types_expressions.specs.declared.walk.FunctionEntry.{FunctionEntry}
 use Rattle.c_types_expressions.specs.declared.walk.Walk.{Walk}
-use Rattle.c_types_expressions.specs.ExprWalk.{base_type, called_name, format_of, is_printf, looked, named, of_function, of_variable, selected, string_cells, tagged_type}
+use Rattle.c_types_expressions.specs.ExprWalk.{base_type, called_name, format_of, is_printf, operand_noted, named_operand, of_function, of_variable, selected_member, string_cells, tagged_type}
 use Rattle.c_types_expressions.specs.ExprWalk.{walk_expr, walk_exprs, walk_links, walk_postfix, walk_whole, whole_call, with_call, with_offset, with_use}
-use Rattle.c_types_expressions.specs.Names.{found, meaning_of}
+use Rattle.c_types_expressions.specs.Names.{declared_meaning, meaning_of}
 use Rattle.c_types_expressions.specs.Walked.{Walked, Fine, Faulty, ◌>>=◌, with_type}
 use Rattle.c_types_expressions.proofs.Giving.{Gives}
 
@@ -59,18 +59,18 @@ module _ (R : Walk → Walk → Type 0) (here : (w : Walk) → R w w) where
 
   -- a named type
   pub base_keeps : (b : Base) (w : Walk) → Keeps R w (base_type b w)
-  base_keeps (base.Struct token tag) w = tagged_keeps token (found tag w.tags) w
+  base_keeps (base.Struct token tag) w = tagged_keeps token (declared_meaning tag w.tags) w
   base_keeps b w = here w
 
 module _ (R : Walk → Walk → Type 0) (k : IsKeptByNotes R) where
   -- a construct that is looked at
-  looked_keeps : (token : ℕ) (l : Looked) (w : Walk) → Keeps R w (looked token l w)
+  looked_keeps : (token : ℕ) (l : OperandOrFault) (w : Walk) → Keeps R w (operand_noted token l w)
   looked_keeps token (Ok x) w = k.typed token x.ctype w
   looked_keeps token (Err kind) w = tt
 
   -- one after another note
-  noted_keeps : (token : ℕ) (l : Looked) (w u : Walk) → R w u → Keeps R w (looked token l u)
-  noted_keeps token l w u h = step_before R k.next w u (looked token l u) h (looked_keeps token l u)
+  noted_keeps : (token : ℕ) (l : OperandOrFault) (w u : Walk) → R w u → Keeps R w (operand_noted token l u)
+  noted_keeps token l w u h = step_before R k.next w u (operand_noted token l u) h (looked_keeps token l u)
 
   -- a variable that a name means
   variable_keeps : (token index : ℕ) (declared : Option TypeTree) (w : Walk) → Keeps R w (of_variable token index declared w)
@@ -78,7 +78,7 @@ module _ (R : Walk → Walk → Type 0) (k : IsKeptByNotes R) where
   variable_keeps token index (Some of) w = noted_keeps token (Ok (place_of of)) w (with_use token index w) (k.used token index w)
 
   -- a name that isn't called
-  name_keeps : (token : ℕ) (m : Option Meaning) (w : Walk) → Keeps R w (named token m w)
+  name_keeps : (token : ℕ) (m : Option Meaning) (w : Walk) → Keeps R w (named_operand token m w)
   name_keeps token None w = tt
   name_keeps token (Some (meaning.Variable index)) w = variable_keeps token index (slice_get w.declared_types index) w
   name_keeps token (Some m) w = tt
@@ -86,7 +86,7 @@ module _ (R : Walk → Walk → Type 0) (k : IsKeptByNotes R) where
   -- a call of a function of the text
   function_keeps : (token index : ℕ) (f : Option FunctionEntry) (xs : List Operand) (w : Walk) → Keeps R w (of_function token index f xs w)
   function_keeps token index None xs w = tt
-  function_keeps token index (Some f) xs w = noted_keeps token (functions.called f.ctype xs) w (with_call token index w) (k.called token index w)
+  function_keeps token index (Some f) xs w = noted_keeps token (functions.typed_call f.ctype xs) w (with_call token index w) (k.called token index w)
 
   -- a call
   called_keeps : (token : ℕ) (m : Option Meaning) (xs : List Operand) (w : Walk) → Keeps R w (called_name token m xs w)
@@ -96,7 +96,7 @@ module _ (R : Walk → Walk → Type 0) (k : IsKeptByNotes R) where
   called_keeps token (Some m) xs w = tt
 
   -- a member that `.` or `->` names
-  selected_keeps : (token : ℕ) (place : Bool) (m : Result Member FaultKind) (w : Walk) → Keeps R w (selected token place m w)
+  selected_keeps : (token : ℕ) (place : Bool) (m : Result Member FaultKind) (w : Walk) → Keeps R w (selected_member token place m w)
   selected_keeps token place (Err kind) w = tt
   selected_keeps token place (Ok m) w =
       noted_keeps token (Ok (record { ctype = m.ctype; place = place; null = false })) w (with_offset token m.offset w) (k.selected token m.offset w)
@@ -120,7 +120,7 @@ module _ (R : Walk → Walk → Type 0) (k : IsKeptByNotes R) where
     expr_keeps (e.Call token name arguments) w = both R k.next w (walk_exprs arguments [] w) _ (exprs_keep arguments [] w) (λ xs v. called_keeps token _ xs v)
     expr_keeps (e.Constant token kind value) w = looked_keeps token (Ok (constant_of kind value)) w
     expr_keeps (e.Strings token parts) w = looked_keeps token (Ok (string_of (string_cells parts))) w
-    expr_keeps (e.Paren token inner) w = both R k.next w (walk_expr inner w) _ (expr_keeps inner w) (λ x v. looked_keeps token (Ok (enclosed x)) v)
+    expr_keeps (e.Paren token inner) w = both R k.next w (walk_expr inner w) _ (expr_keeps inner w) (λ x v. looked_keeps token (Ok (parenthesized_operand x)) v)
     expr_keeps (e.Null token) w = looked_keeps token (Ok null_of) w
     expr_keeps (e.EndOfFile token) w = looked_keeps token (Ok (value_of Int)) w
 
@@ -133,21 +133,21 @@ module _ (R : Walk → Walk → Type 0) (k : IsKeptByNotes R) where
     links_keep : (links : LinkList) (left : Operand) (w : Walk) → Keeps R w (walk_links links left w)
     links_keep e.no_links left w = k.here w
     links_keep (e.more_links token s operand rest) left w = both R k.next w (walk_expr operand w) _ (expr_keeps operand w)
-        (λ right v. both R k.next v (looked token _ v) _ (looked_keeps token _ v) (λ x u. links_keep rest x u))
+        (λ right v. both R k.next v (operand_noted token _ v) _ (looked_keeps token _ v) (λ x u. links_keep rest x u))
 
     -- what stands behind a primary expression
     postfix_keeps : (operators : PostfixList) (left : Operand) (w : Walk) → Keeps R w (walk_postfix operators left w)
     postfix_keeps e.no_postfix left w = k.here w
     postfix_keeps (e.index token x rest) left w = both R k.next w (walk_expr x w) _ (expr_keeps x w)
-        (λ right v. both R k.next v (looked token _ v) _ (looked_keeps token _ v) (λ y u. postfix_keeps rest y u))
-    postfix_keeps (e.member token name rest) left w = both R k.next w (selected token _ _ w) _ (selected_keeps token _ _ w) (λ y u. postfix_keeps rest y u)
-    postfix_keeps (e.arrow token name rest) left w = both R k.next w (selected token _ _ w) _ (selected_keeps token _ _ w) (λ y u. postfix_keeps rest y u)
-    postfix_keeps (e.increment token rest) left w = both R k.next w (looked token _ w) _ (looked_keeps token _ w) (λ y u. postfix_keeps rest y u)
-    postfix_keeps (e.decrement token rest) left w = both R k.next w (looked token _ w) _ (looked_keeps token _ w) (λ y u. postfix_keeps rest y u)
+        (λ right v. both R k.next v (operand_noted token _ v) _ (looked_keeps token _ v) (λ y u. postfix_keeps rest y u))
+    postfix_keeps (e.member token name rest) left w = both R k.next w (selected_member token _ _ w) _ (selected_keeps token _ _ w) (λ y u. postfix_keeps rest y u)
+    postfix_keeps (e.arrow token name rest) left w = both R k.next w (selected_member token _ _ w) _ (selected_keeps token _ _ w) (λ y u. postfix_keeps rest y u)
+    postfix_keeps (e.increment token rest) left w = both R k.next w (operand_noted token _ w) _ (looked_keeps token _ w) (λ y u. postfix_keeps rest y u)
+    postfix_keeps (e.decrement token rest) left w = both R k.next w (operand_noted token _ w) _ (looked_keeps token _ w) (λ y u. postfix_keeps rest y u)
 
   -- a call that is the whole expression of a statement
   whole_call_keeps : (token : ℕ) (m : Option Meaning) (arguments : ExprList) (xs : List Operand) (w : Walk) → Keeps R w (whole_call token m arguments xs w)
-  whole_call_keeps token m arguments xs w = either R w (is_printf m) (looked token (format_of arguments xs) w) (called_name token m xs w)
+  whole_call_keeps token m arguments xs w = either R w (is_printf m) (operand_noted token (format_of arguments xs) w) (called_name token m xs w)
       (looked_keeps token (format_of arguments xs) w) (called_keeps token m xs w)
 
   -- the whole expression of a statement

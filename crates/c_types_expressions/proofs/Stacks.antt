@@ -5,7 +5,7 @@ use Rattle.std.specs.Cmp.Lexicographic.{bytes_decides, nat_list_eq_equiv}
 use Rattle.std.specs.Global.{Global}
 use Rattle.std.specs.HashMap.{HashMap, UpdatesBy}
 use Rattle.std.specs.Str.{bytes_eq}
-use Rattle.std.specs.Map.{lookup, IsKeyTest, AreApart, KeepsOthers}
+use Rattle.std.specs.Map.{lookup}
 use Rattle.base_lists.proofs.Maps.{other_entries}
 use Rattle.base_lists.proofs.Lists.{bytes_apart}
 use Rattle.c_types_expressions.specs.declared.index.ScopedMeaning.{ScopedMeaning}

@@ -3,8 +3,8 @@ use Rattle.std.specs.Prelude.{ℕ, [], None, replicate}
 use Rattle.c_types_expressions.specs.declared.walk.Walk.{Walk}
 
 -- what is known before a text of so many tokens
-abbrev pub beginning : ℕ → Walk
-beginning count = record {
+abbrev pub empty_walk : ℕ → Walk
+empty_walk count = record {
   names = [];
   tags = [];
   structs = [];

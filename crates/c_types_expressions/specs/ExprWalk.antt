@@ -19,21 +19,23 @@ use Rattle.c_types_rules.specs.declared.layout.StructType.{StructType}
 use Rattle.c_types_rules.specs.declared.library.Library.TheVariants as library
 use Rattle.c_types_rules.specs.declared.operand.Operand.{Operand}
 use Rattle.c_types_rules.specs.TypeTree as t
-use Rattle.c_types_rules.specs.Words.{TypeTree, Looked, value_of, place_of, value_type, constant_of, string_of, null_of, enclosed, assigned, combined}
-use Rattle.c_types_rules.specs.Words.{joined_truths, signed, turned, stepped, compounded, measured, cast_to, chosen, sequenced, pointed, addressed, indexed}
-use Rattle.c_types_rules.specs.Words.{member_of, member_behind, library_called, printed}
+use Rattle.c_types_rules.specs.Words.{TypeTree, OperandOrFault, value_of, place_of, value_type, constant_of, string_of, null_of, parenthesized_operand}
+use Rattle.c_types_rules.specs.Words.{typed_simple_assignment, typed_binary_operation}
+use Rattle.c_types_rules.specs.Words.{joined_truths, typed_unary_arithmetic, typed_unary_operation, typed_increment, typed_compound_assignment, typed_sizeof}
+use Rattle.c_types_rules.specs.Words.{cast_to, typed_conditional, typed_comma, typed_indirection, typed_address, typed_subscript}
+use Rattle.c_types_rules.specs.Words.{member_of, member_behind, library_called, typed_printf}
 use Rattle.c_types_rules.specs.Functions as functions
 use Rattle.c_types_expressions.specs.declared.names.Meaning.{Meaning}
 use Rattle.c_types_expressions.specs.declared.names.Meaning.TheVariants as meaning
 use Rattle.c_types_expressions.specs.declared.walk.FunctionEntry.{FunctionEntry}
 use Rattle.c_types_expressions.specs.declared.walk.Walk.{Walk}
-use Rattle.c_types_expressions.specs.Names.{found, meaning_of}
-use Rattle.c_types_expressions.specs.Walked.{Walked, Fine, Faulty, ◌>>=◌, replaced, with_type}
+use Rattle.c_types_expressions.specs.Names.{declared_meaning, meaning_of}
+use Rattle.c_types_expressions.specs.Walked.{Walked, Fine, Faulty, ◌>>=◌, item_replaced, with_type}
 
 -- The construct at the token is looked at, after its parts: it is this operand, or has this fault.
-abbrev pub looked : ℕ → Looked → Walk → Walked Operand
-looked token (Ok x) w = Fine x (with_type token x.ctype w)
-looked token (Err kind) w = Faulty kind token
+abbrev pub operand_noted : ℕ → OperandOrFault → Walk → Walked Operand
+operand_noted token (Ok x) w = Fine x (with_type token x.ctype w)
+operand_noted token (Err kind) w = Faulty kind token
 
 -- the base of a type
 
@@ -46,7 +48,7 @@ base_type (base.Void token) w = Fine t.Void w
 base_type (base.Char token) w = Fine t.Char w
 base_type (base.Int token) w = Fine t.Int w
 base_type (base.Unsigned token int) w = Fine t.Unsigned w
-base_type (base.Struct token tag) w = tagged_type token (found tag w.tags) w
+base_type (base.Struct token tag) w = tagged_type token (declared_meaning tag w.tags) w
 
 -- the type with so many stars
 abbrev pub with_stars : ℕ → TypeTree → TypeTree
@@ -56,29 +58,29 @@ with_stars (suc n) b = with_stars n (t.Pointer b)
 -- names and calls
 
 abbrev pub with_use : ℕ → ℕ → Walk → Walk
-with_use token index w = record w { variables_at = replaced w.variables_at token (Some index) }
+with_use token index w = record w { variables_at = item_replaced w.variables_at token (Some index) }
 
 abbrev pub of_variable : ℕ → ℕ → Option TypeTree → Walk → Walked Operand
 of_variable token index None w = Faulty fault.Unknown token
-of_variable token index (Some declared) w = looked token (Ok (place_of declared)) (with_use token index w)
+of_variable token index (Some declared) w = operand_noted token (Ok (place_of declared)) (with_use token index w)
 
 -- a name that isn't called (C99 6.5.1p2)
-abbrev pub named : ℕ → Option Meaning → Walk → Walked Operand
-named token None w = Faulty fault.Unknown token
-named token (Some (meaning.Variable index)) w = of_variable token index (slice_get w.declared_types index) w
-named token (Some m) w = Faulty fault.Operands token
+abbrev pub named_operand : ℕ → Option Meaning → Walk → Walked Operand
+named_operand token None w = Faulty fault.Unknown token
+named_operand token (Some (meaning.Variable index)) w = of_variable token index (slice_get w.declared_types index) w
+named_operand token (Some m) w = Faulty fault.Operands token
 
 abbrev pub with_call : ℕ → ℕ → Walk → Walk
-with_call token index w = record w { functions_at = replaced w.functions_at token (Some index) }
+with_call token index w = record w { functions_at = item_replaced w.functions_at token (Some index) }
 
 abbrev pub of_function : ℕ → ℕ → Option FunctionEntry → List Operand → Walk → Walked Operand
 of_function token index None arguments w = Faulty fault.Unknown token
-of_function token index (Some f) arguments w = looked token (functions.called f.ctype arguments) (with_call token index w)
+of_function token index (Some f) arguments w = operand_noted token (functions.typed_call f.ctype arguments) (with_call token index w)
 
 abbrev pub called_name : ℕ → Option Meaning → List Operand → Walk → Walked Operand
 called_name token None arguments w = Faulty fault.Unknown token
 called_name token (Some (meaning.Function index)) arguments w = of_function token index (slice_get w.functions index) arguments w
-called_name token (Some (meaning.Library function)) arguments w = looked token (library_called function arguments) w
+called_name token (Some (meaning.Library function)) arguments w = operand_noted token (library_called function arguments) w
 called_name token (Some m) arguments w = Faulty fault.Operands token
 
 -- how many cells a string has: its bytes, and the closing zero
@@ -121,56 +123,56 @@ compound_of sign.OrEqual = Some op.Or
 compound_of _ = None
 
 -- `&&` and `||` aside, an operator of a chain is one on two numbers
-abbrev pub chained : List StructType → Option Binary → Operand → Operand → Looked
-chained structs None x y = joined_truths x y
-chained structs (Some o) x y = combined structs o x y
+abbrev pub typed_chain_operation : List StructType → Option Binary → Operand → Operand → OperandOrFault
+typed_chain_operation structs None x y = joined_truths x y
+typed_chain_operation structs (Some o) x y = typed_binary_operation structs o x y
 
-abbrev pub assigning : List StructType → Option Binary → Operand → Operand → Looked
-assigning structs None target x = assigned target x
-assigning structs (Some o) target x = compounded structs o target x
+abbrev pub typed_assignment : List StructType → Option Binary → Operand → Operand → OperandOrFault
+typed_assignment structs None target x = typed_simple_assignment target x
+typed_assignment structs (Some o) target x = typed_compound_assignment structs o target x
 
-abbrev pub prefixed : List StructType → PrefixOperator → Operand → Looked
-prefixed structs prefix.Increment x = stepped structs x
-prefixed structs prefix.Decrement x = stepped structs x
-prefixed structs prefix.SizeOf x = measured structs x.ctype
-prefixed structs prefix.Address x = addressed x
-prefixed structs prefix.Indirection x = pointed x
-prefixed structs prefix.Plus x = signed x
-prefixed structs prefix.Minus x = turned sole.Neg x
-prefixed structs prefix.Complement x = turned sole.Com x
-prefixed structs prefix.Not x = turned sole.Not x
+abbrev pub typed_prefix_operation : List StructType → PrefixOperator → Operand → OperandOrFault
+typed_prefix_operation structs prefix.Increment x = typed_increment structs x
+typed_prefix_operation structs prefix.Decrement x = typed_increment structs x
+typed_prefix_operation structs prefix.SizeOf x = typed_sizeof structs x.ctype
+typed_prefix_operation structs prefix.Address x = typed_address x
+typed_prefix_operation structs prefix.Indirection x = typed_indirection x
+typed_prefix_operation structs prefix.Plus x = typed_unary_arithmetic x
+typed_prefix_operation structs prefix.Minus x = typed_unary_operation sole.Neg x
+typed_prefix_operation structs prefix.Complement x = typed_unary_operation sole.Com x
+typed_prefix_operation structs prefix.Not x = typed_unary_operation sole.Not x
 
 abbrev pub with_offset : ℕ → ℕ → Walk → Walk
-with_offset token offset w = record w { offsets_at = replaced w.offsets_at token (Some offset) }
+with_offset token offset w = record w { offsets_at = item_replaced w.offsets_at token (Some offset) }
 
 abbrev pub selected_as : ℕ → Bool → TypeTree → ℕ → Walk → Walked Operand
-selected_as token place t offset w = looked token (Ok (record { ctype = t; place = place; null = false })) (with_offset token offset w)
+selected_as token place t offset w = operand_noted token (Ok (record { ctype = t; place = place; null = false })) (with_offset token offset w)
 
 -- the member that `.` or `->` at the token names
-abbrev pub selected : ℕ → Bool → Result Member FaultKind → Walk → Walked Operand
-selected token place (Err kind) w = Faulty kind token
-selected token place (Ok m) w = selected_as token place m.ctype m.offset w
+abbrev pub selected_member : ℕ → Bool → Result Member FaultKind → Walk → Walked Operand
+selected_member token place (Err kind) w = Faulty kind token
+selected_member token place (Ok m) w = selected_as token place m.ctype m.offset w
 
 abbrev mutual
   pub walk_expr : ExprTree → Walk → Walked Operand
-  walk_expr (e.Comma token operands) w = walk_exprs operands [] w >>= λ xs v. looked token (sequenced t.Void xs) v
+  walk_expr (e.Comma token operands) w = walk_exprs operands [] w >>= λ xs v. operand_noted token (typed_comma t.Void xs) v
   walk_expr (e.Assign token s target value) w =
-      walk_expr target w >>= λ x v. walk_expr value v >>= λ y u. looked token (assigning u.structs (compound_of s) x y) u
+      walk_expr target w >>= λ x v. walk_expr value v >>= λ y u. operand_noted token (typed_assignment u.structs (compound_of s) x y) u
   walk_expr (e.Conditional token condition first second) w =
-      walk_expr condition w >>= λ c v. walk_expr first v >>= λ x u. walk_expr second u >>= λ y r. looked token (chosen c x y) r
+      walk_expr condition w >>= λ c v. walk_expr first v >>= λ x u. walk_expr second u >>= λ y r. operand_noted token (typed_conditional c x y) r
   walk_expr (e.Chain level first links) w = walk_expr first w >>= λ x v. walk_links links x v
   walk_expr (e.Cast token b stars operand) w =
-      base_type b w >>= λ named_type v. walk_expr operand v >>= λ x u. looked token (cast_to (with_stars stars named_type) x) u
-  walk_expr (e.Prefix token operator operand) w = walk_expr operand w >>= λ x v. looked token (prefixed v.structs operator x) v
-  walk_expr (e.SizeOfType token b stars) w = base_type b w >>= λ named_type v. looked token (measured v.structs (with_stars stars named_type)) v
+      base_type b w >>= λ named_type v. walk_expr operand v >>= λ x u. operand_noted token (cast_to (with_stars stars named_type) x) u
+  walk_expr (e.Prefix token operator operand) w = walk_expr operand w >>= λ x v. operand_noted token (typed_prefix_operation v.structs operator x) v
+  walk_expr (e.SizeOfType token b stars) w = base_type b w >>= λ named_type v. operand_noted token (typed_sizeof v.structs (with_stars stars named_type)) v
   walk_expr (e.Postfix primary operators) w = walk_expr primary w >>= λ x v. walk_postfix operators x v
-  walk_expr (e.Name token name) w = named token (meaning_of name w.names) w
+  walk_expr (e.Name token name) w = named_operand token (meaning_of name w.names) w
   walk_expr (e.Call token name arguments) w = walk_exprs arguments [] w >>= λ xs v. called_name token (meaning_of name v.names) xs v
-  walk_expr (e.Constant token kind value) w = looked token (Ok (constant_of kind value)) w
-  walk_expr (e.Strings token parts) w = looked token (Ok (string_of (string_cells parts))) w
-  walk_expr (e.Paren token inner) w = walk_expr inner w >>= λ x v. looked token (Ok (enclosed x)) v
-  walk_expr (e.Null token) w = looked token (Ok null_of) w
-  walk_expr (e.EndOfFile token) w = looked token (Ok (value_of t.Int)) w
+  walk_expr (e.Constant token kind value) w = operand_noted token (Ok (constant_of kind value)) w
+  walk_expr (e.Strings token parts) w = operand_noted token (Ok (string_of (string_cells parts))) w
+  walk_expr (e.Paren token inner) w = walk_expr inner w >>= λ x v. operand_noted token (Ok (parenthesized_operand x)) v
+  walk_expr (e.Null token) w = operand_noted token (Ok null_of) w
+  walk_expr (e.EndOfFile token) w = operand_noted token (Ok (value_of t.Int)) w
 
   -- several expressions, each after the ones before it
   pub walk_exprs : ExprList → List Operand → Walk → Walked (List Operand)
@@ -181,19 +183,19 @@ abbrev mutual
   pub walk_links : LinkList → Operand → Walk → Walked Operand
   walk_links e.no_links left w = Fine left w
   walk_links (e.more_links token s operand rest) left w =
-      walk_expr operand w >>= λ right v. looked token (chained v.structs (binary_of s) left right) v >>= λ x u. walk_links rest x u
+      walk_expr operand w >>= λ right v. operand_noted token (typed_chain_operation v.structs (binary_of s) left right) v >>= λ x u. walk_links rest x u
 
   -- each operator behind its operand, from the left
   pub walk_postfix : PostfixList → Operand → Walk → Walked Operand
   walk_postfix e.no_postfix left w = Fine left w
   walk_postfix (e.index token x rest) left w =
-      walk_expr x w >>= λ right v. looked token (indexed v.structs left right) v >>= λ y u. walk_postfix rest y u
+      walk_expr x w >>= λ right v. operand_noted token (typed_subscript v.structs left right) v >>= λ y u. walk_postfix rest y u
   walk_postfix (e.member token name rest) left w =
-      selected token left.place (member_of w.structs name left.ctype) w >>= λ y u. walk_postfix rest y u
+      selected_member token left.place (member_of w.structs name left.ctype) w >>= λ y u. walk_postfix rest y u
   walk_postfix (e.arrow token name rest) left w =
-      selected token true (member_behind w.structs name (value_type left)) w >>= λ y u. walk_postfix rest y u
-  walk_postfix (e.increment token rest) left w = looked token (stepped w.structs left) w >>= λ y u. walk_postfix rest y u
-  walk_postfix (e.decrement token rest) left w = looked token (stepped w.structs left) w >>= λ y u. walk_postfix rest y u
+      selected_member token true (member_behind w.structs name (value_type left)) w >>= λ y u. walk_postfix rest y u
+  walk_postfix (e.increment token rest) left w = operand_noted token (typed_increment w.structs left) w >>= λ y u. walk_postfix rest y u
+  walk_postfix (e.decrement token rest) left w = operand_noted token (typed_increment w.structs left) w >>= λ y u. walk_postfix rest y u
 
 -- `printf` is only the whole expression of a statement, and its first argument is a string.
 
@@ -201,24 +203,24 @@ abbrev pub is_printf : Option Meaning → Bool
 is_printf (Some (meaning.Library library.Printf)) = true
 is_printf m = false
 
-abbrev pub flat : List (List ℕ) → List ℕ
-flat [] = []
-flat (part ∷ parts) = part ++ flat parts
+abbrev pub concatenated_strings : List (List ℕ) → List ℕ
+concatenated_strings [] = []
+concatenated_strings (part ∷ parts) = part ++ concatenated_strings parts
 
-abbrev pub formatted_call : List (List ℕ) → List Operand → Looked
+abbrev pub formatted_call : List (List ℕ) → List Operand → OperandOrFault
 formatted_call parts [] = Err fault.Arguments
-formatted_call parts (x ∷ xs) = printed (flat parts) xs
+formatted_call parts (x ∷ xs) = typed_printf (concatenated_strings parts) xs
 
-abbrev pub formatted_by : ExprTree → List Operand → Looked
+abbrev pub formatted_by : ExprTree → List Operand → OperandOrFault
 formatted_by (e.Strings token parts) xs = formatted_call parts xs
 formatted_by x xs = Err fault.Arguments
 
-abbrev pub format_of : ExprList → List Operand → Looked
+abbrev pub format_of : ExprList → List Operand → OperandOrFault
 format_of e.no_exprs xs = Err fault.Arguments
 format_of (e.more_exprs x rest) xs = formatted_by x xs
 
 abbrev pub whole_call : ℕ → Option Meaning → ExprList → List Operand → Walk → Walked Operand
-whole_call token m arguments xs w = if is_printf m then looked token (format_of arguments xs) w else called_name token m xs w
+whole_call token m arguments xs w = if is_printf m then operand_noted token (format_of arguments xs) w else called_name token m xs w
 
 -- the whole expression of a statement
 abbrev pub walk_whole : ExprTree → Walk → Walked Operand

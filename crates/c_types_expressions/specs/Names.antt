@@ -16,13 +16,13 @@ or_before None before = before
 or_before (Some m) before = Some m
 
 -- What a name was declared as: its latest declaration that is in scope. An inner scope hides an outer one.
-abbrev pub found : List ℕ → List ScopeEntry → Option Meaning
-found name [] = None
-found name (entry ∷ rest) = or_before (declared_as name entry) (found name rest)
+abbrev pub declared_meaning : List ℕ → List ScopeEntry → Option Meaning
+declared_meaning name [] = None
+declared_meaning name (entry ∷ rest) = or_before (declared_as name entry) (declared_meaning name rest)
 
 -- what a name means: what it was declared as, else a function of the library
 abbrev pub meaning_of : List ℕ → List ScopeEntry → Option Meaning
-meaning_of name entries = or_before (found name entries) (option_map meaning.Library (library_named name))
+meaning_of name entries = or_before (declared_meaning name entries) (option_map meaning.Library (library_named name))
 
 -- whether the name is declared in the latest scope
 abbrev pub is_here : List ℕ → List ScopeEntry → Bool
@@ -38,7 +38,7 @@ abbrev pub is_name_taken : List ℕ → List ScopeEntry → Bool
 is_name_taken name entries = is_reserved name || is_here name entries
 
 -- the names that are left when the latest scope ends
-abbrev pub closed : List ScopeEntry → List ScopeEntry
-closed [] = []
-closed (Opens ∷ rest) = rest
-closed (Declares name m ∷ rest) = closed rest
+abbrev pub names_after_scope : List ScopeEntry → List ScopeEntry
+names_after_scope [] = []
+names_after_scope (Opens ∷ rest) = rest
+names_after_scope (Declares name m ∷ rest) = names_after_scope rest

@@ -16,7 +16,7 @@ pub record HasRoom (n : ℕ) (w : Walk) : Type 0 where
   pub locals : w.locals ≤ length w.variables
 
 -- Of room for so many things at one point, so much is left at a later one. Each global or local that is new is a new variable.
-pub record HasLeft (n m : ℕ) (v w : Walk) : Type 0 where
+pub record HasRoomLeft (n m : ℕ) (v w : Walk) : Type 0 where
   pub few : things_in w + m ≤ things_in v + n
   pub globals : w.globals + length v.variables ≤ v.globals + length w.variables
   pub locals : w.locals + length v.variables ≤ v.locals + length w.variables

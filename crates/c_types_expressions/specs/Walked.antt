@@ -11,7 +11,7 @@ use Rattle.c_types_expressions.specs.declared.walk.Variable.TheVariants as varia
 use Rattle.c_types_expressions.specs.declared.walk.Walk.{Walk}
 use Rattle.c_types_expressions.specs.declared.walk.Stop.{Stop}
 use Rattle.c_types_expressions.specs.declared.walk.Stop.TheVariants as stop
-use Rattle.c_types_expressions.specs.Names.{closed}
+use Rattle.c_types_expressions.specs.Names.{names_after_scope}
 
 -- A part of the walk gives a value and what is known after it, or the fault that it met: its kind and its token.
 pub data Walked (A : Type 0) : Type 0 where
@@ -27,8 +27,8 @@ abbrev pub Done : Type 0
 Done = Unit {0}
 
 -- nothing more, or a fault at the token
-abbrev pub unless : Bool → FaultKind → ℕ → Walk → Walked Done
-unless wrong kind token w = if wrong then Faulty kind token else Fine tt w
+abbrev pub fault_if_wrong : Bool → FaultKind → ℕ → Walk → Walked Done
+fault_if_wrong wrong kind token w = if wrong then Faulty kind token else Fine tt w
 
 -- The code goes on as the walk does, or it meets the same fault. For want of memory nothing is said.
 abbrev pub IsWalked : {A : Type 0} → Walked A → Result A Stop → Walk → Type 0
@@ -37,15 +37,15 @@ IsWalked walked (Err (stop.Fault kind index)) known = walked ≡ Faulty kind ind
 IsWalked walked (Err stop.Memory) known = Unit {0}
 
 -- the list with another item at the place, if it has the place
-abbrev pub replaced : {A : Type 0} → List A → ℕ → A → List A
-replaced xs place x = if nat_lt place (length xs) then slice_set xs place x else xs
+abbrev pub item_replaced : {A : Type 0} → List A → ℕ → A → List A
+item_replaced xs place x = if nat_lt place (length xs) then slice_set xs place x else xs
 
 -- the expression at the token has this type
 abbrev pub with_type : ℕ → TypeTree → Walk → Walk
-with_type token t w = record w { types = replaced w.types token (Some t); latest = max w.latest token }
+with_type token t w = record w { types = item_replaced w.types token (Some t); latest = max w.latest token }
 
-abbrev pub numbered : Bool → Walk → Variable
-numbered global w = if global then variable.Global w.globals else variable.Local w.locals
+abbrev pub next_variable : Bool → Walk → Variable
+next_variable global w = if global then variable.Global w.globals else variable.Local w.locals
 
 -- one more global, or one more local
 abbrev pub counted_in : Bool → Walk → Walk
@@ -55,18 +55,18 @@ counted_in global w = if global then record w { globals = w.globals + 1 } else r
 abbrev pub with_variable : Bool → ℕ → List ℕ → TypeTree → Walk → Walk
 with_variable global token name t w = record (counted_in global w) {
   names = Declares name (meaning.Variable (length w.variables)) ∷ w.names;
-  variables = w.variables ++ record { name = name; variable = numbered global w; from = token } ∷ [];
+  variables = w.variables ++ record { name = name; variable = next_variable global w; from = token } ∷ [];
   declared_types = w.declared_types ++ t ∷ [];
   ends = w.ends ++ None ∷ [];
-  variables_at = replaced w.variables_at token (Some (length w.variables));
+  variables_at = item_replaced w.variables_at token (Some (length w.variables));
 }
 
 -- a scope begins
-abbrev pub opened : Walk → Walk
-opened w = record w { names = Opens ∷ w.names }
+abbrev pub scope_opened : Walk → Walk
+scope_opened w = record w { names = Opens ∷ w.names }
 
 abbrev pub with_end : ℕ → Meaning → List (Option ℕ) → List (Option ℕ)
-with_end token (meaning.Variable index) ends = replaced ends index (Some token)
+with_end token (meaning.Variable index) ends = item_replaced ends index (Some token)
 with_end token m ends = ends
 
 -- the scopes of the variables that the latest scope declares end with the token
@@ -76,5 +76,5 @@ ended_scopes token (Opens ∷ rest) ends = ends
 ended_scopes token (Declares name m ∷ rest) ends = ended_scopes token rest (with_end token m ends)
 
 -- the latest scope ends, with the latest token of an expression in it
-abbrev pub closing : Done → Walk → Walked Done
-closing _ w = Fine tt (record w { names = closed w.names; ends = ended_scopes w.latest w.names w.ends })
+abbrev pub scope_closed : Done → Walk → Walked Done
+scope_closed _ w = Fine tt (record w { names = names_after_scope w.names; ends = ended_scopes w.latest w.names w.ends })

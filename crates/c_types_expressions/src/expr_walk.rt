@@ -1,12 +1,15 @@
 ghost use Rattle.std.specs.Prelude.{◌≡◌, ◌<◌, ◌++◌, ◌∷◌, [], true, IfOk, Ok, OnOk, length, slice_get, sum_by};
 ghost use Rattle.c_syntax.specs.Words.{most_bytes, plain_expr, plain_exprs, plain_links, plain_operators};
 ghost use Rattle.c_syntax.specs.ExprTree as e;
-ghost use Rattle.c_types_rules.specs.Words.{null_of, string_of, value_type, cast_to, measured, chosen, member_behind, member_of, sequenced, Void};
-ghost use Rattle.c_types_expressions.specs.ExprWalk.{assigning, base_type, called_name, flat, format_of, is_printf, looked, named, of_function};
-ghost use Rattle.c_types_expressions.specs.ExprWalk.{of_variable, prefixed, selected, selected_as, string_cells, tagged_type, walk_expr, walk_exprs};
+ghost use Rattle.c_types_rules.specs.Words.{null_of, string_of, value_type, cast_to, typed_sizeof, typed_conditional, member_behind, member_of, typed_comma};
+ghost use Rattle.c_types_rules.specs.Words.{Void};
+ghost use Rattle.c_types_expressions.specs.ExprWalk.{typed_assignment, base_type, called_name, concatenated_strings, format_of, is_printf, operand_noted};
+ghost use Rattle.c_types_expressions.specs.ExprWalk.{named_operand, of_function};
+ghost use Rattle.c_types_expressions.specs.ExprWalk.{of_variable, typed_prefix_operation, selected_member, selected_as, string_cells, tagged_type, walk_expr};
+ghost use Rattle.c_types_expressions.specs.ExprWalk.{walk_exprs};
 ghost use Rattle.c_types_expressions.specs.ExprWalk.{walk_links, walk_postfix, walk_whole, with_stars};
 ghost use Rattle.c_types_expressions.specs.Names.{meaning_of};
-ghost use Rattle.c_types_expressions.specs.Room.{HasLeft, expr_text, exprs_text, items_in, links_text, postfix_text};
+ghost use Rattle.c_types_expressions.specs.Room.{HasRoomLeft, expr_text, exprs_text, items_in, links_text, postfix_text};
 ghost use Rattle.c_types_expressions.specs.Walked.{IsWalked};
 
 use crate::names::Meaning;
@@ -23,7 +26,7 @@ use std::alloc::Global;
 
 /// Notes the type of the construct at the token, or meets its fault.
 fn looked(alloc: Global, walk: &mut Walk, token: u32, answer: Looked) -> Result<Operand, Stop>
-    ensures { IsWalked (looked token answer walk.old) result walk.new }
+    ensures { IsWalked (operand_noted token answer walk.old) result walk.new }
 {
     match answer {
         Ok(x) => {
@@ -37,7 +40,7 @@ fn looked(alloc: Global, walk: &mut Walk, token: u32, answer: Looked) -> Result<
 /// The struct that a tag means.
 fn tagged(walk: &mut Walk, token: u32, meaning: Option<Meaning>) -> Result<Type, Stop>
     ensures walked { IsWalked (tagged_type token meaning walk.old) result walk.new }
-    ensures left { OnOk result (HasLeft 0 0 walk.old walk.new) }
+    ensures left { OnOk result (HasRoomLeft 0 0 walk.old walk.new) }
 {
     match meaning {
         Some(Meaning::Struct { index }) => Ok(Type::new(CType::Struct { tag: index })),
@@ -48,7 +51,7 @@ fn tagged(walk: &mut Walk, token: u32, meaning: Option<Meaning>) -> Result<Type,
 /// The base of a type.
 pub fn base_type(walk: &mut Walk, base: &Base) -> Result<Type, Stop>
     ensures walked { IsWalked (base_type base.now walk.old) result walk.new }
-    ensures left { OnOk result (HasLeft 0 0 walk.old walk.new) }
+    ensures left { OnOk result (HasRoomLeft 0 0 walk.old walk.new) }
 {
     match base {
         Base::Void { .. } => Ok(Type::new(CType::Void)),
@@ -94,7 +97,7 @@ fn named(
     token: u32,
     meaning: Option<Meaning>,
 ) -> Result<Operand, Stop>
-    ensures { IsWalked (named token meaning walk.old) result walk.new }
+    ensures { IsWalked (named_operand token meaning walk.old) result walk.new }
 {
     match meaning {
         None => Err(Stop::fault(FaultKind::Unknown, token)),
@@ -178,7 +181,7 @@ fn member_at(
     name: &Name,
     left: Operand,
 ) -> Result<Operand, Stop>
-    ensures { IsWalked (selected token left.place (member_of walk.old.structs name.now left.ctype) walk.old) result walk.new }
+    ensures { IsWalked (selected_member token left.place (member_of walk.old.structs name.now left.ctype) walk.old) result walk.new }
 {
     match member_of(walk.structs.as_slice(), name, left.ctype.shape()) {
         Err(kind) => Err(Stop::fault(kind, token)),
@@ -198,7 +201,7 @@ fn member_behind_at(
     name: &Name,
     left: Operand,
 ) -> Result<Operand, Stop>
-    ensures { IsWalked (selected token true (member_behind walk.old.structs name.now (value_type left)) walk.old) result walk.new }
+    ensures { IsWalked (selected_member token true (member_behind walk.old.structs name.now (value_type left)) walk.old) result walk.new }
 {
     match member_behind(walk.structs.as_slice(), name, &left.ctype) {
         Err(kind) => Err(Stop::fault(kind, token)),
@@ -217,7 +220,7 @@ fn sequenced_at(
     token: u32,
     operands: Seq<Operand>,
 ) -> Result<Operand, Stop>
-    ensures { IsWalked (looked token (sequenced Void operands) walk.old) result walk.new }
+    ensures { IsWalked (operand_noted token (typed_comma Void operands) walk.old) result walk.new }
 {
     let answer = sequenced(alloc, operands.as_slice())?;
     looked(alloc, walk, token, answer)
@@ -232,7 +235,7 @@ fn assigned_at(
     target: Operand,
     value: Operand,
 ) -> Result<Operand, Stop>
-    ensures { IsWalked (looked token (assigning walk.old.structs op target value) walk.old) result walk.new }
+    ensures { IsWalked (operand_noted token (typed_assignment walk.old.structs op target value) walk.old) result walk.new }
 {
     let answer = assigning(alloc, walk.structs.as_slice(), op, target, value)?;
     looked(alloc, walk, token, answer)
@@ -247,7 +250,7 @@ fn chosen_at(
     first: Operand,
     second: Operand,
 ) -> Result<Operand, Stop>
-    ensures { IsWalked (looked token (chosen condition first second) walk.old) result walk.new }
+    ensures { IsWalked (operand_noted token (typed_conditional condition first second) walk.old) result walk.new }
 {
     looked(alloc, walk, token, chosen(&condition, first, second))
 }
@@ -261,7 +264,7 @@ fn cast_at(
     base: Type,
     operand: Operand,
 ) -> Result<Operand, Stop>
-    ensures { IsWalked (looked token (cast_to (with_stars stars base) operand) walk.old) result walk.new }
+    ensures { IsWalked (operand_noted token (cast_to (with_stars stars base) operand) walk.old) result walk.new }
 {
     let ctype = with_stars(alloc, stars, &base)?;
     looked(alloc, walk, token, cast_to(ctype, &operand))
@@ -275,7 +278,7 @@ fn prefixed_at(
     operator: PrefixOperator,
     operand: Operand,
 ) -> Result<Operand, Stop>
-    ensures { IsWalked (looked token (prefixed walk.old.structs operator operand) walk.old) result walk.new }
+    ensures { IsWalked (operand_noted token (typed_prefix_operation walk.old.structs operator operand) walk.old) result walk.new }
 {
     let answer = prefixed(alloc, walk.structs.as_slice(), operator, operand)?;
     looked(alloc, walk, token, answer)
@@ -289,7 +292,7 @@ fn measured_at(
     stars: u32,
     base: Type,
 ) -> Result<Operand, Stop>
-    ensures { IsWalked (looked token (measured walk.old.structs (with_stars stars base)) walk.old) result walk.new }
+    ensures { IsWalked (operand_noted token (typed_sizeof walk.old.structs (with_stars stars base)) walk.old) result walk.new }
 {
     let ctype = with_stars(alloc, stars, &base)?;
     let answer = measured(walk.structs.as_slice(), &ctype);
@@ -313,7 +316,7 @@ fn called_at(
 /// Adjacent strings.
 fn string_at(alloc: Global, walk: &mut Walk, token: u32, parts: &[Seq<u8>]) -> Result<Operand, Stop>
     requires { sum_by length parts.now < most_bytes }
-    ensures { IsWalked (looked token (Ok (string_of (string_cells parts.now))) walk.old) result walk.new }
+    ensures { IsWalked (operand_noted token (Ok (string_of (string_cells parts.now))) walk.old) result walk.new }
 {
     let string = string_of(alloc, string_cells(parts))?;
     looked(alloc, walk, token, Ok(string))
@@ -321,7 +324,7 @@ fn string_at(alloc: Global, walk: &mut Walk, token: u32, parts: &[Seq<u8>]) -> R
 
 /// The null pointer.
 fn null_at(alloc: Global, walk: &mut Walk, token: u32) -> Result<Operand, Stop>
-    ensures { IsWalked (looked token (Ok null_of) walk.old) result walk.new }
+    ensures { IsWalked (operand_noted token (Ok null_of) walk.old) result walk.new }
 {
     let null = null_of(alloc)?;
     looked(alloc, walk, token, Ok(null))
@@ -486,7 +489,7 @@ fn walk_postfix(
 pub fn walk_expr(alloc: Global, walk: &mut Walk, expr: &Expr) -> Result<Operand, Stop>
     requires { expr_text (plain_expr expr.now) < most_bytes }
     ensures walked { IsWalked (walk_expr (plain_expr expr.now) walk.old) result walk.new }
-    ensures left { OnOk result (HasLeft 0 0 walk.old walk.new) }
+    ensures left { OnOk result (HasRoomLeft 0 0 walk.old walk.new) }
 {
     operand_of(alloc, walk, expr)
 }
@@ -496,14 +499,14 @@ pub fn walk_exprs(alloc: Global, walk: &mut Walk, exprs: &[Expr]) -> Result<Seq<
     requires { exprs_text (plain_exprs exprs.now) < most_bytes }
     ensures walked { IsWalked (walk_exprs (plain_exprs exprs.now) [] walk.old) result walk.new }
     ensures many { IfOk result (λ xs. length xs ≡ items_in (plain_exprs exprs.now)) }
-    ensures left { OnOk result (HasLeft 0 0 walk.old walk.new) }
+    ensures left { OnOk result (HasRoomLeft 0 0 walk.old walk.new) }
 {
     operands_of(alloc, walk, exprs)
 }
 
 /// The bytes of adjacent strings, one after another.
 fn flat(alloc: Global, parts: &[Seq<u8>]) -> Result<Vec<u8>, Memory>
-    ensures { IfOk result (λ bytes. bytes.items ≡ flat parts.now) }
+    ensures { IfOk result (λ bytes. bytes.items ≡ concatenated_strings parts.now) }
 {
     let mut bytes = Vec::new(alloc);
     for part in parts {
@@ -539,7 +542,7 @@ fn is_printf(meaning: Option<Meaning>) -> bool
 pub fn walk_whole(alloc: Global, walk: &mut Walk, expr: &Expr) -> Result<Operand, Stop>
     requires { expr_text (plain_expr expr.now) < most_bytes }
     ensures walked { IsWalked (walk_whole (plain_expr expr.now) walk.old) result walk.new }
-    ensures left { OnOk result (HasLeft 0 0 walk.old walk.new) }
+    ensures left { OnOk result (HasRoomLeft 0 0 walk.old walk.new) }
 {
     match expr {
         Expr::Call {

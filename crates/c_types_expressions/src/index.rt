@@ -1,6 +1,6 @@
 ghost use Rattle.std.specs.Prelude.{◌≡◌, ◌<◌, [], ◌∷◌, List, OnOk, OnErr};
 ghost use Rattle.c_types_expressions.specs.Indexed.{IsIndex, IsPopped, IsPushed, IsSame, last_of, stack_of};
-ghost use Rattle.c_types_expressions.specs.Names.{found, is_here};
+ghost use Rattle.c_types_expressions.specs.Names.{declared_meaning, is_here};
 ghost use Rattle.c_types_expressions.specs.declared.names.ScopeEntry.{ScopeEntry};
 ghost use Rattle.c_types_expressions.specs.declared.names.ScopeEntry.TheVariants.{Opens, Declares};
 
@@ -80,7 +80,7 @@ impl Index {
 
     /// What a name was declared as.
     pub fn find(&self, name: &Name) -> Option<Meaning>
-        ensures { (entries : List ScopeEntry) → IsIndex entries self.now → result ≡ found name.now entries }
+        ensures { (entries : List ScopeEntry) → IsIndex entries self.now → result ≡ declared_meaning name.now entries }
     {
         match latest(&self.stacks, name.bytes()) {
             None => None,

@@ -1,5 +1,5 @@
 ghost use Rattle.std.specs.Prelude.{◌≡◌, [], ◌∷◌, OnOk, MatchOption};
-ghost use Rattle.c_types_expressions.specs.Names.{found, meaning_of, is_here, is_reserved, is_name_taken};
+ghost use Rattle.c_types_expressions.specs.Names.{declared_meaning, meaning_of, is_here, is_reserved, is_name_taken};
 ghost use Rattle.c_types_expressions.specs.declared.names.ScopeEntry.TheVariants.{Opens, Declares};
 
 use crate::index::Index;
@@ -63,7 +63,7 @@ impl Names {
 
     /// What a name was declared as.
     pub fn find(&self, name: &Name) -> Option<Meaning>
-        ensures { result ≡ found name.now self.now }
+        ensures { result ≡ declared_meaning name.now self.now }
     {
         self.index.find(name)
     }

@@ -1,5 +1,5 @@
 ghost use Rattle.std.specs.Prelude.{◌≡◌, IfOk};
-ghost use Rattle.c_types_expressions.specs.ExprWalk.{assigning, binary_of, chained, compound_of, prefixed};
+ghost use Rattle.c_types_expressions.specs.ExprWalk.{typed_assignment, binary_of, typed_chain_operation, compound_of, typed_prefix_operation};
 
 use c_syntax::{PrefixOperator, Sign};
 use c_types_rules::{
@@ -55,7 +55,7 @@ pub fn compound_of(sign: Sign) -> Option<Binary>
 
 /// An operator of a chain with its two operands.
 pub fn chained(structs: &[StructType], op: Option<Binary>, left: Operand, right: Operand) -> Looked
-    ensures { result ≡ chained structs.now op left right }
+    ensures { result ≡ typed_chain_operation structs.now op left right }
 {
     match op {
         None => joined(&left, &right),
@@ -71,7 +71,7 @@ pub fn assigning(
     target: Operand,
     value: Operand,
 ) -> Result<Looked, Memory>
-    ensures { IfOk result (λ r. r ≡ assigning structs.now op target value) }
+    ensures { IfOk result (λ r. r ≡ typed_assignment structs.now op target value) }
 {
     match op {
         None => Ok(assigned(target, &value)),
@@ -86,7 +86,7 @@ pub fn prefixed(
     operator: PrefixOperator,
     operand: Operand,
 ) -> Result<Looked, Memory>
-    ensures { IfOk result (λ r. r ≡ prefixed structs.now operator operand) }
+    ensures { IfOk result (λ r. r ≡ typed_prefix_operation structs.now operator operand) }
 {
     match operator {
         PrefixOperator::Increment | PrefixOperator::Decrement => Ok(stepped(structs, operand)),

@@ -1,5 +1,5 @@
 ghost use Rattle.std.specs.Prelude.{◌≡◌, ◌∷◌, ◌++◌, [], IfOk, OnOk, None, length, replicate};
-ghost use Rattle.c_types_expressions.specs.Walked.{replaced};
+ghost use Rattle.c_types_expressions.specs.Walked.{item_replaced};
 
 use cbi_base::Memory;
 use std::alloc::Global;
@@ -52,7 +52,7 @@ impl<T: Drop> Table<T> {
 
     /// Replaces the item at the place. Where there is no such place, nothing happens.
     pub fn set(&mut self, place: u32, item: T)
-        ensures { self.new ≡ replaced self.old place item }
+        ensures { self.new ≡ item_replaced self.old place item }
     {
         if (place as usize) < self.items.len() {
             self.items[place as usize] = item;

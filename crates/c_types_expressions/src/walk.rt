@@ -1,9 +1,10 @@
 ghost use Rattle.std.specs.Prelude.{◌≡◌, ◌≤◌, IfOk, OnOk};
 ghost use Rattle.c_syntax.specs.Limits.{most_tokens};
-ghost use Rattle.c_types_expressions.specs.Beginning.{beginning};
+ghost use Rattle.c_types_expressions.specs.Beginning.{empty_walk};
 ghost use Rattle.c_types_expressions.specs.declared.walk.Stop.TheVariants as stop;
-ghost use Rattle.c_types_expressions.specs.Room.{HasLeft, HasRoom};
-ghost use Rattle.c_types_expressions.specs.Walked.{Fine, IsWalked, closing, counted_in, numbered, opened, unless, with_type, with_variable};
+ghost use Rattle.c_types_expressions.specs.Room.{HasRoomLeft, HasRoom};
+ghost use Rattle.c_types_expressions.specs.Walked.{Fine, IsWalked, scope_closed, counted_in, next_variable, scope_opened, fault_if_wrong, with_type};
+ghost use Rattle.c_types_expressions.specs.Walked.{with_variable};
 
 use crate::names::{Meaning, Names, ScopeEntry};
 use crate::table::{Table, blank};
@@ -106,7 +107,7 @@ pub struct Parameter {
 impl Walk {
     /// What is known before a text of so many tokens.
     pub fn new(alloc: Global, count: usize) -> Result<Walk, Memory>
-        ensures { IfOk result (λ w. w ≡ beginning count) }
+        ensures { IfOk result (λ w. w ≡ empty_walk count) }
     {
         Ok(Walk {
             types: blank(alloc, count)?,
@@ -140,8 +141,8 @@ pub fn next_number(count: usize) -> u32
 
 /// A fault at the token where something is wrong.
 pub fn unless(walk: &mut Walk, wrong: bool, kind: FaultKind, index: u32) -> Result<(), Stop>
-    ensures walked { IsWalked (unless wrong kind index walk.old) result walk.new }
-    ensures left { OnOk result (HasLeft 0 0 walk.old walk.new) }
+    ensures walked { IsWalked (fault_if_wrong wrong kind index walk.old) result walk.new }
+    ensures left { OnOk result (HasRoomLeft 0 0 walk.old walk.new) }
 {
     if wrong {
         return Err(Stop::fault(kind, index));
@@ -162,7 +163,7 @@ pub fn note_type(walk: &mut Walk, token: u32, ctype: Type)
 /// The next variable, global or of the present function.
 fn number_variable(walk: &mut Walk, global: bool) -> Variable
     requires { HasRoom 1 walk.old }
-    ensures number { result ≡ numbered global walk.old }
+    ensures number { result ≡ next_variable global walk.old }
     ensures counted { walk.new ≡ counted_in global walk.old }
 {
     if global {
@@ -185,7 +186,7 @@ pub fn add_variable(
 ) -> Result<(), Stop>
     requires { HasRoom 1 walk.old }
     ensures walked { IsWalked (Fine tt (with_variable global token name.now ctype walk.old)) result walk.new }
-    ensures left { OnOk result (HasLeft 1 0 walk.old walk.new) }
+    ensures left { OnOk result (HasRoomLeft 1 0 walk.old walk.new) }
 {
     let place = next_number(walk.variables.len());
     let variable = number_variable(walk, global);
@@ -204,8 +205,8 @@ pub fn add_variable(
 
 /// A scope begins.
 pub fn open_scope(walk: &mut Walk) -> Result<(), Stop>
-    ensures walked { IsWalked (Fine tt (opened walk.old)) result walk.new }
-    ensures left { OnOk result (HasLeft 0 0 walk.old walk.new) }
+    ensures walked { IsWalked (Fine tt (scope_opened walk.old)) result walk.new }
+    ensures left { OnOk result (HasRoomLeft 0 0 walk.old walk.new) }
 {
     walk.names.open()?;
     Ok(())
@@ -213,8 +214,8 @@ pub fn open_scope(walk: &mut Walk) -> Result<(), Stop>
 
 /// The latest scope ends, and with it those of its variables.
 pub fn close_scope(walk: &mut Walk)
-    ensures closed { closing tt walk.old ≡ Fine tt walk.new }
-    ensures left { HasLeft 0 0 walk.old walk.new }
+    ensures closed { scope_closed tt walk.old ≡ Fine tt walk.new }
+    ensures left { HasRoomLeft 0 0 walk.old walk.new }
 {
     let last = walk.latest;
     while let Some(ScopeEntry::Declares { meaning, .. }) = walk.names.pop() {

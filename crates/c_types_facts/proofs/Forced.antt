@@ -20,18 +20,18 @@ use Rattle.c_types_walk.specs.ItemWalk.{listed_params}
 use Rattle.c_meaning.specs.Words.{signature_of, token_of}
 use Rattle.c_types_faults.specs.Events.{Calls, Other, Event, Value, Initialises, Variable, Opens, Closes, Struct, Names as Naming, Defines}
 use Rattle.c_types_faults.specs.Events.{construct_at, declaration_events, entries_events, events_of, expr_events, exprs_events, for_start_events, initial_events}
-use Rattle.c_types_faults.specs.Events.{item_events, items_events, links_events, optional_events, params_events, postfix_events, scoped, start_events}
+use Rattle.c_types_faults.specs.Events.{item_events, items_events, links_events, optional_events, params_events, postfix_events, scope_events, start_events}
 use Rattle.c_types_faults.specs.Events.{starts_events, statement_events}
 use Rattle.sites.specs.Table.{defined_by, defined_in}
 use Rattle.c_types_faults.specs.Known.{Known, Object}
-use Rattle.c_types_faults.specs.Context.{Context, declare, declared_in, empty_context, inner, known}
+use Rattle.c_types_faults.specs.Context.{Context, name_declared, declared_in, empty_context, inner_context, known_identifiers}
 use Rattle.c_types_faults.specs.Functions.{Formal, FunctionGives, with_formals}
 use Rattle.c_types_faults.proofs.Quiet.{one_type, variable_one, whole_one}
 use Rattle.c_types_faults.proofs.QuietItems.{formals_one, function_one, item_one, names_one, prototype_one}
 use Rattle.c_types_faults.proofs.Single.{one_base, one_links, one_operand, one_postfix}
 use Rattle.c_types_facts.specs.Exprs.{ExprTyped, ExprsTyped, HasType, IsTyped, LinksTyped, PostfixTyped, WholeTyped}
 use Rattle.c_types_facts.specs.Statements.{DeclarationTyped, EntriesTyped, InitialTyped, PartTyped, StartTyped, StatementTyped, Typed, VariablesTyped}
-use Rattle.c_types_facts.specs.Texts.{AreAlike, BodyTyped, ItemTyped, ItemsTyped, TextTyped, parameters, signature}
+use Rattle.c_types_facts.specs.Texts.{AreAlike, BodyTyped, ItemTyped, ItemsTyped, TextTyped, parameter_variables, signature}
 use Rattle.c_types_facts.proofs.Items.{no_events}
 use Rattle.c_types_facts.proofs.Logs.{tokens_both, tokens_in}
 
@@ -51,7 +51,7 @@ module _ (w v : Walk) where
   agree_both : (xs ys : List Event) → Agree (tokens_in xs) → Agree (tokens_in ys) → Agree (tokens_in (xs ++ ys))
   agree_both xs ys h g = subst Agree (sym (tokens_both xs ys)) (agree_lists (tokens_in xs) (tokens_in ys) h g)
 
-  agree_scoped : (es : List Event) → Agree (tokens_in es) → Agree (tokens_in (scoped es))
+  agree_scoped : (es : List Event) → Agree (tokens_in es) → Agree (tokens_in (scope_events es))
   agree_scoped es h = subst Agree (sym (tokens_both es (Closes ∷ []) ∙ append-nil (tokens_in es))) h
 
   same_at : (token : ℕ) (d e : Operand) → HasType w token d → HasType v token e → d ≡ e → type_at w token ≡ type_at v token
@@ -87,8 +87,8 @@ module _ (w v : Walk) where
       expr_forced (e.Call token name arguments) h g =
           agree_both (exprs_events arguments) (Value token (Calls name) ∷ []) (exprs_forced arguments h.0 g.0)
           (own_same (e.Call token name arguments) h.1 g.1, tt)
-      expr_forced (e.Paren token inner) h g =
-          agree_both (expr_events inner) (Value token Other ∷ []) (expr_forced inner h.0 g.0) (own_same (e.Paren token inner) h.1 g.1, tt)
+      expr_forced (e.Paren token inner_context) h g =
+          agree_both (expr_events inner_context) (Value token Other ∷ []) (expr_forced inner_context h.0 g.0) (own_same (e.Paren token inner_context) h.1 g.1, tt)
       expr_forced x h g = (own_same x h g, tt)
 
       exprs_forced : (xs : ExprList) → ExprsTyped w k xs → ExprsTyped v k xs → Agree (tokens_in (exprs_events xs))
@@ -152,8 +152,8 @@ module _ (w v : Walk) where
         (
           h'.1 ∙ ap₂ (λ y ys. record { token = x.declarator.name_token; of = y } ∷ ys) of rest.1.0 ∙ sym g'.1,
           agree_both (start_events x) (starts_events xs)
-              (initial_forced (known (declare x.declarator.name (Object h.1.1.0) c)) (x.declarator.token + length (declarator_kinds x.declarator)) x.initial
-              h.1.1.1.1 (subst (λ z. InitialTyped v (known (declare x.declarator.name (Object z) c)) x.initial) first g.1.1.1.1))
+              (initial_forced (known_identifiers (name_declared x.declarator.name (Object h.1.1.0) c)) (x.declarator.token + length (declarator_kinds x.declarator)) x.initial
+              h.1.1.1.1 (subst (λ z. InitialTyped v (known_identifiers (name_declared x.declarator.name (Object z) c)) x.initial) first g.1.1.1.1))
               rest.1.1,
         ),
       )
@@ -162,47 +162,47 @@ module _ (w v : Walk) where
       → DeclarationTyped v global c d q b → (p ≡ q) × ((a ≡ b) × Agree (tokens_in (declaration_events d)))
   declaration_forced global d c p q a b (base, h) (other, g) =
       variables_forced global base d.starts c p q a b h.1
-      (subst (λ z. VariablesTyped v global z c d.starts q b) (one_base (known c) d.base other base g.0 h.0) g.1)
+      (subst (λ z. VariablesTyped v global z c d.starts q b) (one_base (known_identifiers c) d.base other base g.0 h.0) g.1)
 
   start_forced : (x : ForStartTree) (c p q : Context) (a b : List Typed) → StartTyped w c x p a → StartTyped v c x q b
       → (p ≡ q) × ((a ≡ b) × Agree (tokens_in (for_start_events x)))
   start_forced (s.Declares d) c p q a b h g = declaration_forced false d c p q a b h g
-  start_forced (s.Computes x) c p q a b h g = (h.1.0 ∙ sym g.1.0, (h.1.1 ∙ sym g.1.1, part_forced (known c) x h.0 g.0))
+  start_forced (s.Computes x) c p q a b h g = (h.1.0 ∙ sym g.1.0, (h.1.1 ∙ sym g.1.1, part_forced (known_identifiers c) x h.0 g.0))
 
   mutual
     statement_forced : (x : StatementTree) (c : Context) (a b : List Typed) → StatementTyped w c x a → StatementTyped v c x b
         → (a ≡ b) × Agree (tokens_in (statement_events x))
     statement_forced (s.Block token entries) c a b h g =
-        let r = entries_forced entries (inner c) a b h g in (r.0, agree_scoped (entries_events entries) r.1)
-    statement_forced (s.Expr token x) c a b h g = (h.1 ∙ sym g.1, whole_forced (known c) x h.0 g.0)
+        let r = entries_forced entries (inner_context c) a b h g in (r.0, agree_scoped (entries_events entries) r.1)
+    statement_forced (s.Expr token x) c a b h g = (h.1 ∙ sym g.1, whole_forced (known_identifiers c) x h.0 g.0)
     statement_forced (s.If token condition first) c a b h g =
         let r = statement_forced first c a b h.1 g.1 in
-        (r.0, agree_both (expr_events condition) (statement_events first) (expr_forced (known c) condition h.0 g.0) r.1)
+        (r.0, agree_both (expr_events condition) (statement_events first) (expr_forced (known_identifiers c) condition h.0 g.0) r.1)
     statement_forced (s.IfElse token condition first second) c a b (h, (p, (q, h'))) (g, (r, (l, g'))) =
         let one = statement_forced first c p r h'.0 g'.0 in
         let two = statement_forced second c q l h'.1.0 g'.1.0 in (
           h'.1.1 ∙ ap₂ (λ xs ys. xs ++ ys) one.0 two.0 ∙ sym g'.1.1,
-          agree_both (expr_events condition) (statement_events first ++ statement_events second) (expr_forced (known c) condition h g)
+          agree_both (expr_events condition) (statement_events first ++ statement_events second) (expr_forced (known_identifiers c) condition h g)
               (agree_both (statement_events first) (statement_events second) one.1 two.1),
         )
     statement_forced (s.While token condition body) c a b h g =
         let r = statement_forced body c a b h.1 g.1 in
-        (r.0, agree_both (expr_events condition) (statement_events body) (expr_forced (known c) condition h.0 g.0) r.1)
+        (r.0, agree_both (expr_events condition) (statement_events body) (expr_forced (known_identifiers c) condition h.0 g.0) r.1)
     statement_forced (s.Do token body condition) c a b h g =
         let r = statement_forced body c a b h.0 g.0 in
-        (r.0, agree_both (statement_events body) (expr_events condition) r.1 (expr_forced (known c) condition h.1 g.1))
+        (r.0, agree_both (statement_events body) (expr_events condition) r.1 (expr_forced (known_identifiers c) condition h.1 g.1))
     statement_forced (s.For token start condition step body) c a b (d, (p, (q, h))) (y, (r, (l, g))) =
-        let one = start_forced start (inner c) d y p r h.0 g.0 in
+        let one = start_forced start (inner_context c) d y p r h.0 g.0 in
         let two = statement_forced body d q l h.1.1.1.0 (subst (λ z. StatementTyped v z body l) (sym one.0) g.1.1.1.0) in (
           h.1.1.1.1 ∙ ap₂ (λ xs ys. xs ++ ys) one.1.0 two.0 ∙ sym g.1.1.1.1,
           agree_scoped (for_start_events start ++ (optional_events condition ++ (optional_events step ++ statement_events body)))
               (agree_both (for_start_events start) (optional_events condition ++ (optional_events step ++ statement_events body)) one.1.1
               (agree_both (optional_events condition) (optional_events step ++ statement_events body)
-              (part_forced (known d) condition h.1.0 (subst (λ z. PartTyped v (known z) condition) (sym one.0) g.1.0))
+              (part_forced (known_identifiers d) condition h.1.0 (subst (λ z. PartTyped v (known_identifiers z) condition) (sym one.0) g.1.0))
               (agree_both (optional_events step) (statement_events body)
-              (part_forced (known d) step h.1.1.0 (subst (λ z. PartTyped v (known z) step) (sym one.0) g.1.1.0)) two.1))),
+              (part_forced (known_identifiers d) step h.1.1.0 (subst (λ z. PartTyped v (known_identifiers z) step) (sym one.0) g.1.1.0)) two.1))),
         )
-    statement_forced (s.Return token value) c a b h g = (h.1 ∙ sym g.1, part_forced (known c) value h.0 g.0)
+    statement_forced (s.Return token value) c a b h g = (h.1 ∙ sym g.1, part_forced (known_identifiers c) value h.0 g.0)
     statement_forced x c a b h g = (h ∙ sym g, tt)
 
     entries_forced : (xs : EntryList) (c : Context) (a b : List Typed) → EntriesTyped w c xs a → EntriesTyped v c xs b
@@ -237,8 +237,8 @@ module _ (w v : Walk) where
       → (a ≡ b) × (Agree (tokens_in (entries_events body)) × (w.structs ≡ v.structs → AreSigned number 1))
   body_forced number name f fs body c a b ps (n, (h, (p, (h0, (h1, h2))))) (m, (g, (q, (g0, (g1, g2))))) =
       let one : m ≡ n = names_one name f c m n g h in
-      let two = entries_forced body (with_formals fs (inner n)) p q h0 (subst (λ z. EntriesTyped v (with_formals fs (inner z)) body q) one g0) in
-      let same : a ≡ b = h1 ∙ ap (λ l. parameters ps fs ++ l) two.0 ∙ sym g1 in (
+      let two = entries_forced body (with_formals fs (inner_context n)) p q h0 (subst (λ z. EntriesTyped v (with_formals fs (inner_context z)) body q) one g0) in
+      let same : a ≡ b = h1 ∙ ap (λ l. parameter_variables ps fs ++ l) two.0 ∙ sym g1 in (
         same,
         (
           two.1,
@@ -251,10 +251,10 @@ module _ (w v : Walk) where
       the_one number j low high = omega (arith, low, high)
 
   event_tokens : (name : List ℕ) (ps : List Param) (body : EntryList)
-      → tokens_in (Naming name ∷ scoped (params_events ps ++ entries_events body) ++ Defines ∷ []) ≡ tokens_in (entries_events body)
+      → tokens_in (Naming name ∷ scope_events (params_events ps ++ entries_events body) ++ Defines ∷ []) ≡ tokens_in (entries_events body)
   event_tokens name ps body =
-      tokens_both (scoped (params_events ps ++ entries_events body)) (Defines ∷ [])
-      ∙ append-nil (tokens_in (scoped (params_events ps ++ entries_events body)))
+      tokens_both (scope_events (params_events ps ++ entries_events body)) (Defines ∷ [])
+      ∙ append-nil (tokens_in (scope_events (params_events ps ++ entries_events body)))
       ∙ tokens_both (params_events ps ++ entries_events body) (Closes ∷ [])
       ∙ append-nil (tokens_in (params_events ps ++ entries_events body))
       ∙ tokens_both (params_events ps) (entries_events body) ∙ ap (λ l. l ++ tokens_in (entries_events body)) (no_events ps)

@@ -7,10 +7,10 @@ use Rattle.c_types_rules.specs.declared.fault.FaultKind.{FaultKind}
 use Rattle.c_types_rules.specs.declared.fault.FaultKind.TheVariants as fault
 use Rattle.c_types_rules.specs.Words.{cells_of, is_object, most_cells, TypeTree}
 use Rattle.c_types_expressions.specs.declared.walk.Walk.{Walk}
-use Rattle.c_types_expressions.specs.Walked.{Fine, Faulty, Done, unless, with_variable}
-use Rattle.c_types_walk.specs.StatementWalk.{counted_cells, sized}
+use Rattle.c_types_expressions.specs.Walked.{Fine, Faulty, Done, fault_if_wrong, with_variable}
+use Rattle.c_types_walk.specs.StatementWalk.{counted_cells, object_type_checked}
 use Rattle.c_types_laws.proofs.Leading.{either}
-use Rattle.c_types_faults.specs.Events.{Event, Closes, scoped}
+use Rattle.c_types_faults.specs.Events.{Event, Closes, scope_events}
 use Rattle.c_types_faults.specs.Scopes.{start_of}
 use Rattle.c_types_facts.specs.Statements.{Typed}
 use Rattle.c_types_facts.specs.Texts.{typed_token, typed_type}
@@ -112,8 +112,8 @@ grown_events es fs e a = record {
 }
 
 -- in a scope of its own
-pub grown_scoped : {global : Bool} {P : Walk → List Typed → Type 0} {w v : Walk} (es : List Event) → Grown global es P w v → Grown global (scoped es) P w v
-grown_scoped es a = grown_events es (scoped es) (sym (tokens_both es (Closes ∷ []) ∙ append-nil (tokens_in es))) a
+pub grown_scoped : {global : Bool} {P : Walk → List Typed → Type 0} {w v : Walk} (es : List Event) → Grown global es P w v → Grown global (scope_events es) P w v
+grown_scoped es a = grown_events es (scope_events es) (sym (tokens_both es (Closes ∷ []) ∙ append-nil (tokens_in es))) a
 
 -- what declares nothing
 pub grown_of : {es : List Event} {P : Walk → Type 0} {w v : Walk} (global : Bool) → Logged es P w v → Grown global es (λ z own. P z × (own ≡ [])) w v
@@ -156,7 +156,7 @@ grown_before {global = global} {P = P} a b = grown_so (grown_then a (grown_of gl
 
 -- tests that change nothing
 pub unless_grown : {global : Bool} {es : List Event} {P : Walk → List Typed → Type 0} {w v : Walk} (b : Bool) (kind : FaultKind) (own : ℕ)
-    → Grown global es P w v → Gives (unless b kind own v) (λ (d : Done) u. Grown global es P w u)
+    → Grown global es P w v → Gives (fault_if_wrong b kind own v) (λ (d : Done) u. Grown global es P w u)
 unless_grown true kind own g = record { by = tt }
 unless_grown false kind own g = record { by = g }
 
@@ -171,7 +171,7 @@ counted_still true c kind own cells w = record { by = record { same = refl; type
 counted_still false true kind own cells w = record { by = record { same = refl; types = refl; names = refl } }
 counted_still false false kind own cells w = record { by = tt }
 
-pub sized_still : (global : Bool) (own : ℕ) (t : TypeTree) (w : Walk) → Gives (sized global own t w) (λ d v. Still w v)
+pub sized_still : (global : Bool) (own : ℕ) (t : TypeTree) (w : Walk) → Gives (object_type_checked global own t w) (λ d v. Still w v)
 sized_still global own t w =
     either (is_object w.structs t) (counted_cells global own (cells_of w.structs t) w) (Faulty fault.Object own)
     (counted_still (not global) (nat_le (w.global_cells + cells_of w.structs t) most_cells) fault.Object own (w.global_cells + cells_of w.structs t) w)

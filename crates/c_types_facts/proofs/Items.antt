@@ -24,9 +24,9 @@ use Rattle.c_types_expressions.specs.declared.walk.Definition.{Definition}
 use Rattle.c_types_expressions.specs.declared.walk.FunctionEntry.{FunctionEntry}
 use Rattle.c_types_expressions.specs.declared.walk.Parameter.{Parameter}
 use Rattle.c_types_expressions.specs.declared.walk.Walk.{Walk}
-use Rattle.c_types_expressions.specs.Words.{base_type, tagged_type, with_stars, found, is_here, is_reserved, Fine, Faulty, Done, opened, with_variable}
+use Rattle.c_types_expressions.specs.Words.{base_type, tagged_type, with_stars, declared_meaning, is_here, is_reserved, Fine, Faulty, Done, scope_opened, with_variable}
 use Rattle.c_types_walk.specs.Declarators.{declared_type}
-use Rattle.c_types_walk.specs.ItemWalk.{clashes, declares, has_length, is_among, is_defined, known_as, listed_params, looked_param, param_type}
+use Rattle.c_types_walk.specs.ItemWalk.{is_clashing_name, function_checked, has_length, is_among, is_defined, known_as, listed_params, looked_param, param_type}
 use Rattle.c_types_walk.specs.ItemWalk.{scalar_param, typed_function, typed_member, types_of, walk_body, walk_declarators, walk_item, walk_items}
 use Rattle.c_types_walk.specs.ItemWalk.{walk_members, walk_param, walk_params, walk_struct, with_definition, with_function, with_param, with_params, with_tag}
 use Rattle.c_types_walk.specs.StatementWalk.{walk_entries}
@@ -34,12 +34,12 @@ use Rattle.c_meaning.specs.Known.{computed_type, signature_of, signature_with}
 use Rattle.c_types_laws.proofs.Declaring.{more_stays}
 use Rattle.c_types_laws.proofs.Leading.{allowed, refused}
 use Rattle.c_types_faults.specs.Events.{Event, Closes, Defines, Names as Naming, Struct, entries_events, item_events, items_events, named_events}
-use Rattle.c_types_faults.specs.Events.{params_events, scoped}
+use Rattle.c_types_faults.specs.Events.{params_events, scope_events}
 use Rattle.c_types_faults.specs.Scopes.{start_of}
 use Rattle.sites.specs.Table.{defined_by}
 use Rattle.c_types_faults.specs.Agrees.{Denotes, IsType}
 use Rattle.c_types_faults.specs.Known.{Entity, Function}
-use Rattle.c_types_faults.specs.Context.{Context, declared_in, inner, known}
+use Rattle.c_types_faults.specs.Context.{Context, declared_in, inner_context, known_identifiers}
 use Rattle.c_types_faults.specs.Functions.{Formal, FunctionGives, Names, PrototypeGives, with_formals}
 use Rattle.c_types_faults.proofs.Exprs.{base_tells}
 use Rattle.c_types_faults.proofs.Files.{Files, text_found}
@@ -49,7 +49,7 @@ use Rattle.c_types_faults.proofs.Knowing.{Matches, agreed, entering_knows}
 use Rattle.c_types_faults.proofs.Prototypes.{formal_of, params_tell}
 use Rattle.c_types_faults.proofs.Telling.{agrees_on, shown}
 use Rattle.c_types_facts.specs.Statements.{EntriesTyped, Typed}
-use Rattle.c_types_facts.specs.Texts.{BodyTyped, ItemTyped, ItemsTyped, parameters, signature, typed_param, typed_token, typed_type}
+use Rattle.c_types_facts.specs.Texts.{BodyTyped, ItemTyped, ItemsTyped, parameter_variables, signature, typed_param, typed_token, typed_type}
 use Rattle.c_types_facts.proofs.Filing.{Filed, filed_none, filed_of, filed_so, filed_then}
 use Rattle.c_types_facts.proofs.Growing.{Grown, Same, grown_as, grown_so, grown_then, one_same, one_starts}
 use Rattle.c_types_facts.proofs.Logs.{Rest, both, noting, rest, told, tokens_both, tokens_in}
@@ -63,7 +63,7 @@ tagged_same own (Some (meaning.Struct index)) w = record { by = refl }
 tagged_same own m w = record { by = tt }
 
 base_same : (b : Base) (w : Walk) → Gives (base_type b w) (λ t v. v ≡ w)
-base_same (base.Struct own tag) w = tagged_same own (found tag w.tags) w
+base_same (base.Struct own tag) w = tagged_same own (declared_meaning tag w.tags) w
 base_same b w = record { by = refl }
 
 typed_same : (d : Declarator) (o : Option TypeTree) (s : StructType) (w : Walk) → Gives (typed_member d o s w) (λ s v. v ≡ w)
@@ -124,7 +124,7 @@ param_named : (body : Bool) (p : Param) (before : List Parameter) (w : Walk) →
 param_named body p before w = and_then (base_same p.base w) (λ b v q. looked_named body p.token p.name (with_stars p.stars b) before v)
 
 params_named : (body : Bool) (ps : List Param) (before : List Parameter) (w : Walk) → Gives (walk_params body ps before w)
-    (λ xs v. (own : List Parameter) × ((xs ≡ before ++ own) × (typed_from own ≡ parameters ps (map formal_of own))))
+    (λ xs v. (own : List Parameter) × ((xs ≡ before ++ own) × (typed_from own ≡ parameter_variables ps (map formal_of own))))
 params_named body [] before w = record { by = ([], (sym (append-nil before), refl)) }
 params_named body (p ∷ ps) before w = and_then (param_named body p before w) (λ x v q.
     weaker (params_named body ps (before ++ x ∷ []) v) (λ xs u n.
@@ -198,7 +198,7 @@ named_beside name f None w = record {
 }
 named_beside name f (Some j) w = record { types = refl; variables = refl; declared = refl; definitions = refl; functions = λ i x h. h }
 
-declares_same : (own : ℕ) (taken : Bool) (gives : TypeTree) (w : Walk) → Gives (declares own taken gives w) (λ (d : Done) v. v ≡ w)
+declares_same : (own : ℕ) (taken : Bool) (gives : TypeTree) (w : Walk) → Gives (function_checked own taken gives w) (λ (d : Done) v. v ≡ w)
 declares_same own taken gives w =
     refused taken fault.Redeclared own (if is_struct gives then Faulty fault.Object own else Fine tt w)
     (λ e. refused (is_struct gives) fault.Object own (Fine tt w) (λ f. record { by = refl }))
@@ -251,45 +251,45 @@ function_there name f w m x (Some j) d h =
     (subst (λ y. Denotes w.declared_types w.functions y (Some (Function f))) h.1 (subst (Denotes w.declared_types w.functions m) h.0 d))
 
 module _ (number own : ℕ) (name : List ℕ) (f : FunctionType) (ps : List Param) (xs : List Parameter) (body : EntryList) (c : Context) (w : Walk)
-    (k : Files c (shown w)) (is : number ≡ length w.definitions) (are : typed_from xs ≡ parameters ps (map formal_of xs)) where
+    (k : Files c (shown w)) (is : number ≡ length w.definitions) (are : typed_from xs ≡ parameter_variables ps (map formal_of xs)) where
   abbrev o : Option ℕ
-  o = known_as f (found name w.names) w
+  o = known_as f (declared_meaning name w.names) w
 
   abbrev begun : Walk
   begun = record (with_function name f o w) { locals = 0 }
 
   abbrev first : Walk
-  first = with_params xs (opened begun)
+  first = with_params xs (scope_opened begun)
 
   abbrev formals : List Formal
   formals = map formal_of xs
 
   abbrev around : Context
-  around = with_formals formals (inner (next_of name f o c))
+  around = with_formals formals (inner_context (next_of name f o c))
 
   abbrev events : List Event
-  events = Naming name ∷ scoped (params_events ps ++ entries_events body) ++ Defines ∷ []
+  events = Naming name ∷ scope_events (params_events ps ++ entries_events body) ++ Defines ∷ []
 
-  denotes : Denotes w.declared_types w.functions (found name w.names) (declared_in name c.scope)
+  denotes : Denotes w.declared_types w.functions (declared_meaning name w.names) (declared_in name c.scope)
   denotes = text_found w.declared_types w.functions (length w.variables) (length w.functions) w.names c.scope
       (subst (λ outer. Matches w.declared_types w.functions (length w.variables) (length w.functions) w.names c.scope outer) k.outer k.knows.names) name
 
-  was : KnownIs f (found name w.names) (declared_in name c.scope) o
-  was = known_by f (found name w.names) (declared_in name c.scope) w o denotes refl
+  was : KnownIs f (declared_meaning name w.names) (declared_in name c.scope) o
+  was = known_by f (declared_meaning name w.names) (declared_in name c.scope) w o denotes refl
 
   abbrev Inside : Walk → List Typed → Type 0
-  Inside z vs = (locals : List Typed) × (EntriesTyped z around body locals × (vs ≡ parameters ps formals ++ locals))
+  Inside z vs = (locals : List Typed) × (EntriesTyped z around body locals × (vs ≡ parameter_variables ps formals ++ locals))
 
   -- parameters and body
-  inside_logs : Gives (walk_entries f.gives false body first) (λ (d : Done) v. Grown false ([] ++ entries_events body) Inside (opened begun) v)
+  inside_logs : Gives (walk_entries f.gives false body first) (λ (d : Done) v. Grown false ([] ++ entries_events body) Inside (scope_opened begun) v)
   inside_logs = weaker (entries_logs f.gives false body around first
-      (params_know xs (inner (next_of name f o c)) (opened begun) (entering_knows (named_knows name f o c w k.knows))))
-      (λ d v p. grown_so (grown_then (params_grown xs (opened begun)) p)
+      (params_know xs (inner_context (next_of name f o c)) (scope_opened begun) (entering_knows (named_knows name f o c w k.knows))))
+      (λ d v p. grown_so (grown_then (params_grown xs (scope_opened begun)) p)
       (λ z vs h. (h.1.0, (h.1.1.1.0, h.1.1.1.1 ∙ ap (λ l. l ++ h.1.0) (h.1.1.0 ∙ are)))))
 
   event_tokens : tokens_in (entries_events body) ≡ tokens_in events
-  event_tokens = sym (tokens_both (scoped (params_events ps ++ entries_events body)) (Defines ∷ [])
-      ∙ append-nil (tokens_in (scoped (params_events ps ++ entries_events body)))
+  event_tokens = sym (tokens_both (scope_events (params_events ps ++ entries_events body)) (Defines ∷ [])
+      ∙ append-nil (tokens_in (scope_events (params_events ps ++ entries_events body)))
       ∙ tokens_both (params_events ps ++ entries_events body) (Closes ∷ [])
       ∙ append-nil (tokens_in (params_events ps ++ entries_events body))
       ∙ tokens_both (params_events ps) (entries_events body) ∙ ap (λ l. l ++ tokens_in (entries_events body)) (no_events ps))
@@ -298,12 +298,12 @@ module _ (number own : ℕ) (name : List ℕ) (f : FunctionType) (ps : List Para
   abbrev done : Walk → Walk
   done v = with_definition (index_of o w) (length w.variables) v
 
-  filed : (v : Walk) → Grown false ([] ++ entries_events body) Inside (opened begun) v
+  filed : (v : Walk) → Grown false ([] ++ entries_events body) Inside (scope_opened begun) v
       → Filed 1 events (λ z vs. BodyTyped z number name ps f formals body c vs) w (done v)
   filed v g =
       let b : Beside w (with_function name f o w) = named_beside name f o w in
       let d : Definition = record { function = index_of o w; first = length w.variables; count = v.locals } in
-      let there = function_there name f w (found name w.names) (declared_in name c.scope) o denotes was in
+      let there = function_there name f w (declared_meaning name w.names) (declared_in name c.scope) o denotes was in
       let definitions : v.definitions ≡ w.definitions = g.definitions ∙ b.definitions in
       let declared : v.declared_types ≡ w.declared_types ++ map typed_type g.own =
       g.declared ∙ ap (λ ts. ts ++ map typed_type g.own) b.declared in
@@ -321,7 +321,7 @@ module _ (number own : ℕ) (name : List ℕ) (f : FunctionType) (ps : List Para
             let i = g.holds z h in (
               next_of name f o c,
               (
-                names_so name f c (found name w.names) o was,
+                names_so name f c (declared_meaning name w.names) o was,
                 (
                   i.0,
                   (
@@ -346,10 +346,10 @@ module _ (number own : ℕ) (name : List ℕ) (f : FunctionType) (ps : List Para
       (λ (d : Done) v. Filed 1 events (λ z vs. BodyTyped z number name ps f formals body c vs) w v)
   unfolding walk_body
   body_logs =
-      and_then (and_then {Q = λ (d : Done) v. Grown false ([] ++ entries_events body) Inside (opened begun) v} inside_logs
-      (λ d v p. record { by = grown_as (opened begun) _ p refl refl refl refl }))
-      (λ d v p. and_then (declares_same own (clashes name o w || is_defined (index_of o w) w.defined_as) f.gives v)
-      (λ e u q. record { by = filed u (subst (λ y. Grown false ([] ++ entries_events body) Inside (opened begun) y) (sym q) p) }))
+      and_then (and_then {Q = λ (d : Done) v. Grown false ([] ++ entries_events body) Inside (scope_opened begun) v} inside_logs
+      (λ d v p. record { by = grown_as (scope_opened begun) _ p refl refl refl refl }))
+      (λ d v p. and_then (declares_same own (is_clashing_name name o w || is_defined (index_of o w) w.defined_as) f.gives v)
+      (λ e u q. record { by = filed u (subst (λ y. Grown false ([] ++ entries_events body) Inside (scope_opened begun) y) (sym q) p) }))
 
   pub function_logs : Gives (typed_function own f name xs (Some body) w) (λ (d : Done) v. ((after : Context)
       × (FunctionGives name f formals (Some body) c after × Files after (shown v)))
@@ -368,8 +368,8 @@ made t ts = record { gives = t; params = ts }
 prototype_same : (own : ℕ) (f : FunctionType) (name : List ℕ) (xs : List Parameter) (w : Walk)
     → Gives (typed_function own f name xs None w) (λ (d : Done) v. Beside w v)
 prototype_same own f name xs w =
-    let o : Option ℕ = known_as f (found name w.names) w in
-    weaker (declares_same own (clashes name o w) f.gives (with_function name f o w))
+    let o : Option ℕ = known_as f (declared_meaning name w.names) w in
+    weaker (declares_same own (is_clashing_name name o w) f.gives (with_function name f o w))
     (λ d v p. subst (Beside w) (sym p) (named_beside name f o w))
 
 item_logs : (x : ItemTree) (number : ℕ) (c : Context) (w : Walk) → Files c (shown w) → number ≡ length w.definitions
@@ -385,7 +385,7 @@ item_logs (i.Struct own tag members) number c w k is =
     ))
 item_logs (i.Function own b stars name ps None) number c w k is =
     weaker (both {Q = λ (d : Done) v. Beside w v} (told (item_tells (i.Function own b stars name ps None) c w k))
-    (and_then (told (base_tells (known c) b w (agreed k.knows))) (λ of v p.
+    (and_then (told (base_tells (known_identifiers c) b w (agreed k.knows))) (λ of v p.
     and_then (told (params_tell c false (listed_params ps) [] v (agrees_on (agreed k.knows) (ap shown p.1)))) (λ xs u q.
     subst (λ y. Gives (typed_function own (made (with_stars stars of) (types_of xs)) name xs None u) (λ (d : Done) r. Beside y r)) (q.1 ∙ p.1)
     (prototype_same own (made (with_stars stars of) (types_of xs)) name xs u))))) (λ d v p. (
@@ -396,14 +396,14 @@ item_logs (i.Function own b stars name ps None) number c w k is =
       ),
     ))
 item_logs (i.Function own b stars name ps (Some body)) number c w k is =
-    and_then (told (base_tells (known c) b w (agreed k.knows))) (λ of v p.
+    and_then (told (base_tells (known_identifiers c) b w (agreed k.knows))) (λ of v p.
     and_then (both (told (params_tell c true (listed_params ps) [] v (agrees_on (agreed k.knows) (ap shown p.1)))) (params_named true (listed_params ps) [] v)) (λ xs u q.
     let f : FunctionType = made (with_stars stars of) (types_of xs) in
     let proto : PrototypeGives b stars true (listed_params ps) c f (map formal_of xs) =
     (of, (p.0, q.0.0, ap (made (with_stars stars of)) (types_same xs))) in
     let same : u ≡ w = q.0.1 ∙ p.1 in
-    let are : typed_from xs ≡ parameters (listed_params ps) (map formal_of xs) =
-    subst (λ ys. typed_from ys ≡ parameters (listed_params ps) (map formal_of ys)) (sym q.1.1.0) q.1.1.1 in
+    let are : typed_from xs ≡ parameter_variables (listed_params ps) (map formal_of xs) =
+    subst (λ ys. typed_from ys ≡ parameter_variables (listed_params ps) (map formal_of ys)) (sym q.1.1.0) q.1.1.1 in
     subst (λ y. Gives (typed_function own f name xs (Some body) u)
     (λ (d : Done) r. ItemFiled number c (i.Function own b stars name ps (Some body)) y r)) same
     (weaker (function_logs number own name f (listed_params ps) xs body c u (subst (λ y. Files c (shown y)) (sym same) k)

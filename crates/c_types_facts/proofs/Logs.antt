@@ -5,13 +5,13 @@ use Rattle.c_types_expressions.proofs.Giving.{Gives as GivesIn}
 use Rattle.c_types_expressions.proofs.Given.{Gives, looks}
 use Rattle.c_types.proofs.Replaced.{noted_other, noted_same}
 use Rattle.c_types.proofs.Noted.{length_replaced}
-use Rattle.c_types_rules.specs.Words.{TypeTree, Looked}
-use Rattle.c_types.specs.Answers.{noted}
+use Rattle.c_types_rules.specs.Words.{TypeTree, OperandOrFault}
+use Rattle.c_types.specs.Answers.{note_at}
 use Rattle.c_types_expressions.specs.declared.walk.Definition.{Definition}
 use Rattle.c_types_expressions.specs.declared.walk.FunctionEntry.{FunctionEntry}
 use Rattle.c_types_expressions.specs.declared.walk.VariableEntry.{VariableEntry}
 use Rattle.c_types_expressions.specs.declared.walk.Walk.{Walk}
-use Rattle.c_types_expressions.specs.Words.{Walked, Fine, Faulty, replaced, looked}
+use Rattle.c_types_expressions.specs.Words.{Walked, Fine, Faulty, item_replaced, operand_noted}
 use Rattle.c_types_faults.specs.Events.{Construct, Event, Value, Initialises, Variable, Opens, Closes, Struct, Names, Defines}
 use Rattle.c_types_faults.proofs.Points.{Among, Once}
 use Rattle.c_types_rules.specs.declared.fault.FaultKind.{FaultKind}
@@ -22,12 +22,12 @@ Log = List (ℕ × TypeTree)
 
 abbrev pub noting : Log → List (Option TypeTree) → List (Option TypeTree)
 noting [] types = types
-noting (n ∷ log) types = noting log (replaced types n.0 (Some n.1))
+noting (n ∷ log) types = noting log (item_replaced types n.0 (Some n.1))
 
 -- all that is noted in the log stands there
 abbrev pub Says : Log → List (Option TypeTree) → Type 0
 Says [] types = Unit {0}
-Says (n ∷ log) types = (noted types n.0 ≡ Some n.1) × Says log types
+Says (n ∷ log) types = (note_at types n.0 ≡ Some n.1) × Says log types
 
 abbrev pub token : ℕ × TypeTree → ℕ
 token n = n.0
@@ -40,7 +40,7 @@ tokens_in (event ∷ es) = tokens_in es
 
 pub noting_both : (xs ys : Log) (types : List (Option TypeTree)) → noting (xs ++ ys) types ≡ noting ys (noting xs types)
 noting_both [] ys types = refl
-noting_both (x ∷ xs) ys types = noting_both xs ys (replaced types x.0 (Some x.1))
+noting_both (x ∷ xs) ys types = noting_both xs ys (item_replaced types x.0 (Some x.1))
 
 pub says_left : (xs ys : Log) (types : List (Option TypeTree)) → Says (xs ++ ys) types → Says xs types
 says_left [] ys types h = tt
@@ -102,14 +102,14 @@ pub logged_so : {es : List Event} {P Q : Walk → Type 0} {w v : Walk} → Logge
 logged_so a f = record { log = a.log; types = a.types; tokens = a.tokens; still = a.still; holds = λ z h. f z (a.holds z h) }
 
 -- the type is noted at the token
-pub logged_one : (own : ℕ) (c : Construct) (t : TypeTree) (w v : Walk) → v.types ≡ replaced w.types own (Some t) → rest v ≡ rest w
-    → Logged (Value own c ∷ []) (λ z. noted z.types own ≡ Some t) w v
+pub logged_one : (own : ℕ) (c : Construct) (t : TypeTree) (w v : Walk) → v.types ≡ item_replaced w.types own (Some t) → rest v ≡ rest w
+    → Logged (Value own c ∷ []) (λ z. note_at z.types own ≡ Some t) w v
 logged_one own c t w v e l = record { log = (own, t) ∷ []; types = e; tokens = refl; still = l; holds = λ z h. h.0 }
 
 -- the last look at a construct, before which no type was noted
-pub looked_logs : (own : ℕ) (c : Construct) (l : Looked) (w v : Walk) → v.types ≡ w.types → rest v ≡ rest w
-    → Gives (looked own l v) (λ d u. Logged (Value own c ∷ []) (λ z. noted z.types own ≡ Some d.ctype) w u)
-looked_logs own c l w v e k = looks own l v (λ d h. logged_one own c d.ctype w _ (ap (λ ts. replaced ts own (Some d.ctype)) e) k)
+pub looked_logs : (own : ℕ) (c : Construct) (l : OperandOrFault) (w v : Walk) → v.types ≡ w.types → rest v ≡ rest w
+    → Gives (operand_noted own l v) (λ d u. Logged (Value own c ∷ []) (λ z. note_at z.types own ≡ Some d.ctype) w u)
+looked_logs own c l w v e k = looks own l v (λ d h. logged_one own c d.ctype w _ (ap (λ ts. item_replaced ts own (Some d.ctype)) e) k)
 
 -- what is told of a part where it goes on
 gives_in : {A : Type 0} (Q : A → Walk → Type 0) (B : FaultKind → ℕ → Type 0) (m : Walked A) → TellsIn Q B m → GivesIn Q m
@@ -159,17 +159,17 @@ are_apart (Struct ∷ es) h = are_apart es h.1
 are_apart (Names name ∷ es) h = are_apart es h.1
 are_apart (Defines ∷ es) h = are_apart es h.1
 
-stays : (log : Log) (types : List (Option TypeTree)) (k : ℕ) → (Has k (map token log) → ⊥) → noted (noting log types) k ≡ noted types k
+stays : (log : Log) (types : List (Option TypeTree)) (k : ℕ) → (Has k (map token log) → ⊥) → note_at (noting log types) k ≡ note_at types k
 stays [] types k h = refl
 stays (n ∷ log) types k h =
-    stays log (replaced types n.0 (Some n.1)) k (λ i. h (inr i)) ∙ noted_other types n.0 k (Some n.1) (λ e. h (inl (sym e)))
+    stays log (item_replaced types n.0 (Some n.1)) k (λ i. h (inr i)) ∙ noted_other types n.0 k (Some n.1) (λ e. h (inl (sym e)))
 
 says_all : (log : Log) (types : List (Option TypeTree)) → AreApart (map token log) → ((k : ℕ) → Has k (map token log) → k < length types)
     → Says log (noting log types)
 says_all [] types h less = tt
 says_all (n ∷ log) types h less = (
-  stays log (replaced types n.0 (Some n.1)) n.0 h.0 ∙ noted_same types n.0 n.1 (less n.0 (inl refl)),
-  says_all log (replaced types n.0 (Some n.1)) h.1 (λ k i. omega (arith, less k (inr i), length_replaced types n.0 (Some n.1))),
+  stays log (item_replaced types n.0 (Some n.1)) n.0 h.0 ∙ noted_same types n.0 n.1 (less n.0 (inl refl)),
+  says_all log (item_replaced types n.0 (Some n.1)) h.1 (λ k i. omega (arith, less k (inr i), length_replaced types n.0 (Some n.1))),
 )
 
 pub log_stands : (es : List Event) (log : Log) (types : List (Option TypeTree)) → map token log ≡ tokens_in es → Once es

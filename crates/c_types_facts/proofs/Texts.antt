@@ -10,7 +10,7 @@ use Rattle.c_types_rules.specs.TypeTree.{TypeTree}
 use Rattle.c_types.specs.Answers.{declared_at, place_at, variable_at, variable_of}
 use Rattle.c_types.specs.Fault.{ends_with, last_fault, walk_tree}
 use Rattle.c_types_expressions.specs.declared.walk.Walk.{Walk}
-use Rattle.c_types_expressions.specs.Words.{beginning, Walked, Fine, Done}
+use Rattle.c_types_expressions.specs.Words.{empty_walk, Walked, Fine, Done}
 use Rattle.c_types_faults.specs.Events.{events_of}
 use Rattle.c_types_faults.specs.Scopes.{scopes_of, start_of}
 use Rattle.c_types_faults.proofs.Leaving.{Left}
@@ -32,10 +32,10 @@ ends_same (Some f) w = record { by = tt }
 
 abbrev Told : SourceTree → Walk → Type 0
 Told t v = (after : Context) × (Files after (shown v)
-    × ((n : ℕ) × Filed n (events_of t) (λ z own. ItemsTyped z 0 empty_context t.items after own) (beginning (length t.lines)) v))
+    × ((n : ℕ) × Filed n (events_of t) (λ z own. ItemsTyped z 0 empty_context t.items after own) (empty_walk (length t.lines)) v))
 
 text_logs : (t : SourceTree) → Gives (walk_tree t) (λ (d : Done) v. Told t v)
-text_logs t = and_then (items_log t.items 0 empty_context (beginning (length t.lines)) (begins (length t.lines)) refl) (λ d w p.
+text_logs t = and_then (items_log t.items 0 empty_context (empty_walk (length t.lines)) (begins (length t.lines)) refl) (λ d w p.
     weaker (ends_same (last_fault (length t.lines) w) w) (λ e v q. subst (Told t) (sym q) p))
 
 given : {A : Type 0} {Q : A → Walk → Type 0} {m : Walked A} {a : A} {v : Walk} → Gives m Q → m ≡ Fine a v → Q a v

@@ -16,14 +16,14 @@ use Rattle.c_types_expressions.specs.declared.names.ScopeEntry.{ScopeEntry}
 use Rattle.c_types_expressions.specs.declared.names.ScopeEntry.TheVariants as entry
 use Rattle.c_types_expressions.specs.declared.walk.FunctionEntry.{FunctionEntry}
 use Rattle.c_types_expressions.specs.declared.walk.Walk.{Walk}
-use Rattle.c_types_expressions.specs.Words.{is_name_taken, Done, replaced, with_variable}
+use Rattle.c_types_expressions.specs.Words.{is_name_taken, Done, item_replaced, with_variable}
 use Rattle.c_types_walk.specs.Declarators.{declared_type, is_open}
-use Rattle.c_types_walk.specs.Initialisers.{cells_of_string, completes, listed_type, valued, walk_initial}
+use Rattle.c_types_walk.specs.Initialisers.{cells_of_string, type_or_fault, listed_type, type_by_expression, walk_initial}
 use Rattle.c_types_walk.specs.StatementWalk.{walk_closed, walk_declaration, walk_open, walk_start, walk_starts, walk_typed, with_declared_type}
 use Rattle.c_types_laws.proofs.Leading.{either, refused}
 use Rattle.c_types_faults.specs.Events.{Event, declaration_events, expr_events, exprs_events, initial_events, start_events, starts_events}
 use Rattle.c_types_faults.specs.Known.{Entity, Known, Object}
-use Rattle.c_types_faults.specs.Context.{Context, Declared, counting, declare, declared_in, known}
+use Rattle.c_types_faults.specs.Context.{Context, Declared, global_cells_added, name_declared, declared_in, known_identifiers}
 use Rattle.c_types_faults.specs.Declarators.{DeclaresAs}
 use Rattle.c_types_faults.specs.Declarations.{DeclarationGives, VariableGives, VariablesGive}
 use Rattle.c_types_faults.proofs.Bounds.{declared_is}
@@ -39,7 +39,7 @@ use Rattle.c_types_facts.proofs.Logs.{Logged, Rest, both, logged_here, rest, tol
 
 -- initialisers
 
-completes_still : (own : ℕ) (o : Option TypeTree) (w : Walk) → Gives (completes own o w) (λ u v. v ≡ w)
+completes_still : (own : ℕ) (o : Option TypeTree) (w : Walk) → Gives (type_or_fault own o w) (λ u v. v ≡ w)
 completes_still own None w = record { by = tt }
 completes_still own (Some t) w = record { by = refl }
 
@@ -53,7 +53,7 @@ initial_logs : (k : Known) (global : Bool) (of : TypeTree) (x : Option InitialTr
     → Gives (walk_initial global of x w) (λ u v. (shown v ≡ shown w) × Logged (parts_of x) (λ z. InitialTyped z k x) w v)
 initial_logs k global of None w g = record { by = (refl, logged_here w) }
 initial_logs k global of (Some (s.Value value)) w g = and_then (expr_logs k value w g) (λ x v p.
-    weaker (completes_still (first_token value) (valued global of value x (cells_of_string value)) v)
+    weaker (completes_still (first_token value) (type_by_expression global of value x (cells_of_string value)) v)
     (λ u y q. subst (λ r. (shown r ≡ shown w) × Logged (expr_events value) (λ z. InitialTyped z k (Some (s.Value value))) w r) (sym q) (p.0.1, p.1)))
 initial_logs k global of (Some (s.Braced own items comma)) w g = and_then (exprs_logs k items [] w g) (λ xs v p.
     weaker (completes_still own (listed_type global items xs of) v)
@@ -68,8 +68,8 @@ set_last (x ∷ xs) t u = ap (λ l. x ∷ l) (set_last xs t u)
 inside : (xs : List TypeTree) (t : TypeTree) → nat_lt (length xs) (length (xs ++ t ∷ [])) ≡ true
 inside xs t = grind (arith, nat_tests, length-append xs (t ∷ []))
 
-replaced_last : (xs : List TypeTree) (t u : TypeTree) (i : ℕ) → i ≡ length xs → replaced (xs ++ t ∷ []) i u ≡ xs ++ u ∷ []
-replaced_last xs t u i h = ap (λ n. replaced (xs ++ t ∷ []) n u) h ∙ rw (inside xs t) (set_last xs t u)
+replaced_last : (xs : List TypeTree) (t u : TypeTree) (i : ℕ) → i ≡ length xs → item_replaced (xs ++ t ∷ []) i u ≡ xs ++ u ∷ []
+replaced_last xs t u i h = ap (λ n. item_replaced (xs ++ t ∷ []) n u) h ∙ rw (inside xs t) (set_last xs t u)
 
 -- what a declared variable adds
 pub record Started (global : Bool) (base : TypeTree) (c : Context) (x : StartTree) (w v : Walk) : Type 0 where
@@ -80,7 +80,7 @@ pub record Started (global : Bool) (base : TypeTree) (c : Context) (x : StartTre
   pub names : v.names ≡ entry.Declares x.declarator.name (meaning.Variable (length w.variables)) ∷ w.names
   pub grown : Grown global (start_events x)
       (λ z own. (own ≡ record { token = x.declarator.name_token; of = of } ∷ [])
-      × InitialTyped z (known (declare x.declarator.name (Object first) c)) x.initial) w v
+      × InitialTyped z (known_identifiers (name_declared x.declarator.name (Object first) c)) x.initial) w v
 
 parts_are : (equal : ℕ) (o : Option InitialTree) → tokens_in (parts_of o) ≡ tokens_in (initial_events equal o)
 parts_are equal None = refl
@@ -104,12 +104,12 @@ module _ (global : Bool) (base : TypeTree) (x : StartTree) (c : Context) (w : Wa
   open_starts : (t : TypeTree) → DeclaresAs x.declarator base t → Gives (walk_open global x t w) Starts
   open_starts t h =
       let one : Walk = with_name t w in
-      let g : Agreed (known (declare name (Object t) c)) (shown one) =
-      agreed (subst (Knows (declare name (Object t) c)) (sym (variable_shown global x.declarator.name_token name t w)) (object_knows name t k)) in
-      and_then (initial_logs (known (declare name (Object t) c)) global t x.initial one g) (λ u v p.
+      let g : Agreed (known_identifiers (name_declared name (Object t) c)) (shown one) =
+      agreed (subst (Knows (name_declared name (Object t) c)) (sym (variable_shown global x.declarator.name_token name t w)) (object_knows name t k)) in
+      and_then (initial_logs (known_identifiers (name_declared name (Object t) c)) global t x.initial one g) (λ u v p.
       and_then (sized_still global x.token u v) (λ d r q.
       let declared : (with_declared_type (length w.variables) u r).declared_types ≡ w.declared_types ++ u ∷ [] =
-      ap (λ (y : Rest). replaced y.declared (length w.variables) u) (q.same ∙ p.1.still)
+      ap (λ (y : Rest). item_replaced y.declared (length w.variables) u) (q.same ∙ p.1.still)
       ∙ replaced_last w.declared_types t u (length w.variables) (sym k.count) in
       record {
         by = record {
@@ -128,11 +128,11 @@ module _ (global : Bool) (base : TypeTree) (x : StartTree) (c : Context) (w : Wa
   closed_starts : (t : TypeTree) → DeclaresAs x.declarator base t → Gives (walk_closed global x t w) Starts
   closed_starts t h = and_then (both (told (sized_tells global x.token t c w k)) (sized_still global x.token t w)) (λ d v p.
       let n : ℕ = cells_of c.structs t in
-      let kv : Knows (counting global n c) (shown v) = subst (Knows (counting global n c)) (sym p.0.1) (grown_knows global n k) in
+      let kv : Knows (global_cells_added global n c) (shown v) = subst (Knows (global_cells_added global n c)) (sym p.0.1) (grown_knows global n k) in
       let one : Walk = with_name t v in
-      let k1 : Knows (declare name (Object t) (counting global n c)) (shown one) =
-      subst (Knows (declare name (Object t) (counting global n c))) (sym (variable_shown global x.declarator.name_token name t v)) (object_knows name t kv) in
-      and_then (initial_logs (known (declare name (Object t) c)) global t x.initial one
+      let k1 : Knows (name_declared name (Object t) (global_cells_added global n c)) (shown one) =
+      subst (Knows (name_declared name (Object t) (global_cells_added global n c))) (sym (variable_shown global x.declarator.name_token name t v)) (object_knows name t kv) in
+      and_then (initial_logs (known_identifiers (name_declared name (Object t) c)) global t x.initial one
       (subst (λ z. Agreed z (shown one)) (known_counted global n name t c) (agreed k1)))
       (λ u z q. record {
         by = record {
@@ -173,15 +173,15 @@ module _ (global : Bool) (base : TypeTree) (x : StartTree) (c : Context) (w : Wa
   type_is : (v : Walk) (after : Context) → VariableGives global base c x after → Behind after w v → (d : Started global base c x w v)
       → declared_in name after.scope ≡ Some (Object d.of)
   type_is v after (new, (t, (u, h))) b d =
-      let last : Context = declare name (Object u) (counting global (cells_of c.structs u) c) in
+      let last : Context = name_declared name (Object u) (global_cells_added global (cells_of c.structs u) c) in
       let kn : Knows last (shown v) = subst (λ z. Knows z (shown v)) h.4 b.knows in
       let at : slice_get v.declared_types (length w.variables) ≡ Some u =
       object_at v.declared_types v.functions (length v.variables) (length v.functions) (length w.variables) v.names w.names u
-      (counting global (cells_of c.structs u) c).scope (counting global (cells_of c.structs u) c).outer d.names kn.names in
+      (global_cells_added global (cells_of c.structs u) c).scope (global_cells_added global (cells_of c.structs u) c).outer d.names kn.names in
       let own : slice_get v.declared_types (length w.variables) ≡ Some d.of =
       ap (λ ts. slice_get ts (length w.variables)) d.declared ∙ ap (λ n. slice_get (w.declared_types ++ d.of ∷ []) n) (sym k.count)
       ∙ get_last w.declared_types d.of in
-      ap (λ (y : Context). declared_in name y.scope) h.4 ∙ declared_here (Object u) (counting global (cells_of c.structs u) c).scope
+      ap (λ (y : Context). declared_in name y.scope) h.4 ∙ declared_here (Object u) (global_cells_added global (cells_of c.structs u) c).scope
       ∙ ap (λ y. Some (Object y)) (same_Some u d.of (sym at ∙ own))
 
   abbrev OneTyped : Context → Walk → List Typed → Type 0
@@ -214,7 +214,7 @@ variables_log global base (x ∷ xs) c w k = and_then (variable_logs global base
 pub declaration_logs : (global : Bool) (d : DeclarationTree) (c : Context) (w : Walk) → Knows c (shown w)
     → Gives (walk_declaration global d w) (λ (e : Done) v. (after : Context)
     × ((DeclarationGives global c d after × Behind after w v) × Grown global (declaration_events d) (λ z own. DeclarationTyped z global c d after own) w v))
-declaration_logs global d c w k = and_then (told (base_tells (known c) d.base w (agreed k))) (λ of v p.
+declaration_logs global d c w k = and_then (told (base_tells (known_identifiers c) d.base w (agreed k))) (λ of v p.
     weaker (subst (λ y. Gives (walk_starts global of d.starts v) (λ (e : Done) u. (after : Context)
     × ((VariablesGive global of c d.starts after × Behind after y u)
     × Grown global (starts_events d.starts) (λ z own. VariablesTyped z global of c d.starts after own) y u)))

@@ -6,7 +6,7 @@ use Rattle.c_syntax.specs.StatementTree as s
 use Rattle.c_types_rules.specs.TypeTree.{TypeTree}
 use Rattle.c_types_expressions.specs.declared.walk.Walk.{Walk}
 use Rattle.c_types_faults.specs.Known.{Known, Object}
-use Rattle.c_types_faults.specs.Context.{Context, declare, declared_in, inner, known}
+use Rattle.c_types_faults.specs.Context.{Context, name_declared, declared_in, inner_context, known_identifiers}
 use Rattle.c_types_faults.specs.Declarators.{DeclaresAs}
 use Rattle.c_types_faults.specs.Declarations.{VariableGives}
 use Rattle.c_types_faults.specs.Types.{IsBase}
@@ -31,7 +31,7 @@ module _ (w : Walk) where
   -- of the declarator (6.2.1p7).
   abbrev pub VariableTyped : Bool → TypeTree → Context → StartTree → Context → TypeTree → Type 0
   VariableTyped global base c x after of = VariableGives global base c x after × ((declared_in x.declarator.name after.scope ≡ Some (Object of))
-      × ((t : TypeTree) × (DeclaresAs x.declarator base t × InitialTyped (known (declare x.declarator.name (Object t) c)) x.initial)))
+      × ((t : TypeTree) × (DeclaresAs x.declarator base t × InitialTyped (known_identifiers (name_declared x.declarator.name (Object t) c)) x.initial)))
 
   -- from one context to the next, with these variables
   abbrev pub VariablesTyped : Bool → TypeTree → Context → List StartTree → Context → List Typed → Type 0
@@ -40,27 +40,27 @@ module _ (w : Walk) where
       × (VariablesTyped global base next xs after rest × (own ≡ record { token = x.declarator.name_token; of = of } ∷ rest)))))
 
   abbrev pub DeclarationTyped : Bool → Context → DeclarationTree → Context → List Typed → Type 0
-  DeclarationTyped global c d after own = (base : TypeTree) × (IsBase (known c) d.base base × VariablesTyped global base c d.starts after own)
+  DeclarationTyped global c d after own = (base : TypeTree) × (IsBase (known_identifiers c) d.base base × VariablesTyped global base c d.starts after own)
 
   abbrev pub StartTyped : Context → ForStartTree → Context → List Typed → Type 0
   StartTyped c (s.Declares d) after own = DeclarationTyped false c d after own
-  StartTyped c (s.Computes x) after own = PartTyped (known c) x × ((after ≡ c) × (own ≡ []))
+  StartTyped c (s.Computes x) after own = PartTyped (known_identifiers c) x × ((after ≡ c) × (own ≡ []))
 
   abbrev mutual
     pub StatementTyped : Context → StatementTree → List Typed → Type 0
-    StatementTyped c (s.Block token entries) own = EntriesTyped (inner c) entries own
+    StatementTyped c (s.Block token entries) own = EntriesTyped (inner_context c) entries own
     StatementTyped c (s.Empty token) own = own ≡ []
-    StatementTyped c (s.Expr token x) own = WholeTyped w (known c) x × (own ≡ [])
-    StatementTyped c (s.If token condition first) own = ExprTyped w (known c) condition × StatementTyped c first own
-    StatementTyped c (s.IfElse token condition first second) own = ExprTyped w (known c) condition × ((a : List Typed) × ((b : List Typed)
+    StatementTyped c (s.Expr token x) own = WholeTyped w (known_identifiers c) x × (own ≡ [])
+    StatementTyped c (s.If token condition first) own = ExprTyped w (known_identifiers c) condition × StatementTyped c first own
+    StatementTyped c (s.IfElse token condition first second) own = ExprTyped w (known_identifiers c) condition × ((a : List Typed) × ((b : List Typed)
         × (StatementTyped c first a × (StatementTyped c second b × (own ≡ a ++ b)))))
-    StatementTyped c (s.While token condition body) own = ExprTyped w (known c) condition × StatementTyped c body own
-    StatementTyped c (s.Do token body condition) own = StatementTyped c body own × ExprTyped w (known c) condition
+    StatementTyped c (s.While token condition body) own = ExprTyped w (known_identifiers c) condition × StatementTyped c body own
+    StatementTyped c (s.Do token body condition) own = StatementTyped c body own × ExprTyped w (known_identifiers c) condition
     -- a `for` is a scope (6.8.5p5)
     StatementTyped c (s.For token start condition step body) own = (d : Context) × ((a : List Typed) × ((b : List Typed)
-        × (StartTyped (inner c) start d a × (PartTyped (known d) condition × (PartTyped (known d) step
+        × (StartTyped (inner_context c) start d a × (PartTyped (known_identifiers d) condition × (PartTyped (known_identifiers d) step
         × (StatementTyped d body b × (own ≡ a ++ b)))))))
-    StatementTyped c (s.Return token value) own = PartTyped (known c) value × (own ≡ [])
+    StatementTyped c (s.Return token value) own = PartTyped (known_identifiers c) value × (own ≡ [])
     StatementTyped c (s.Break token) own = own ≡ []
     StatementTyped c (s.Continue token) own = own ≡ []
 

@@ -13,7 +13,7 @@ use Rattle.c_meaning.specs.Words.{Signature, computed_type, signature_of}
 use Rattle.sites.specs.Table.{defined_by, functions_of}
 use Rattle.c_types.specs.Answers.{type_at}
 use Rattle.c_types_faults.specs.Events.{construct_at, events_of}
-use Rattle.c_types_faults.specs.Context.{Context, empty_context, inner}
+use Rattle.c_types_faults.specs.Context.{Context, empty_context, inner_context}
 use Rattle.c_types_faults.specs.Functions.{Formal, FunctionGives, Names, PrototypeGives, with_formals}
 use Rattle.c_types_faults.specs.Items.{ItemGives}
 use Rattle.c_types_facts.specs.Statements.{DeclarationTyped, EntriesTyped, Typed}
@@ -29,9 +29,9 @@ abbrev pub typed_param : Option ParamName → TypeTree → List Typed
 typed_param None of = []
 typed_param (Some n) of = record { token = n.token; of = of } ∷ []
 
-abbrev pub parameters : List Param → List Formal → List Typed
-parameters (p ∷ ps) (f ∷ fs) = typed_param p.name f.of ++ parameters ps fs
-parameters ps fs = []
+abbrev pub parameter_variables : List Param → List Formal → List Typed
+parameter_variables (p ∷ ps) (f ∷ fs) = typed_param p.name f.of ++ parameter_variables ps fs
+parameter_variables ps fs = []
 
 -- of a function of this type, with these variables, the parameters first
 abbrev pub signature : List StructType → FunctionType → List Typed → Signature
@@ -45,7 +45,7 @@ module _ (w : Walk) where
   -- the parameters and the body of the definition with this number
   abbrev pub BodyTyped : ℕ → List ℕ → List Param → FunctionType → List Formal → EntryList → Context → List Typed → Type 0
   BodyTyped number name ps f formals body c own = (next : Context) × (Names name f c next × ((locals : List Typed)
-      × (EntriesTyped w (with_formals formals (inner next)) body locals × ((own ≡ parameters ps formals ++ locals)
+      × (EntriesTyped w (with_formals formals (inner_context next)) body locals × ((own ≡ parameter_variables ps formals ++ locals)
       × (signature_of w (slice_get w.definitions number) ≡ Some (signature w.structs f own))))))
 
   abbrev pub ItemTyped : ℕ → Context → ItemTree → Context → List Typed → Type 0

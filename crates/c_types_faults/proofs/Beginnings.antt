@@ -14,17 +14,17 @@ use Rattle.c_types_rules.specs.declared.fault.FaultKind.{FaultKind}
 use Rattle.c_types_rules.specs.declared.fault.FaultKind.TheVariants as fault
 use Rattle.c_types_rules.specs.declared.layout.StructType.{StructType}
 use Rattle.c_types_rules.specs.declared.operand.Operand.{Operand}
-use Rattle.c_types_rules.specs.Words.{TypeTree, Void, Char, Int, Unsigned, Pointer, Array, Struct, assignable, is_scalar, is_complete}
+use Rattle.c_types_rules.specs.Words.{TypeTree, Char, Array, is_assignable, is_scalar, is_complete}
 use Rattle.c_types_expressions.specs.declared.walk.Walk.{Walk}
 use Rattle.c_types_expressions.specs.Words.{string_cells, Walked}
-use Rattle.c_types_walk.specs.Initialisers.{all_initialise, cells_of_string, completes, expressed, initialises, is_constant, is_number, known_length, listed_type}
-use Rattle.c_types_walk.specs.Initialisers.{spelled, takes_items, valued, walk_initial}
+use Rattle.c_types_walk.specs.Initialisers.{all_initialise, cells_of_string, type_or_fault, type_if_initialised, is_scalar_initialiser, is_constant, is_number, known_length, listed_type}
+use Rattle.c_types_walk.specs.Initialisers.{type_by_string, takes_items, type_by_expression, walk_initial}
 use Rattle.c_types_laws.proofs.Ruled.{accepts}
 use Rattle.c_types_faults.specs.Known.{Known}
 use Rattle.c_types_faults.specs.Exprs.{AreOperands}
 use Rattle.c_types_faults.specs.Initialisers.{AllInitialise, Completes, InitialBreaks, Initialises, IsConstant, IsConstantIfGlobal, IsNumberTree, Lists, Measures, ObjectBegins}
 use Rattle.c_types_faults.specs.Initialisers.{Spells, SpellsIn}
-use Rattle.c_types_faults.proofs.Bounds.{none_some}
+use Rattle.base_lists.proofs.Options.{none_is_some}
 use Rattle.c_types_faults.proofs.Exprs.{expr_tells, exprs_tells}
 use Rattle.c_types_faults.proofs.Fitting.{accepts_back, if_false, if_true, three_true}
 use Rattle.c_types_faults.proofs.Telling.{Agreed, Tells, and_then, shown, weaker}
@@ -83,25 +83,25 @@ length_back known given size (inl h) = if_true (known == 0) given known (eq-eqb 
 length_back known given size (inr h) = if_false (known == 0) given known (is_not_zero known (known == 0) refl h.0) ∙ sym h.2
 
 module _ (global : Bool) where
-  initialises_is : (of : TypeTree) (value : ExprTree) (x : Operand) → initialises global of value x ≡ true → Initialises global of value x
+  initialises_is : (of : TypeTree) (value : ExprTree) (x : Operand) → is_scalar_initialiser global of value x ≡ true → Initialises global of value x
   initialises_is of value x h =
-      let k = three_and (is_scalar of) (assignable of x) (not global || is_constant value) h in (k.0, accepts of x k.1, kept_is global value k.2)
+      let k = three_and (is_scalar of) (is_assignable of x) (not global || is_constant value) h in (k.0, accepts of x k.1, kept_is global value k.2)
 
-  initialises_back : (of : TypeTree) (value : ExprTree) (x : Operand) → Initialises global of value x → initialises global of value x ≡ true
-  initialises_back of value x h = three_true (is_scalar of) (assignable of x) (not global || is_constant value) h.0 (accepts_back of x h.1)
+  initialises_back : (of : TypeTree) (value : ExprTree) (x : Operand) → Initialises global of value x → is_scalar_initialiser global of value x ≡ true
+  initialises_back of value x h = three_true (is_scalar of) (is_assignable of x) (not global || is_constant value) h.0 (accepts_back of x h.1)
       (kept_back global value h.2)
 
   all_is : (of : TypeTree) (items : ExprList) (xs : List Operand) → all_initialise global of items xs ≡ true → AllInitialise global of items xs
   all_is of e.no_exprs xs h = tt
   all_is of (e.more_exprs value rest) [] h = absurd (false≢true h)
   all_is of (e.more_exprs value rest) (x ∷ xs) h =
-      let k = and_parts (initialises global of value x) (all_initialise global of rest xs) h in (initialises_is of value x k.0, all_is of rest xs k.1)
+      let k = and_parts (is_scalar_initialiser global of value x) (all_initialise global of rest xs) h in (initialises_is of value x k.0, all_is of rest xs k.1)
 
   all_back : (of : TypeTree) (items : ExprList) (xs : List Operand) → AllInitialise global of items xs → all_initialise global of items xs ≡ true
   all_back of e.no_exprs xs h = refl
   all_back of (e.more_exprs value rest) [] h = absurd h
   all_back of (e.more_exprs value rest) (x ∷ xs) h =
-      and_from (initialises global of value x) (all_initialise global of rest xs) (initialises_back of value x h.0) (all_back of rest xs h.1)
+      and_from (is_scalar_initialiser global of value x) (all_initialise global of rest xs) (initialises_back of value x h.0) (all_back of rest xs h.1)
 
   list_by : (b : Bool) (element : TypeTree) (size : ℕ) (items : ExprList) (xs : List Operand) (u : TypeTree)
       → (is_scalar element && (takes_items size (length xs) && all_initialise global element items xs)) ≡ b
@@ -137,16 +137,16 @@ module _ (global : Bool) where
   lists_back of items xs u h = absurd h
 
   -- a value
-  express_by : (b : Bool) (of u : TypeTree) (value : ExprTree) (x : Operand) → initialises global of value x ≡ b → (if b then Some of else None) ≡ Some u
+  express_by : (b : Bool) (of u : TypeTree) (value : ExprTree) (x : Operand) → is_scalar_initialiser global of value x ≡ b → (if b then Some of else None) ≡ Some u
       → ObjectBegins global of value x u
   express_by true of u value x e h = inr (initialises_is of value x e, sym (same_Some of u h))
   express_by false of u value x e h = absurd (cc)
 
-  expressed_is : (of u : TypeTree) (value : ExprTree) (x : Operand) → expressed global of value x ≡ Some u → ObjectBegins global of value x u
-  expressed_is of u value x h = express_by (initialises global of value x) of u value x refl h
+  expressed_is : (of u : TypeTree) (value : ExprTree) (x : Operand) → type_if_initialised global of value x ≡ Some u → ObjectBegins global of value x u
+  expressed_is of u value x h = express_by (is_scalar_initialiser global of value x) of u value x refl h
 
-  expressed_back : (of u : TypeTree) (value : ExprTree) (x : Operand) → (Initialises global of value x × (u ≡ of)) → expressed global of value x ≡ Some u
-  expressed_back of u value x h = if_true (initialises global of value x) (Some of) None (initialises_back of value x h.0) ∙ ap Some (sym h.1)
+  expressed_back : (of u : TypeTree) (value : ExprTree) (x : Operand) → (Initialises global of value x × (u ≡ of)) → type_if_initialised global of value x ≡ Some u
+  expressed_back of u value x h = if_true (is_scalar_initialiser global of value x) (Some of) None (initialises_back of value x h.0) ∙ ap Some (sym h.1)
 
   spell_by : (b c : Bool) (cells known : ℕ) (u : TypeTree) → (known == 0) ≡ b → (b || nat_le cells (known + 1)) ≡ c
       → (if c then Some (Array Char (if b then cells else known)) else None) ≡ Some u → SpellsIn cells (Array Char known) u
@@ -154,7 +154,7 @@ module _ (global : Bool) where
   spell_by false true cells known u e f h = inr (not_zero known e, is_most cells (known + 1) f, sym (same_Some (Array Char known) u h))
   spell_by b false cells known u e f h = absurd (cc)
 
-  spells_back : (cells known : ℕ) (u : TypeTree) → SpellsIn cells (Array Char known) u → spelled cells (Array Char known) ≡ Some u
+  spells_back : (cells known : ℕ) (u : TypeTree) → SpellsIn cells (Array Char known) u → type_by_string cells (Array Char known) ≡ Some u
   spells_back cells known u (inl h) =
       if_true (known == 0 || nat_le cells (known + 1)) (Some (Array Char (known_length known cells))) None
       (or_left (known == 0) (nat_le cells (known + 1)) (eq-eqb known 0 h.0))
@@ -165,29 +165,29 @@ module _ (global : Bool) where
       ∙ ap (λ n. Some (Array Char n)) (if_false (known == 0) cells known (is_not_zero known (known == 0) refl h.0)) ∙ ap Some (sym h.2)
 
   string_is : (token : ℕ) (parts : List (List ℕ)) (of u : TypeTree) (x : Operand)
-      → valued global of (e.Strings token parts) x (Some (string_cells parts)) ≡ Some u → ObjectBegins global of (e.Strings token parts) x u
+      → type_by_expression global of (e.Strings token parts) x (Some (string_cells parts)) ≡ Some u → ObjectBegins global of (e.Strings token parts) x u
   string_is token parts (Array Char size) u x h = inl (spell_by (size == 0) (size == 0 || nat_le (string_cells parts) (size + 1)) (string_cells parts) size u
       refl refl h)
   string_is token parts of u x h = expressed_is of u (e.Strings token parts) x h
 
   string_back : (token : ℕ) (parts : List (List ℕ)) (of u : TypeTree) (x : Operand) → ObjectBegins global of (e.Strings token parts) x u
-      → valued global of (e.Strings token parts) x (Some (string_cells parts)) ≡ Some u
+      → type_by_expression global of (e.Strings token parts) x (Some (string_cells parts)) ≡ Some u
   string_back token parts (Array Char size) u x (inl h) = spells_back (string_cells parts) size u h
   string_back token parts (Array Char size) u x (inr h) = absurd (false≢true h.0.0)
   string_back token parts of u x (inl h) = absurd h
   string_back token parts of u x (inr h) = expressed_back of u (e.Strings token parts) x h
 
-  begins_is : (value : ExprTree) (of u : TypeTree) (x : Operand) → valued global of value x (cells_of_string value) ≡ Some u → ObjectBegins global of value x u
+  begins_is : (value : ExprTree) (of u : TypeTree) (x : Operand) → type_by_expression global of value x (cells_of_string value) ≡ Some u → ObjectBegins global of value x u
   begins_is (e.Strings token parts) of u x h = string_is token parts of u x h
   begins_is value of u x h = expressed_is of u value x h
 
-  pub begins_back : (value : ExprTree) (of u : TypeTree) (x : Operand) → ObjectBegins global of value x u → valued global of value x (cells_of_string value) ≡ Some u
+  pub begins_back : (value : ExprTree) (of u : TypeTree) (x : Operand) → ObjectBegins global of value x u → type_by_expression global of value x (cells_of_string value) ≡ Some u
   begins_back (e.Strings token parts) of u x h = string_back token parts of u x h
   begins_back value of u x (inl h) = absurd h
   begins_back value of u x (inr h) = expressed_back of u value x h
 
 completes_tells : {P : TypeTree → Type 0} {B : FaultKind → ℕ → Type 0} (token : ℕ) (o : Option TypeTree) (w : Walk) → ((u : TypeTree) → o ≡ Some u → P u)
-    → (o ≡ None → B fault.Initialiser token) → Tells (completes token o w) (λ u v. P u × (shown v ≡ shown w)) B
+    → (o ≡ None → B fault.Initialiser token) → Tells (type_or_fault token o w) (λ u v. P u × (shown v ≡ shown w)) B
 completes_tells token None w f g = record { by = g refl }
 completes_tells token (Some u) w f g = record { by = (f u refl, refl) }
 
@@ -199,9 +199,9 @@ module _ (k : Known) (global : Bool) where
       → Tells (walk_initial global of initial w) (λ u v. Completes k global of initial u × (shown v ≡ shown w)) (InitialBreaks k global of initial)
   initial_tells of None w g = record { by = (refl, refl) }
   initial_tells of (Some (s.Value value)) w g = and_then (expr_tells k value w g) (λ j at h. inl h) (λ x v p.
-      onwards (completes_tells {P = ObjectBegins global of value x} (first_token value) (valued global of value x (cells_of_string value)) v
+      onwards (completes_tells {P = ObjectBegins global of value x} (first_token value) (type_by_expression global of value x (cells_of_string value)) v
       (λ u h. begins_is global value of u x h)
-      (λ h. inr (x, (p.0, (refl, refl, λ u b. none_some (valued global of value x (cells_of_string value)) u h (begins_back global value of u x b))))))
+      (λ h. inr (x, (p.0, (refl, refl, λ u b. none_is_some (type_by_expression global of value x (cells_of_string value)) u h (begins_back global value of u x b))))))
       (λ u z q. ((x, (p.0, q.0)), q.1 ∙ p.1)))
   initial_tells of (Some (s.Braced token items comma)) w g = and_then (exprs_tells k items [] w g) (λ j at h. inl h) (λ xs v p.
       onwards (completes_tells {P = Lists global of items xs} token (listed_type global items xs of) v
@@ -210,7 +210,7 @@ module _ (k : Known) (global : Bool) where
         xs,
         (
           subst (AreOperands k items) (sym p.0.1.0) p.0.1.1,
-          (refl, refl, λ u b. none_some (listed_type global items xs of) u h (lists_back global of items xs u b)),
+          (refl, refl, λ u b. none_is_some (listed_type global items xs of) u h (lists_back global of items xs u b)),
         ),
       )))
       (λ u z q. ((xs, (subst (AreOperands k items) (sym p.0.1.0) p.0.1.1, q.0)), q.1 ∙ p.1)))

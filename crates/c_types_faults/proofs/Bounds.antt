@@ -10,12 +10,10 @@ use Rattle.c_syntax.specs.declared.parts.Constant.{Constant}
 use Rattle.c_syntax.specs.declared.parts.Declarator.{Declarator}
 use Rattle.c_types_rules.specs.Words.{TypeTree, Array, most_cells}
 use Rattle.c_types_expressions.specs.ExprWalk.{with_stars}
-use Rattle.c_types_walk.specs.Declarators.{array_of, bounded, bounded_by, declared_type, first_bounded, is_bound, with_bounds}
+use Rattle.c_types_walk.specs.Declarators.{array_of, bounded_array, bounded_by, declared_type, first_bounded, is_bound, with_bounds}
 use Rattle.c_types_faults.specs.Declarators.{DeclaresAs, HasBounds, HasFirstBounds, IsArray, IsFirstArray, IsLength}
 use Rattle.c_types_faults.proofs.Fitting.{if_true}
-
-pub none_some : {A : Type 0} {B : Type 0} (o : Option A) (x : A) → o ≡ None → o ≡ Some x → B
-none_some o x h k = absurd (cc)
+use Rattle.base_lists.proofs.Options.{none_is_some}
 
 abbrev InRange : ℤ → ℕ → Type 0
 InRange v n = (v ≡ pos n) × (1 ≤ n) × (n ≤ most_cells)
@@ -47,15 +45,15 @@ bound_is None inner of t P f h = absurd (cc)
 bound_is (Some c) None of t P f h = absurd (cc)
 bound_is (Some c) (Some v) of t P f h = (v, (f v refl, array_is (is_bound c) c v t refl h))
 
-bounded_is : (bs : List Bound) (of t : TypeTree) → bounded bs of ≡ Some t → HasBounds bs of t
+bounded_is : (bs : List Bound) (of t : TypeTree) → bounded_array bs of ≡ Some t → HasBounds bs of t
 bounded_is [] of t h = sym (same_Some of t h)
-bounded_is (b ∷ bs) of t h = bound_is b.length (bounded bs of) of t (HasBounds bs of) (λ v k. bounded_is bs of v k) h
+bounded_is (b ∷ bs) of t h = bound_is b.length (bounded_array bs of) of t (HasBounds bs of) (λ v k. bounded_is bs of v k) h
 
 bound_back : (o : Option Constant) (inner t : TypeTree) → IsArray o inner t → bounded_by o (Some inner) ≡ Some t
 bound_back None inner t h = absurd h
 bound_back (Some c) inner t h = array_back c inner t h
 
-bounded_back : (bs : List Bound) (of t : TypeTree) → HasBounds bs of t → bounded bs of ≡ Some t
+bounded_back : (bs : List Bound) (of t : TypeTree) → HasBounds bs of t → bounded_array bs of ≡ Some t
 bounded_back [] of t h = ap Some (sym h)
 bounded_back (b ∷ bs) of t (inner, h) = ap (bounded_by b.length) (bounded_back bs of inner h.0) ∙ bound_back b.length inner t h.1
 
@@ -72,7 +70,7 @@ first_back (Some c) inner t h = array_back c inner t h
 
 firsts_is : (bs : List Bound) (of t : TypeTree) → with_bounds bs of ≡ Some t → HasFirstBounds bs of t
 firsts_is [] of t h = sym (same_Some of t h)
-firsts_is (b ∷ bs) of t h = first_is b.length (bounded bs of) t (HasBounds bs of) (λ v k. bounded_is bs of v k) h
+firsts_is (b ∷ bs) of t h = first_is b.length (bounded_array bs of) t (HasBounds bs of) (λ v k. bounded_is bs of v k) h
 
 firsts_back : (bs : List Bound) (of t : TypeTree) → HasFirstBounds bs of t → with_bounds bs of ≡ Some t
 firsts_back [] of t h = ap Some (sym h)
@@ -85,4 +83,4 @@ pub declared_back : (d : Declarator) (of t : TypeTree) → DeclaresAs d of t →
 declared_back d of t h = firsts_back d.bounds (with_stars d.stars of) t h
 
 pub no_type : (d : Declarator) (of : TypeTree) → declared_type d of ≡ None → (t : TypeTree) → DeclaresAs d of t → ⊥
-no_type d of h t k = none_some (declared_type d of) t h (declared_back d of t k)
+no_type d of h t k = none_is_some (declared_type d of) t h (declared_back d of t k)

@@ -7,12 +7,12 @@ use Rattle.std.proofs.lemmas.Option.{same_Some}
 use Rattle.c_types.proofs.Replaced.{noted_other, noted_same}
 use Rattle.c_types_rules.specs.declared.library.Library.{Library}
 use Rattle.c_types_rules.specs.Library.{library_named}
-use Rattle.c_types.specs.Answers.{noted}
+use Rattle.c_types.specs.Answers.{note_at}
 use Rattle.c_types.proofs.Noted.{Gives}
 use Rattle.c_types_expressions.specs.declared.names.Meaning.{Meaning}
 use Rattle.c_types_expressions.specs.declared.names.Meaning.TheVariants as meaning
 use Rattle.c_types_expressions.specs.declared.walk.Walk.{Walk}
-use Rattle.c_types_expressions.specs.Words.{found, meaning_of, or_before, Walked, Fine, Faulty, replaced}
+use Rattle.c_types_expressions.specs.Words.{declared_meaning, meaning_of, or_before, Walked, Fine, Faulty, item_replaced}
 use Rattle.c_types_rules.specs.declared.fault.FaultKind.{FaultKind}
 use Rattle.c_types_faults.specs.Events.{Calls, Selects, Other, Event, Value, Initialises, Variable, Opens, Closes, Struct, Names, Defines}
 use Rattle.c_types_faults.proofs.Noting.{FoundAs, Named, found_is, path_onward, step_onward}
@@ -49,21 +49,21 @@ has_right token name (Defines ∷ xs) ys h = has_right token name xs ys h
 
 -- what is noted at a token was noted before, or is of a call there
 abbrev pub CallsIn : List Event → List (Option ℕ) → List (Option ℕ) → List (List ℕ) → Type 0
-CallsIn es before after functions = (token index : ℕ) → noted after token ≡ Some index → (noted before token ≡ Some index)
+CallsIn es before after functions = (token index : ℕ) → note_at after token ≡ Some index → (note_at before token ≡ Some index)
     ⊎ ((name : List ℕ) × (HasCall token name es × (slice_get functions index ≡ Some name)))
 
-noted_either : (notes : List (Option ℕ)) (own index token i : ℕ) → noted (replaced notes own (Some index)) token ≡ Some i
-    → (noted notes token ≡ Some i) ⊎ ((own ≡ token) × (index ≡ i))
+noted_either : (notes : List (Option ℕ)) (own index token i : ℕ) → note_at (item_replaced notes own (Some index)) token ≡ Some i
+    → (note_at notes token ≡ Some i) ⊎ ((own ≡ token) × (index ≡ i))
 noted_either notes own index token i h = ⊎_elim (λ e. within e (cases_lt own (length notes)))
     (λ n. inl (sym (noted_other notes own token (Some index) n) ∙ h)) (cases_eq own token)
   where
-    unchanged : (b : Bool) → nat_lt own (length notes) ≡ b → (b ≡ true → ⊥) → replaced notes own (Some index) ≡ notes
+    unchanged : (b : Bool) → nat_lt own (length notes) ≡ b → (b ≡ true → ⊥) → item_replaced notes own (Some index) ≡ notes
     unchanged true e f = absurd (f refl)
     unchanged false e f = ap (λ b. if b then slice_set notes own (Some index) else notes) e
 
-    within : own ≡ token → ((own < length notes) ⊎ (length notes ≤ own)) → (noted notes token ≡ Some i) ⊎ ((own ≡ token) × (index ≡ i))
-    within e (inl l) = inr (e, same_Some index i (sym (noted_same notes own index l) ∙ ap (noted (replaced notes own (Some index))) e ∙ h))
-    within e (inr l) = inl (ap (λ ns. noted ns token) (sym (unchanged (nat_lt own (length notes)) refl
+    within : own ≡ token → ((own < length notes) ⊎ (length notes ≤ own)) → (note_at notes token ≡ Some i) ⊎ ((own ≡ token) × (index ≡ i))
+    within e (inl l) = inr (e, same_Some index i (sym (noted_same notes own index l) ∙ ap (note_at (item_replaced notes own (Some index))) e ∙ h))
+    within e (inr l) = inl (ap (λ ns. note_at ns token) (sym (unchanged (nat_lt own (length notes)) refl
         (λ t. omega (arith, l, ltb-true own (length notes) t)))) ∙ h)
 
 pub function_by : (o : Option Meaning) (l : Option Library) (index : ℕ) → or_before o (option_map meaning.Library l) ≡ Some (meaning.Function index)
@@ -74,7 +74,7 @@ function_by (Some m) l index h = h
 
 module _ (a b : View) where
   no_call : (es : List Event) → b.calls ≡ a.calls → CallsIn es a.calls b.calls b.functions
-  no_call es e token index h = inl (ap (λ ns. noted ns token) (sym e) ∙ h)
+  no_call es e token index h = inl (ap (λ ns. note_at ns token) (sym e) ∙ h)
 
   one_call : (own : ℕ) (name : List ℕ) → Named a → (m : Option Meaning) → meaning_of name a.names ≡ m → CalledAs own m a b
       → CallsIn (Value own (Calls name) ∷ []) a.calls b.calls b.functions
@@ -85,10 +85,10 @@ module _ (a b : View) where
       inl (k.0, refl),
       ap (λ (v : View). slice_get v.functions index) c.1 ∙ n.by name index
           (subst (λ m. FoundAs name m a.names)
-          (function_by (found name a.names) (library_named name) i e ∙ ap (λ j. Some (meaning.Function j)) k.1) (found_is name a.names n.own)),
+          (function_by (declared_meaning name a.names) (library_named name) i e ∙ ap (λ j. Some (meaning.Function j)) k.1) (found_is name a.names n.own)),
     ),
   ))
-      (noted_either a.calls own i token index (ap (λ (v : View). noted v.calls token) (sym c.1) ∙ h))
+      (noted_either a.calls own i token index (ap (λ (v : View). note_at v.calls token) (sym c.1) ∙ h))
   one_call own name n m e c = absurd c
 
   step_calls : (event : Event) → Named a → Step event a b → CallsIn (event ∷ []) a.calls b.calls b.functions

@@ -11,11 +11,11 @@ use Rattle.c_types_faults.proofs.Calling.{function_by}
 use Rattle.c_syntax.specs.Words.{SourceTree, IsShaped}
 use Rattle.c_types_rules.specs.declared.library.Library.{Library}
 use Rattle.c_types_rules.specs.Library.{library_named}
-use Rattle.c_types.specs.Answers.{function_at, noted}
+use Rattle.c_types.specs.Answers.{function_at, note_at}
 use Rattle.c_types.specs.Fault.{walk_tree}
 use Rattle.c_types.specs.Numbers.{function_of}
 use Rattle.c_types.proofs.FunctionLaws.{functions_numbered}
-use Rattle.c_types_expressions.specs.Words.{Fine, found, is_reserved, meaning_of, or_before}
+use Rattle.c_types_expressions.specs.Words.{Fine, declared_meaning, is_reserved, meaning_of, or_before}
 use Rattle.c_types_expressions.specs.declared.names.Meaning.{Meaning}
 use Rattle.c_types_expressions.specs.declared.names.Meaning.TheVariants as meaning
 use Rattle.c_types_expressions.specs.declared.walk.Walk.{Walk}
@@ -92,26 +92,26 @@ module _ (s : SourceTree) (z : Walk) (shaped : IsShaped s) (w : walk_tree s ≡ 
   known : Known (functions_of s) (view z)
   known = text_known s z shaped w
 
-  defined_as : (number place : ℕ) → slice_get (map function_of z.definitions) number ≡ Some place → noted z.defined_as place ≡ Some number
+  defined_as : (number place : ℕ) → slice_get (map function_of z.definitions) number ≡ Some place → note_at z.defined_as place ≡ Some number
   defined_as number place h = (functions_numbered s z w place number).1 (sym (slice_get-map function_of z.definitions number) ∙ h)
 
-  as_defined : (number place : ℕ) → noted z.defined_as place ≡ Some number → slice_get (map function_of z.definitions) number ≡ Some place
+  as_defined : (number place : ℕ) → note_at z.defined_as place ≡ Some number → slice_get (map function_of z.definitions) number ≡ Some place
   as_defined number place h = slice_get-map function_of z.definitions number ∙ (functions_numbered s z w place number).0 h
 
   -- a declared function has the number of its name
   number_at : (name : List ℕ) (index : ℕ) → slice_get (view z).functions index ≡ Some name
-      → noted z.defined_as index ≡ name_number name 0 (functions_of s)
+      → note_at z.defined_as index ≡ name_number name 0 (functions_of s)
   number_at name index h = by (name_number name 0 (functions_of s)) refl
     where
-      none : (o : Option ℕ) → noted z.defined_as index ≡ o → name_number name 0 (functions_of s) ≡ None → o ≡ None
+      none : (o : Option ℕ) → note_at z.defined_as index ≡ o → name_number name 0 (functions_of s) ≡ None → o ≡ None
       none None e g = refl
       none (Some number) e g =
           let d : (other : List ℕ) × ((slice_get (functions_of s) number ≡ Some other) × (slice_get (view z).functions index ≡ Some other)) =
           defined_name (view z).functions (view z).definitions (functions_of s) number index known.defines (as_defined number index e) in
           absurd (none_is name 0 (functions_of s) number g (d.1.0 ∙ sym d.1.1 ∙ h))
 
-      by : (o : Option ℕ) → name_number name 0 (functions_of s) ≡ o → noted z.defined_as index ≡ o
-      by None e = none (noted z.defined_as index) refl e
+      by : (o : Option ℕ) → name_number name 0 (functions_of s) ≡ o → note_at z.defined_as index ≡ o
+      by None e = none (note_at z.defined_as index) refl e
       by (Some number) e =
           let g : (i : ℕ) × ((number ≡ 0 + i) × (slice_get (functions_of s) i ≡ Some name)) = number_is name 0 (functions_of s) number e in
           let d : (place : ℕ) × ((slice_get (view z).definitions g.0 ≡ Some place) × (slice_get (view z).functions place ≡ Some name)) =
@@ -133,12 +133,12 @@ module _ (s : SourceTree) (z : Walk) (shaped : IsShaped s) (w : walk_tree s ≡ 
 
   module _ (k : ℕ) where
     abbrev defined_number : Option ℕ → Option ℕ
-    defined_number o = option_and_then (λ place. noted z.defined_as place) o
+    defined_number o = option_and_then (λ place. note_at z.defined_as place) o
 
-    unchanged : (c : Construct) (f : Found k c (events_of s) (before s) (view z)) → f.to.calls ≡ f.from.calls → noted z.functions_at k ≡ None
+    unchanged : (c : Construct) (f : Found k c (events_of s) (before s) (view z)) → f.to.calls ≡ f.from.calls → note_at z.functions_at k ≡ None
     unchanged c f same =
         (stays k f.after f.to (view z) (alone_after f left.once) f.rest).calls
-        ∙ ap (λ xs. noted xs k) same
+        ∙ ap (λ xs. note_at xs k) same
         ∙ (stays k f.before (before s) f.from (alone_before f left.once) f.path).calls
         ∙ none_noted n k
 
@@ -151,17 +151,17 @@ module _ (s : SourceTree) (z : Walk) (shaped : IsShaped s) (w : walk_tree s ≡ 
         ap defined_number (unchanged (Calls name) f (ap (λ (v : View). v.calls) c.1))
         ∙ sym (reserved_none name (⊎_elim
         (λ h. absurd (subst (λ m. FoundAs name m f.from.names) h (found_is name f.from.names named.own))) (λ h. h)
-        (library_by (found name f.from.names) (library_named name) function e)))
+        (library_by (declared_meaning name f.from.names) (library_named name) function e)))
       where
         named : Named f.from
         named = (path_onward f.before (before s) f.from f.path).named (record { by = λ name index h. absurd h; own = tt })
     called_at name f among (Some (meaning.Function index)) e c =
         ap defined_number
-        ((stays k f.after f.to (view z) (alone_after f left.once) f.rest).calls ∙ ap (λ (v : View). noted v.calls k) c.1
+        ((stays k f.after f.to (view z) (alone_after f left.once) f.rest).calls ∙ ap (λ (v : View). note_at v.calls k) c.1
         ∙ noted_same f.from.calls k index
         (omega (arith, (left.within k among).1, (path_onward f.before (before s) f.from f.path).calls, length-replicate {A = Option ℕ} n None)))
         ∙ number_at name index ((path_onward (Value k (Calls name) ∷ f.after) f.from (view z) (f.to, (f.notes, f.rest))).functions index name
-        (named.by name index (subst (λ m. FoundAs name m f.from.names) (function_by (found name f.from.names) (library_named name) index e)
+        (named.by name index (subst (λ m. FoundAs name m f.from.names) (function_by (declared_meaning name f.from.names) (library_named name) index e)
         (found_is name f.from.names named.own))))
       where
         named : Named f.from

@@ -11,7 +11,7 @@ use Rattle.c_types_expressions.specs.Words.{is_here, is_name_taken, is_reserved,
 use Rattle.c_types_walk.specs.Declarators.{declared_type, is_open}
 use Rattle.c_types_walk.specs.StatementWalk.{walk_closed, walk_declaration, walk_open, walk_start, walk_starts, walk_typed}
 use Rattle.c_types_faults.specs.Known.{Entity, Object}
-use Rattle.c_types_faults.specs.Context.{Context, counting, declare, known, IsTaken}
+use Rattle.c_types_faults.specs.Context.{Context, global_cells_added, name_declared, known_identifiers, IsTaken}
 use Rattle.c_types_faults.specs.Declarators.{DeclaresAs}
 use Rattle.c_types_faults.specs.Initialisers.{Completes, InitialBreaks}
 use Rattle.c_types_faults.specs.Declarations.{BeginningBreaks, DeclarationBreaks, DeclarationGives, ElementBreaks, Finishes, GlobalsHaveRoom, IsObject, IsOpen, SizeBreaks}
@@ -39,11 +39,11 @@ behind_on ps m b = record { knows = b.knows; names = joined b.names ps; moves = 
 pub behind_here : {c : Context} {w : Walk} → Knows c (shown w) → Behind c w w
 behind_here {w = w} k = record { knows = k; names = []; moves = still (shown w) (shown w) refl }
 
-room_declared : (global : Bool) (name : List ℕ) (x : Entity) (c : Context) (t : TypeTree) → GlobalsHaveRoom global c t → GlobalsHaveRoom global (declare name x c) t
+room_declared : (global : Bool) (name : List ℕ) (x : Entity) (c : Context) (t : TypeTree) → GlobalsHaveRoom global c t → GlobalsHaveRoom global (name_declared name x c) t
 room_declared true name x c t h = h
 room_declared false name x c t h = tt
 
-room_around : (global : Bool) (name : List ℕ) (x : Entity) (c : Context) (t : TypeTree) → GlobalsHaveRoom global (declare name x c) t → GlobalsHaveRoom global c t
+room_around : (global : Bool) (name : List ℕ) (x : Entity) (c : Context) (t : TypeTree) → GlobalsHaveRoom global (name_declared name x c) t → GlobalsHaveRoom global c t
 room_around true name x c t h = h
 room_around false name x c t h = tt
 
@@ -53,7 +53,7 @@ module _ (global : Bool) (base : TypeTree) (x : StartTree) (c : Context) (w : Wa
 
   -- what is broken behind a declarator that gives this type
   abbrev BehindBreaks : TypeTree → FaultKind → ℕ → Type 0
-  BehindBreaks t j at = InitialBreaks (known (declare x.declarator.name (Object t) c)) global t x.initial j at
+  BehindBreaks t j at = InitialBreaks (known_identifiers (name_declared x.declarator.name (Object t) c)) global t x.initial j at
       ⊎ ((u : TypeTree) × (Finishes global base c x t u × ((at ≡ x.token) × (j ≡ fault.Object) × SizeBreaks global base c u)))
 
   open_tells : (t : TypeTree) → (IsTaken x.declarator.name c → ⊥) → DeclaresAs x.declarator base t → IsOpen t x.initial
@@ -62,9 +62,9 @@ module _ (global : Bool) (base : TypeTree) (x : StartTree) (c : Context) (w : Wa
       let name : List ℕ = x.declarator.name in
       let one : Walk = with_variable global x.declarator.name_token name t w in
       let is : shown one ≡ with_object name t (shown w) = variable_shown global x.declarator.name_token name t w in
-      let k1 : Knows (declare name (Object t) c) (shown one) = subst (Knows (declare name (Object t) c)) (sym is) (object_knows name t k) in
-      and_then (initial_tells (known (declare name (Object t) c)) global t x.initial one (agreed k1)) (λ j at b. inl b) (λ u v p.
-      and_then (sized_tells global x.token u (declare name (Object t) c) v (subst (Knows (declare name (Object t) c)) (sym p.1) k1))
+      let k1 : Knows (name_declared name (Object t) c) (shown one) = subst (Knows (name_declared name (Object t) c)) (sym is) (object_knows name t k) in
+      and_then (initial_tells (known_identifiers (name_declared name (Object t) c)) global t x.initial one (agreed k1)) (λ j at b. inl b) (λ u v p.
+      and_then (sized_tells global x.token u (name_declared name (Object t) c) v (subst (Knows (name_declared name (Object t) c)) (sym p.1) k1))
       (λ j at f. inr (u, (p.0, (f.0, f.1, ⊎_elim (λ n. inl n) (λ n. inr (λ r. n (room_declared global name (Object t) c u r))) f.2))))
       (λ d r q.
       let n : ℕ = cells_of c.structs u in
@@ -73,12 +73,12 @@ module _ (global : Bool) (base : TypeTree) (x : StartTree) (c : Context) (w : Wa
       ∙ completed_grown global n (length w.variables) u (with_object name t (shown w)) in
       record {
         by = (
-          declare name (Object u) (counting global n c),
+          name_declared name (Object u) (global_cells_added global n c),
           (
             (new, (t, (u, (h, p.0, q.0, room_around global name (Object t) c u q.2, refl)))),
             record {
               knows = subst (λ z. Knows z (completed (length w.variables) u (shown r))) (sym (declare_counted global n name u c))
-                  (subst (Knows (counting global n (declare name (Object u) c))) (sym all) (grown_knows global n (completed_knows name t u k)));
+                  (subst (Knows (global_cells_added global n (name_declared name (Object u) c))) (sym all) (grown_knows global n (completed_knows name t u k)));
               names = (name, length w.variables) ∷ [];
               moves = subst (Moves ((name, length w.variables) ∷ []) (shown w)) (sym all)
                   (moves_then (moves_then (object_moves name t (shown w)) (completed_moves (length w.variables) u (with_object name t (shown w))))
@@ -118,17 +118,17 @@ module _ (global : Bool) (base : TypeTree) (x : StartTree) (c : Context) (w : Wa
             (type_breaks t h (size_breaks t o f.2)),
       ))
       (λ d v p.
-      let kv : Knows (counting global n c) (shown v) = subst (Knows (counting global n c)) (sym p.1) (grown_knows global n k) in
+      let kv : Knows (global_cells_added global n c) (shown v) = subst (Knows (global_cells_added global n c)) (sym p.1) (grown_knows global n k) in
       let one : Walk = with_variable global x.declarator.name_token name t v in
       let is : shown one ≡ with_object name t (shown v) = variable_shown global x.declarator.name_token name t v in
-      let k1 : Knows (declare name (Object t) (counting global n c)) (shown one) =
-      subst (Knows (declare name (Object t) (counting global n c))) (sym is) (object_knows name t kv) in
-      and_then (initial_tells (known (declare name (Object t) c)) global t x.initial one
+      let k1 : Knows (name_declared name (Object t) (global_cells_added global n c)) (shown one) =
+      subst (Knows (name_declared name (Object t) (global_cells_added global n c))) (sym is) (object_knows name t kv) in
+      and_then (initial_tells (known_identifiers (name_declared name (Object t) c)) global t x.initial one
       (subst (λ z. Agreed z (shown one)) (known_counted global n name t c) (agreed k1)))
       (λ j at b. inr (t, ((new, h, fits_closed t p.0 p.2), inl b)))
       (λ u z q. record {
         by = (
-          declare name (Object t) (counting global n c),
+          name_declared name (Object t) (global_cells_added global n c),
           (
             (
               new,
@@ -138,8 +138,8 @@ module _ (global : Bool) (base : TypeTree) (x : StartTree) (c : Context) (w : Wa
                   t,
                   (
                     h,
-                    subst (Completes (known (declare name (Object t) c)) global t x.initial)
-                        (completes_same (known (declare name (Object t) c)) global c.structs t x.initial u q.0 p.0.0) q.0,
+                    subst (Completes (known_identifiers (name_declared name (Object t) c)) global t x.initial)
+                        (completes_same (known_identifiers (name_declared name (Object t) c)) global c.structs t x.initial u q.0 p.0.0) q.0,
                     p.0,
                     p.2,
                     refl,
@@ -148,7 +148,7 @@ module _ (global : Bool) (base : TypeTree) (x : StartTree) (c : Context) (w : Wa
               ),
             ),
             record {
-              knows = subst (Knows (declare name (Object t) (counting global n c))) (sym q.1) k1;
+              knows = subst (Knows (name_declared name (Object t) (global_cells_added global n c))) (sym q.1) k1;
               names = joined ((name, length v.variables) ∷ []) [];
               moves = moves_then (subst (Moves [] (shown w)) (sym p.1) (grown_moves global n (shown w)))
                   (subst (Moves ((name, length v.variables) ∷ []) (shown v)) (sym (q.1 ∙ is)) (object_moves name t (shown v)));
@@ -202,6 +202,6 @@ variables_tell global base (x ∷ xs) c w k = and_then (variable_tells global ba
 pub declaration_tells : (global : Bool) (d : DeclarationTree) (c : Context) (w : Walk) → Knows c (shown w)
     → Tells (walk_declaration global d w) (λ (e : Done) v. (after : Context) × (DeclarationGives global c d after × Behind after w v))
     (DeclarationBreaks global c d)
-declaration_tells global d c w k = and_then (base_tells (known c) d.base w (agreed k)) (λ j at h. inl h) (λ of v p.
+declaration_tells global d c w k = and_then (base_tells (known_identifiers c) d.base w (agreed k)) (λ j at h. inl h) (λ of v p.
     weaker (variables_tell global of d.starts c v (subst (λ z. Knows c (shown z)) (sym p.1) k)) (λ j at h. inr (of, (p.0, h)))
     (λ e u q. (q.0, ((of, (p.0, q.1.0)), behind_on [] (still (shown w) (shown v) (ap shown p.1)) q.1.1))))

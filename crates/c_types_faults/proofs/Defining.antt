@@ -1,17 +1,17 @@
 -- In a text without a fault each function of the text that is called is defined.
 use Rattle.std.proofs.Common.{◌⊎◌, inl, inr, ⊎_elim, ◌≡◌, ℕ, zero, suc, ◌+◌, ◌<◌, ◌==◌, refl, ap, subst, sym, ◌∙◌, arith, List, [], ◌∷◌, map, Some, None}
 use Rattle.c_types_faults.proofs.Calling.{function_by}
-use Rattle.std.proofs.Common.{Bool, true, false, length, option_map, ◌-◌}
+use Rattle.std.proofs.Common.{Bool, true, false, length, ◌-◌}
 use Rattle.std.proofs.lemmas.Bool.{eq-eqb, false≢true, eqb-true}
 use Rattle.std.proofs.lemmas.List.{length-replicate}
-use Rattle.std.specs.Prelude.{Option, slice_get, if◌then◌else◌, is_some, unwrap_or}
+use Rattle.std.specs.Prelude.{Option, slice_get, if◌then◌else◌, unwrap_or}
 use Rattle.std.proofs.lemmas.Option.{same_Some}
 use Rattle.c_types.proofs.Replaced.{noted_same}
 use Rattle.c_types_faults.proofs.Calls.{library_by}
 use Rattle.c_syntax.specs.Words.{SourceTree, IsShaped}
 use Rattle.c_types_rules.specs.declared.library.Library.{Library}
 use Rattle.c_types_rules.specs.Words.{library_named, TypeTree}
-use Rattle.c_types.specs.Answers.{noted}
+use Rattle.c_types.specs.Answers.{note_at}
 use Rattle.c_types.specs.Fault.{first_undefined, lacks_definition}
 use Rattle.c_types_expressions.specs.declared.names.Meaning.{Meaning}
 use Rattle.c_types_expressions.specs.declared.names.Meaning.TheVariants as meaning
@@ -19,7 +19,7 @@ use Rattle.c_types_expressions.specs.declared.names.ScopeEntry.{ScopeEntry}
 use Rattle.c_types_expressions.specs.declared.names.ScopeEntry.TheVariants as entry
 use Rattle.c_types_expressions.specs.declared.walk.FunctionEntry.{FunctionEntry}
 use Rattle.c_types_expressions.specs.declared.walk.Walk.{Walk}
-use Rattle.c_types_expressions.specs.Names.{found, meaning_of, or_before}
+use Rattle.c_types_expressions.specs.Names.{declared_meaning, meaning_of}
 use Rattle.c_types_walk.specs.ItemWalk.{is_defined}
 use Rattle.sites.specs.Table.{functions_of}
 use Rattle.c_types_faults.specs.Events.{Construct, Calls, Selects, Other, Event, Value, Initialises, Variable, Opens, Closes, Struct, Names, Defines}
@@ -169,7 +169,7 @@ module _ (t : SourceTree) (z : Walk) (shaped : IsShaped t) (does : ItemsDo t.ite
 
   -- the call of the name is noted at its token
   abbrev IsNotedAt : ℕ → List ℕ → Type 0
-  IsNotedAt token name = (index : ℕ) × ((noted z.functions_at token ≡ Some index) × (is_defined index z.defined_as ≡ is_listed name c.defined))
+  IsNotedAt token name = (index : ℕ) × ((note_at z.functions_at token ≡ Some index) × (is_defined index z.defined_as ≡ is_listed name c.defined))
 
   named_from : (token : ℕ) (name : List ℕ) (f : Found token (Calls name) (events_of t) (before t) (view z)) → Named f.from
   named_from token name f = (path_onward f.before (before t) f.from f.path).named (record { by = λ name index h. absurd h; own = tt })
@@ -183,16 +183,16 @@ module _ (t : SourceTree) (z : Walk) (shaped : IsShaped t) (does : ItemsDo t.ite
       (subst (λ outer. Matches z.declared_types z.functions (length z.variables) (length z.functions) z.names c.scope outer) k.outer k.knows.names) h in
       absurd (false≢true (sym (known.free name p.0 (k.places.named name p.0 p.1)) ∙ ⊎_elim
       (λ r. absurd (subst (λ m. FoundAs name m f.from.names) r (found_is name f.from.names (named_from token name f).own))) (λ r. r)
-      (library_by (found name f.from.names) (library_named name) function e)))
+      (library_by (declared_meaning name f.from.names) (library_named name) function e)))
   called_at token name f among h (Some (meaning.Function index)) e q =
-      let stay : noted z.functions_at token ≡ Some index =
-      (stays token f.after f.to (view z) (alone_after f left.once) f.rest).calls ∙ ap (λ (v : View). noted v.calls token) q.1
+      let stay : note_at z.functions_at token ≡ Some index =
+      (stays token f.after f.to (view z) (alone_after f left.once) f.rest).calls ∙ ap (λ (v : View). note_at v.calls token) q.1
       ∙ noted_same f.from.calls token index
       (omega (arith, (left.within token among).1, (path_onward f.before (before t) f.from f.path).calls, length-replicate {A = Option ℕ} count None)) in
       let is : slice_get (map called_name z.functions) index ≡ Some name =
       (path_onward (Value token (Calls name) ∷ f.after) f.from (view z) (f.to, (f.notes, f.rest))).functions index name
       ((named_from token name f).by name index (subst (λ m. FoundAs name m f.from.names)
-      (function_by (found name f.from.names) (library_named name) index e) (found_is name f.from.names (named_from token name f).own))) in
+      (function_by (declared_meaning name f.from.names) (library_named name) index e) (found_is name f.from.names (named_from token name f).own))) in
       (index, (stay, listed_defined name index z.defined_as c.defined (length z.functions) z.names k.funs (k.places.listed index name is)))
   called_at token name f among h m e q = absurd q
 

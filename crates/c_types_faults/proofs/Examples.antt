@@ -13,7 +13,7 @@ use Rattle.c_syntax.specs.Words.{ItemTree, SourceTree, StatementTree, IsShaped}
 use Rattle.c_syntax.specs.StatementTree as s
 use Rattle.c_types.specs.Answers.{function_at, offset_at, scope_holds}
 use Rattle.c_types.specs.Fault.{known_at_end, walk_tree}
-use Rattle.c_types_expressions.specs.Words.{beginning, Fine}
+use Rattle.c_types_expressions.specs.Words.{empty_walk, Fine}
 use Rattle.c_types_expressions.specs.declared.walk.Walk.{Walk}
 use Rattle.c_types_walk.specs.ItemWalk.{walk_body}
 use Rattle.c_types_walk.specs.StatementWalk.{walk_typed}
@@ -84,7 +84,7 @@ abbrev sample : SourceTree
 sample = record { items = struct_s ∷ global_g ∷ function_f ∷ function_main ∷ []; lines = replicate 68 1 }
 
 abbrev known : Walk
-known = unwrap_or (known_at_end (walk_tree sample)) (beginning 68)
+known = unwrap_or (known_at_end (walk_tree sample)) (empty_walk 68)
 
 sample_walked : walk_tree sample ≡ Fine tt known
 unfolding walk_body walk_typed

@@ -14,15 +14,15 @@ use Rattle.c_types_rules.specs.declared.layout.Member.{Member}
 use Rattle.c_types_rules.specs.declared.layout.StructType.{StructType}
 use Rattle.c_types_rules.specs.declared.operand.Operand.{Operand}
 use Rattle.c_types_rules.specs.TypeTree as t
-use Rattle.c_types_rules.specs.Words.{TypeTree, place_of, value_type, Looked, library_called, cast_to, measured, stepped, chosen, indexed, member_behind}
-use Rattle.c_types_rules.specs.Words.{member_of, sequenced}
+use Rattle.c_types_rules.specs.Words.{TypeTree, place_of, value_type, OperandOrFault, library_called, cast_to, typed_sizeof, typed_increment, typed_conditional, typed_subscript, member_behind}
+use Rattle.c_types_rules.specs.Words.{member_of, typed_comma}
 use Rattle.c_types_rules.specs.Functions as functions
 use Rattle.c_types_expressions.specs.declared.names.Meaning.{Meaning}
 use Rattle.c_types_expressions.specs.declared.names.Meaning.TheVariants as meaning
 use Rattle.c_types_expressions.specs.declared.walk.FunctionEntry.{FunctionEntry}
 use Rattle.c_types_expressions.specs.declared.walk.Walk.{Walk}
-use Rattle.c_types_expressions.specs.Words.{assigning, base_type, binary_of, called_name, chained, compound_of, looked, named, of_function, of_variable}
-use Rattle.c_types_expressions.specs.Words.{prefixed, selected, tagged_type, walk_expr, walk_exprs, walk_links, walk_postfix, with_call, with_stars, found}
+use Rattle.c_types_expressions.specs.Words.{typed_assignment, base_type, binary_of, called_name, typed_chain_operation, compound_of, operand_noted, named_operand, of_function, of_variable}
+use Rattle.c_types_expressions.specs.Words.{typed_prefix_operation, selected_member, tagged_type, walk_expr, walk_exprs, walk_links, walk_postfix, with_call, with_stars, declared_meaning}
 use Rattle.c_types_expressions.specs.Words.{meaning_of, Fine, Faulty}
 use Rattle.c_types_laws.specs.Operands.{Indexes, Joins, Selects, SelectsBehind, Steps}
 use Rattle.c_types_laws.proofs.Ruled.{assigning_is, behind_stays, cast_is, chained_is, chosen_is, indexed_is, measured_is, member_stays, prefixed_is}
@@ -57,7 +57,7 @@ module _ (k : Known) where
   tag_tells token number tag (Some (meaning.Library f)) n w h q = absurd h
 
   pub base_tells : (b : Base) (w : Walk) → Agreed k (shown w) → Tells (base_type b w) (λ t v. IsBase k b t × (v ≡ w)) (BaseBreaks k b)
-  base_tells (base.Struct token tag) w g = tag_tells token 0 tag (found tag w.tags) (k.tags tag) w (g.by.tagged tag) refl
+  base_tells (base.Struct token tag) w g = tag_tells token 0 tag (declared_meaning tag w.tags) (k.tags tag) w (g.by.tagged tag) refl
   base_tells b w g = record { by = (refl, refl) }
 
   -- a name that isn't called
@@ -72,7 +72,7 @@ module _ (k : Known) where
   variable_tells token index name of (Some u) w h = record { by = ((of, (refl, ap place_of (same_Some u of h))), refl) }
 
   name_tells : (token : ℕ) (name : List ℕ) (m : Option Meaning) (x : Option Entity) (w : Walk) → Denotes w.declared_types w.functions m x
-      → Tells (named token m w) (λ d v. IsName name x d × (shown v ≡ shown w)) (λ j at. (at ≡ token) × NameBreaks x j)
+      → Tells (named_operand token m w) (λ d v. IsName name x d × (shown v ≡ shown w)) (λ j at. (at ≡ token) × NameBreaks x j)
   name_tells token name None None w h = record { by = (refl, refl) }
   name_tells token name (Some (meaning.Variable index)) (Some (Object of)) w h =
       variable_tells token index name of (slice_get w.declared_types index) w h
@@ -94,9 +94,9 @@ module _ (k : Known) where
       → Tells (of_function token index o xs w) (λ d v. AsValue (Calls (Some (Function f)) xs) d × (shown v ≡ shown w))
       (λ j at. (at ≡ token) × CallBreaks (Some (Function f)) xs j)
   function_tells token index xs f None w h = absurd h
-  function_tells token index xs f (Some g) w h = looks token (functions.called g.ctype xs) (with_call token index w)
-      (λ d r. (called_is f xs d (ap (λ u. functions.called u xs) (sym h) ∙ r), refl))
-      (λ j r. (refl, called_breaks f xs j (ap (λ u. functions.called u xs) (sym h) ∙ r)))
+  function_tells token index xs f (Some g) w h = looks token (functions.typed_call g.ctype xs) (with_call token index w)
+      (λ d r. (called_is f xs d (ap (λ u. functions.typed_call u xs) (sym h) ∙ r), refl))
+      (λ j r. (refl, called_breaks f xs j (ap (λ u. functions.typed_call u xs) (sym h) ∙ r)))
 
   pub call_tells : (token : ℕ) (xs : List Operand) (m : Option Meaning) (x : Option Entity) (w : Walk) → Denotes w.declared_types w.functions m x
       → Tells (called_name token m xs w) (λ d v. AsValue (Calls x xs) d × (shown v ≡ shown w)) (λ j at. (at ≡ token) × CallBreaks x xs j)
@@ -119,24 +119,24 @@ module _ (k : Known) where
   -- a member that `.` or `->` at the token names
   selected_tells : (P : TypeTree → Type 0) (B : FaultKind → Type 0) (token : ℕ) (place : Bool) (r : Result Member FaultKind) (w : Walk)
       → ((m : Member) → r ≡ Ok m → P m.ctype) → ((j : FaultKind) → r ≡ Err j → B j)
-      → Tells (selected token place r w) (λ d v. AsSelected place P d × (shown v ≡ shown w)) (λ j at. (at ≡ token) × B j)
+      → Tells (selected_member token place r w) (λ d v. AsSelected place P d × (shown v ≡ shown w)) (λ j at. (at ≡ token) × B j)
   selected_tells P B token place (Ok m) w f g = record { by = ((f m refl, refl, refl), refl) }
   selected_tells P B token place (Err j) w f g = record { by = (refl, g j refl) }
 
   -- what a rule says
-  rule_tells : (P : Operand → Type 0) (B : FaultKind → Type 0) (token : ℕ) (r : Looked) (w : Walk) → ((d : Operand) → r ≡ Ok d → P d)
-      → ((j : FaultKind) → r ≡ Err j → B j) → Tells (looked token r w) (λ d v. P d × (shown v ≡ shown w)) (λ j at. (at ≡ token) × B j)
+  rule_tells : (P : Operand → Type 0) (B : FaultKind → Type 0) (token : ℕ) (r : OperandOrFault) (w : Walk) → ((d : Operand) → r ≡ Ok d → P d)
+      → ((j : FaultKind) → r ≡ Err j → B j) → Tells (operand_noted token r w) (λ d v. P d × (shown v ≡ shown w)) (λ j at. (at ≡ token) × B j)
   rule_tells P B token r w f g = looks token r w (λ d h. (f d h, refl)) (λ j h. (refl, g j h))
 
   mutual
     pub expr_tells : (x : ExprTree) (w : Walk) → Agreed k (shown w) → Tells (walk_expr x w) (λ d v. IsOperand k x d × (shown v ≡ shown w)) (Breaks k x)
     expr_tells (e.Comma token operands) w g = and_then (exprs_tells operands [] w g) (λ j at h. inl h) (λ xs v p.
-        looks token (sequenced t.Void xs) v
+        looks token (typed_comma t.Void xs) v
         (λ d r. ((xs, (subst (AreOperands k operands) (sym p.0.1.0) p.0.1.1, sequence_is t.Void xs d r)), p.1))
         (λ j r. let b = sequence_breaks t.Void xs j r in inr (xs, (subst (AreOperands k operands) (sym p.0.1.0) p.0.1.1, (refl, b.0, b.1)))))
     expr_tells (e.Assign token s target value) w g = and_then (expr_tells target w g) (λ j at h. inl h) (λ x v p.
         and_then (expr_tells value v (agrees_on g p.1)) (λ j at h. inr (x, (p.0, inl h))) (λ y u q.
-        looks token (assigning u.structs (compound_of s) x y) u
+        looks token (typed_assignment u.structs (compound_of s) x y) u
         (λ d r. (
           (
             x,
@@ -146,19 +146,19 @@ module _ (k : Known) where
                 p.0,
                 q.0,
                 assigning_is k.structs k.structs (same_structs k.structs) (compound_of s) x y d
-                    (known_rule (λ ss. assigning ss (compound_of s) x y) (Ok d) (agrees_on g (q.1 ∙ p.1)) r),
+                    (known_rule (λ ss. typed_assignment ss (compound_of s) x y) (Ok d) (agrees_on g (q.1 ∙ p.1)) r),
               ),
             ),
           ),
           q.1 ∙ p.1,
         ))
         (λ j r.
-        let b = assign_breaks k.structs (compound_of s) x y j (known_rule (λ ss. assigning ss (compound_of s) x y) (Err j) (agrees_on g (q.1 ∙ p.1)) r) in
+        let b = assign_breaks k.structs (compound_of s) x y j (known_rule (λ ss. typed_assignment ss (compound_of s) x y) (Err j) (agrees_on g (q.1 ∙ p.1)) r) in
         inr (x, (p.0, inr (y, (q.0, (refl, b))))))))
     expr_tells (e.Conditional token condition first second) w g = and_then (expr_tells condition w g) (λ j at h. inl h) (λ c v p.
         and_then (expr_tells first v (agrees_on g p.1)) (λ j at h. inr (c, (p.0, inl h))) (λ x u q.
         and_then (expr_tells second u (agrees_on g (q.1 ∙ p.1))) (λ j at h. inr (c, (p.0, inr (x, (q.0, inl h))))) (λ y z n.
-        looks token (chosen c x y) z
+        looks token (typed_conditional c x y) z
         (λ d r. ((c, (x, (y, (p.0, q.0, n.0, chosen_is k.structs k.structs (same_structs k.structs) c x y d r)))), n.1 ∙ q.1 ∙ p.1))
         (λ j r. inr (c, (p.0, inr (x, (q.0, inr (y, (n.0, (refl, chosen_breaks c x y j r)))))))))))
     expr_tells (e.Chain level first links) w g = and_then (expr_tells first w g) (λ j at h. inl h) (λ x v p.
@@ -169,35 +169,35 @@ module _ (k : Known) where
         (λ d r. ((of, (x, (p.0, q.0, cast_is k.structs k.structs (same_structs k.structs) (with_stars stars of) x d r))), q.1 ∙ ap shown p.1))
         (λ j r. inr (of, (p.0, inr (x, (q.0, (refl, cast_breaks (with_stars stars of) x j r))))))))
     expr_tells (e.Prefix token o operand) w g = and_then (expr_tells operand w g) (λ j at h. inl h) (λ x v p.
-        looks token (prefixed v.structs o x) v
+        looks token (typed_prefix_operation v.structs o x) v
         (λ d r. (
           (
             x,
             (
               p.0,
               prefixed_is k.structs k.structs (same_structs k.structs) o x d
-                  (known_rule (λ ss. prefixed ss o x) (Ok d) (agrees_on g p.1) r),
+                  (known_rule (λ ss. typed_prefix_operation ss o x) (Ok d) (agrees_on g p.1) r),
             ),
           ),
           p.1,
         ))
-        (λ j r. inr (x, (p.0, (refl, prefix_breaks k.structs o x j (known_rule (λ ss. prefixed ss o x) (Err j) (agrees_on g p.1) r))))))
+        (λ j r. inr (x, (p.0, (refl, prefix_breaks k.structs o x j (known_rule (λ ss. typed_prefix_operation ss o x) (Err j) (agrees_on g p.1) r))))))
     expr_tells (e.SizeOfType token b stars) w g = and_then (base_tells b w g) (λ j at h. inl h) (λ of v p.
-        looks token (measured v.structs (with_stars stars of)) v
+        looks token (typed_sizeof v.structs (with_stars stars of)) v
         (λ d r. (
           (
             of,
             (
               p.0,
               measured_is k.structs k.structs (same_structs k.structs) (with_stars stars of) d
-                  (known_rule (λ ss. measured ss (with_stars stars of)) (Ok d) (agrees_on g (ap shown p.1)) r),
+                  (known_rule (λ ss. typed_sizeof ss (with_stars stars of)) (Ok d) (agrees_on g (ap shown p.1)) r),
             ),
           ),
           ap shown p.1,
         ))
         (λ j r.
         let b = measured_breaks k.structs (with_stars stars of) j
-        (known_rule (λ ss. measured ss (with_stars stars of)) (Err j) (agrees_on g (ap shown p.1)) r) in
+        (known_rule (λ ss. typed_sizeof ss (with_stars stars of)) (Err j) (agrees_on g (ap shown p.1)) r) in
         inr (of, (p.0, (refl, b.0, b.1)))))
     expr_tells (e.Postfix primary operators) w g = and_then (expr_tells primary w g) (λ j at h. inl h) (λ x v p.
         weaker (postfix_tells operators x v (agrees_on g p.1)) (λ j at h. inr (x, (p.0, h))) (λ d u q. ((x, (p.0, q.0)), q.1 ∙ p.1)))
@@ -222,10 +222,10 @@ module _ (k : Known) where
     links_tells e.no_links left w g = record { by = (refl, refl) }
     links_tells (e.more_links token s operand rest) left w g = and_then (expr_tells operand w g) (λ j at h. inl h) (λ y v p.
         and_then (rule_tells (AsValue (Joins k.structs (binary_of s) left y)) (Misfits (Joins k.structs (binary_of s) left y)) token
-        (chained v.structs (binary_of s) left y) v
+        (typed_chain_operation v.structs (binary_of s) left y) v
         (λ m r. chained_is k.structs k.structs (same_structs k.structs) (binary_of s) left y m
-        (known_rule (λ ss. chained ss (binary_of s) left y) (Ok m) (agrees_on g p.1) r))
-        (λ j r. chained_breaks k.structs (binary_of s) left y j (known_rule (λ ss. chained ss (binary_of s) left y) (Err j) (agrees_on g p.1) r)))
+        (known_rule (λ ss. typed_chain_operation ss (binary_of s) left y) (Ok m) (agrees_on g p.1) r))
+        (λ j r. chained_breaks k.structs (binary_of s) left y j (known_rule (λ ss. typed_chain_operation ss (binary_of s) left y) (Err j) (agrees_on g p.1) r)))
         (λ j at h. inr (y, (p.0, inl h)))
         (λ m u q. weaker (links_tells rest m u (agrees_on g (q.1 ∙ p.1))) (λ j at h. inr (y, (p.0, inr (m, (q.0, h)))))
         (λ d z n. ((y, (m, (p.0, q.0, n.0))), n.1 ∙ q.1 ∙ p.1))))
@@ -234,9 +234,9 @@ module _ (k : Known) where
         → Tells (walk_postfix operators left w) (λ d v. PostfixGives k left operators d × (shown v ≡ shown w)) (PostfixBreaks k left operators)
     postfix_tells e.no_postfix left w g = record { by = (refl, refl) }
     postfix_tells (e.index token x rest) left w g = and_then (expr_tells x w g) (λ j at h. inl h) (λ y v p.
-        and_then (rule_tells (AsPlace (Indexes k.structs left y)) (Misfits (Indexes k.structs left y)) token (indexed v.structs left y) v
-        (λ m r. indexed_is k.structs k.structs (same_structs k.structs) left y m (known_rule (λ ss. indexed ss left y) (Ok m) (agrees_on g p.1) r))
-        (λ j r. indexed_breaks k.structs left y j (known_rule (λ ss. indexed ss left y) (Err j) (agrees_on g p.1) r)))
+        and_then (rule_tells (AsPlace (Indexes k.structs left y)) (Misfits (Indexes k.structs left y)) token (typed_subscript v.structs left y) v
+        (λ m r. indexed_is k.structs k.structs (same_structs k.structs) left y m (known_rule (λ ss. typed_subscript ss left y) (Ok m) (agrees_on g p.1) r))
+        (λ j r. indexed_breaks k.structs left y j (known_rule (λ ss. typed_subscript ss left y) (Err j) (agrees_on g p.1) r)))
         (λ j at h. inr (y, (p.0, inl h)))
         (λ m u q. weaker (postfix_tells rest m u (agrees_on g (q.1 ∙ p.1))) (λ j at h. inr (y, (p.0, inr (m, (q.0, h)))))
         (λ d z n. ((y, (m, (p.0, q.0, n.0))), n.1 ∙ q.1 ∙ p.1))))
@@ -256,15 +256,15 @@ module _ (k : Known) where
         (λ j at h. inl h)
         (λ m u q. weaker (postfix_tells rest m u (agrees_on g q.1)) (λ j at h. inr (m, (q.0, h))) (λ d z n. ((m, (q.0, n.0)), n.1 ∙ q.1)))
     postfix_tells (e.increment token rest) left w g =
-        and_then (rule_tells (AsValue (Steps k.structs left)) (StepBreaks k.structs left) token (stepped w.structs left) w
-        (λ m r. stepped_is k.structs k.structs (same_structs k.structs) left m (known_rule (λ ss. stepped ss left) (Ok m) g r))
-        (λ j r. stepped_breaks k.structs left j (known_rule (λ ss. stepped ss left) (Err j) g r)))
+        and_then (rule_tells (AsValue (Steps k.structs left)) (StepBreaks k.structs left) token (typed_increment w.structs left) w
+        (λ m r. stepped_is k.structs k.structs (same_structs k.structs) left m (known_rule (λ ss. typed_increment ss left) (Ok m) g r))
+        (λ j r. stepped_breaks k.structs left j (known_rule (λ ss. typed_increment ss left) (Err j) g r)))
         (λ j at h. inl h)
         (λ m u q. weaker (postfix_tells rest m u (agrees_on g q.1)) (λ j at h. inr (m, (q.0, h))) (λ d z n. ((m, (q.0, n.0)), n.1 ∙ q.1)))
     postfix_tells (e.decrement token rest) left w g =
-        and_then (rule_tells (AsValue (Steps k.structs left)) (StepBreaks k.structs left) token (stepped w.structs left) w
-        (λ m r. stepped_is k.structs k.structs (same_structs k.structs) left m (known_rule (λ ss. stepped ss left) (Ok m) g r))
-        (λ j r. stepped_breaks k.structs left j (known_rule (λ ss. stepped ss left) (Err j) g r)))
+        and_then (rule_tells (AsValue (Steps k.structs left)) (StepBreaks k.structs left) token (typed_increment w.structs left) w
+        (λ m r. stepped_is k.structs k.structs (same_structs k.structs) left m (known_rule (λ ss. typed_increment ss left) (Ok m) g r))
+        (λ j r. stepped_breaks k.structs left j (known_rule (λ ss. typed_increment ss left) (Err j) g r)))
         (λ j at h. inl h)
         (λ m u q. weaker (postfix_tells rest m u (agrees_on g q.1)) (λ j at h. inr (m, (q.0, h))) (λ d z n. ((m, (q.0, n.0)), n.1 ∙ q.1)))
 

@@ -18,7 +18,7 @@ use Rattle.c_types_expressions.specs.declared.names.ScopeEntry.{ScopeEntry}
 use Rattle.c_types_expressions.specs.declared.names.ScopeEntry.TheVariants.{Opens, Declares}
 use Rattle.c_types_expressions.specs.declared.walk.FunctionEntry.{FunctionEntry}
 use Rattle.c_types_expressions.specs.declared.walk.Walk.{Walk}
-use Rattle.c_types_expressions.specs.Words.{found, is_here, or_before, replaced}
+use Rattle.c_types_expressions.specs.Words.{declared_meaning, is_here, or_before, item_replaced}
 use Rattle.c_types_walk.specs.ItemWalk.{is_defined}
 use Rattle.c_types_laws.proofs.Declaring.{more_stays}
 use Rattle.c_types_faults.proofs.Noting.{Listed, Named, NoLibrary}
@@ -63,13 +63,13 @@ module _ (types : List TypeTree) (fs : List FunctionEntry) where
   one_found false m x o y h g = g
 
   entry_found : (n name : List ℕ) (d : Declared) (m : Meaning) (rest : List ScopeEntry) (ds : List Declared) → n ≡ d.name → Means types fs m d.entity
-      → Denotes types fs (found name rest) (declared_in name ds) → Denotes types fs (found name (Declares n m ∷ rest)) (declared_in name (d ∷ ds))
+      → Denotes types fs (declared_meaning name rest) (declared_in name ds) → Denotes types fs (declared_meaning name (Declares n m ∷ rest)) (declared_in name (d ∷ ds))
   entry_found n name d m rest ds e h g =
-      subst (λ z. Denotes types fs (or_before (if bytes_eq z name then Some m else None) (found name rest)) (declared_in name (d ∷ ds))) (sym e)
-      (one_found (bytes_eq d.name name) m d.entity (found name rest) (declared_in name ds) h g)
+      subst (λ z. Denotes types fs (or_before (if bytes_eq z name then Some m else None) (declared_meaning name rest)) (declared_in name (d ∷ ds))) (sym e)
+      (one_found (bytes_eq d.name name) m d.entity (declared_meaning name rest) (declared_in name ds) h g)
 
   pub text_found : (vb fb : ℕ) (names : List ScopeEntry) (scope : List Declared) → Matches types fs vb fb names scope [] → (name : List ℕ)
-      → Denotes types fs (found name names) (declared_in name scope)
+      → Denotes types fs (declared_meaning name names) (declared_in name scope)
   text_found vb fb [] [] h name = tt
   text_found vb fb [] (d ∷ ds) h name = absurd h
   text_found vb fb (Opens ∷ rest) [] h name = absurd h
@@ -198,60 +198,60 @@ is_function i j h = cc
 
 module _ (name : List ℕ) (j : ℕ) where
   abbrev FoundBy : Bool → Meaning → List ScopeEntry → Type 0
-  FoundBy b m rest = or_before (if b then Some m else None) (found name rest) ≡ Some (meaning.Function j)
+  FoundBy b m rest = or_before (if b then Some m else None) (declared_meaning name rest) ≡ Some (meaning.Function j)
 
   pub found_below : (ds : List (Option ℕ)) (ns : List (List ℕ)) (bound : ℕ) (names : List ScopeEntry) → IsFlat names
-      → found name names ≡ Some (meaning.Function j) → Funs ds ns bound names → j < bound
+      → declared_meaning name names ≡ Some (meaning.Function j) → Funs ds ns bound names → j < bound
   found_below ds ns bound [] flat e h = absurd (cc)
   found_below ds ns bound (Opens ∷ rest) flat e h = absurd flat
   found_below ds ns bound (Declares n (meaning.Function i) ∷ rest) flat e h =
       by (bytes_eq n name) e (λ k. omega (arith, h.0, found_below ds ns i rest flat k h.3))
     where
-      by : (b : Bool) → FoundBy b (meaning.Function i) rest → (found name rest ≡ Some (meaning.Function j) → j < bound) → j < bound
+      by : (b : Bool) → FoundBy b (meaning.Function i) rest → (declared_meaning name rest ≡ Some (meaning.Function j) → j < bound) → j < bound
       by true e f = subst (λ k. k < bound) (is_function i j e) h.0
       by false e f = f e
   found_below ds ns bound (Declares n (meaning.Variable i) ∷ rest) flat e h = by (bytes_eq n name) e (λ k. found_below ds ns bound rest flat k h)
     where
-      by : (b : Bool) → FoundBy b (meaning.Variable i) rest → (found name rest ≡ Some (meaning.Function j) → j < bound) → j < bound
+      by : (b : Bool) → FoundBy b (meaning.Variable i) rest → (declared_meaning name rest ≡ Some (meaning.Function j) → j < bound) → j < bound
       by true e f = absurd (cc)
       by false e f = f e
   found_below ds ns bound (Declares n (meaning.Library q) ∷ rest) flat e h = by (bytes_eq n name) e (λ k. found_below ds ns bound rest flat k h)
     where
-      by : (b : Bool) → FoundBy b (meaning.Library q) rest → (found name rest ≡ Some (meaning.Function j) → j < bound) → j < bound
+      by : (b : Bool) → FoundBy b (meaning.Library q) rest → (declared_meaning name rest ≡ Some (meaning.Function j) → j < bound) → j < bound
       by true e f = absurd (cc)
       by false e f = f e
   found_below ds ns bound (Declares n (meaning.Struct i) ∷ rest) flat e h = by (bytes_eq n name) e (λ k. found_below ds ns bound rest flat k h)
     where
-      by : (b : Bool) → FoundBy b (meaning.Struct i) rest → (found name rest ≡ Some (meaning.Function j) → j < bound) → j < bound
+      by : (b : Bool) → FoundBy b (meaning.Struct i) rest → (declared_meaning name rest ≡ Some (meaning.Function j) → j < bound) → j < bound
       by true e f = absurd (cc)
       by false e f = f e
 
   -- whether it is defined
   pub listed_is : (ds : List (Option ℕ)) (ns : List (List ℕ)) (bound : ℕ) (names : List ScopeEntry) → IsFlat names
-      → found name names ≡ Some (meaning.Function j) → Funs ds ns bound names → is_defined j ds ≡ is_listed name ns
+      → declared_meaning name names ≡ Some (meaning.Function j) → Funs ds ns bound names → is_defined j ds ≡ is_listed name ns
   listed_is ds ns bound [] flat e h = absurd (cc)
   listed_is ds ns bound (Opens ∷ rest) flat e h = absurd flat
   listed_is ds ns bound (Declares n (meaning.Function i) ∷ rest) flat e h = by (bytes_eq n name) refl e (λ k. listed_is ds ns i rest flat k h.3)
     where
       by : (b : Bool) → bytes_eq n name ≡ b → FoundBy b (meaning.Function i) rest
-          → (found name rest ≡ Some (meaning.Function j) → is_defined j ds ≡ is_listed name ns) → is_defined j ds ≡ is_listed name ns
+          → (declared_meaning name rest ≡ Some (meaning.Function j) → is_defined j ds ≡ is_listed name ns) → is_defined j ds ≡ is_listed name ns
       by true q e f = ap (λ k. is_defined k ds) (sym (is_function i j e)) ∙ h.1 ∙ ap (λ m. is_listed m ns) ((bytes_eq-Decides n name).0 q)
       by false q e f = f e
   listed_is ds ns bound (Declares n (meaning.Variable i) ∷ rest) flat e h = by (bytes_eq n name) e (λ k. listed_is ds ns bound rest flat k h)
     where
-      by : (b : Bool) → FoundBy b (meaning.Variable i) rest → (found name rest ≡ Some (meaning.Function j) → is_defined j ds ≡ is_listed name ns)
+      by : (b : Bool) → FoundBy b (meaning.Variable i) rest → (declared_meaning name rest ≡ Some (meaning.Function j) → is_defined j ds ≡ is_listed name ns)
           → is_defined j ds ≡ is_listed name ns
       by true e f = absurd (cc)
       by false e f = f e
   listed_is ds ns bound (Declares n (meaning.Library q) ∷ rest) flat e h = by (bytes_eq n name) e (λ k. listed_is ds ns bound rest flat k h)
     where
-      by : (b : Bool) → FoundBy b (meaning.Library q) rest → (found name rest ≡ Some (meaning.Function j) → is_defined j ds ≡ is_listed name ns)
+      by : (b : Bool) → FoundBy b (meaning.Library q) rest → (declared_meaning name rest ≡ Some (meaning.Function j) → is_defined j ds ≡ is_listed name ns)
           → is_defined j ds ≡ is_listed name ns
       by true e f = absurd (cc)
       by false e f = f e
   listed_is ds ns bound (Declares n (meaning.Struct i) ∷ rest) flat e h = by (bytes_eq n name) e (λ k. listed_is ds ns bound rest flat k h)
     where
-      by : (b : Bool) → FoundBy b (meaning.Struct i) rest → (found name rest ≡ Some (meaning.Function j) → is_defined j ds ≡ is_listed name ns)
+      by : (b : Bool) → FoundBy b (meaning.Struct i) rest → (declared_meaning name rest ≡ Some (meaning.Function j) → is_defined j ds ≡ is_listed name ns)
           → is_defined j ds ≡ is_listed name ns
       by true e f = absurd (cc)
       by false e f = f e
@@ -259,7 +259,7 @@ module _ (name : List ℕ) (j : ℕ) where
   -- where it is defined now
   module _ (ds : List (Option ℕ)) (ns : List (List ℕ)) (number : ℕ) (within : j < length ds) where
     abbrev es : List (Option ℕ)
-    es = replaced ds j (Some number)
+    es = item_replaced ds j (Some number)
 
     now_defined : is_defined j es ≡ true
     now_defined = ap (λ o. is_some (unwrap_or o None)) (replaced_same ds j (Some number) within)
@@ -278,7 +278,7 @@ module _ (name : List ℕ) (j : ℕ) where
         by true e = absurd (false≢true (sym h ∙ ap (λ m. is_here m rest) ((bytes_eq-Decides name n).0 e) ∙ k))
         by false e = refl
 
-    pub defined_funs : (bound : ℕ) (names : List ScopeEntry) → IsFlat names → found name names ≡ Some (meaning.Function j) → Funs ds ns bound names
+    pub defined_funs : (bound : ℕ) (names : List ScopeEntry) → IsFlat names → declared_meaning name names ≡ Some (meaning.Function j) → Funs ds ns bound names
         → Funs es (name ∷ ns) bound names
     defined_funs bound [] flat e h = tt
     defined_funs bound (Opens ∷ rest) flat e h = absurd flat
@@ -286,7 +286,7 @@ module _ (name : List ℕ) (j : ℕ) where
         by (bytes_eq n name) refl e (λ k. defined_funs i rest flat k h.3)
       where
         by : (b : Bool) → bytes_eq n name ≡ b → FoundBy b (meaning.Function i) rest
-            → (found name rest ≡ Some (meaning.Function j) → Funs es (name ∷ ns) i rest)
+            → (declared_meaning name rest ≡ Some (meaning.Function j) → Funs es (name ∷ ns) i rest)
             → Funs es (name ∷ ns) bound (Declares n (meaning.Function i) ∷ rest)
         by true q e f =
             let is : i ≡ j = is_function i j e in
@@ -306,19 +306,19 @@ module _ (name : List ℕ) (j : ℕ) where
         )
     defined_funs bound (Declares n (meaning.Variable i) ∷ rest) flat e h = by (bytes_eq n name) e (λ k. defined_funs bound rest flat k h)
       where
-        by : (b : Bool) → FoundBy b (meaning.Variable i) rest → (found name rest ≡ Some (meaning.Function j) → Funs es (name ∷ ns) bound rest)
+        by : (b : Bool) → FoundBy b (meaning.Variable i) rest → (declared_meaning name rest ≡ Some (meaning.Function j) → Funs es (name ∷ ns) bound rest)
             → Funs es (name ∷ ns) bound rest
         by true e f = absurd (cc)
         by false e f = f e
     defined_funs bound (Declares n (meaning.Library q) ∷ rest) flat e h = by (bytes_eq n name) e (λ k. defined_funs bound rest flat k h)
       where
-        by : (b : Bool) → FoundBy b (meaning.Library q) rest → (found name rest ≡ Some (meaning.Function j) → Funs es (name ∷ ns) bound rest)
+        by : (b : Bool) → FoundBy b (meaning.Library q) rest → (declared_meaning name rest ≡ Some (meaning.Function j) → Funs es (name ∷ ns) bound rest)
             → Funs es (name ∷ ns) bound rest
         by true e f = absurd (cc)
         by false e f = f e
     defined_funs bound (Declares n (meaning.Struct i) ∷ rest) flat e h = by (bytes_eq n name) e (λ k. defined_funs bound rest flat k h)
       where
-        by : (b : Bool) → FoundBy b (meaning.Struct i) rest → (found name rest ≡ Some (meaning.Function j) → Funs es (name ∷ ns) bound rest)
+        by : (b : Bool) → FoundBy b (meaning.Struct i) rest → (declared_meaning name rest ≡ Some (meaning.Function j) → Funs es (name ∷ ns) bound rest)
             → Funs es (name ∷ ns) bound rest
         by true e f = absurd (cc)
         by false e f = f e

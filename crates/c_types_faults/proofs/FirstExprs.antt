@@ -13,8 +13,8 @@ use Rattle.c_types_rules.specs.declared.fault.FaultKind.TheVariants as fault
 use Rattle.c_types_rules.specs.declared.layout.StructType.{StructType}
 use Rattle.c_types_rules.specs.declared.operand.Operand.{Operand}
 use Rattle.c_types_rules.specs.TypeTree as t
-use Rattle.c_types_rules.specs.Words.{TypeTree, value_type, indexed, is_complete}
-use Rattle.c_types_expressions.specs.ExprWalk.{binary_of, chained, compound_of, with_stars}
+use Rattle.c_types_rules.specs.Words.{TypeTree, value_type, typed_subscript, is_complete}
+use Rattle.c_types_expressions.specs.ExprWalk.{binary_of, typed_chain_operation, compound_of, with_stars}
 use Rattle.c_types_laws.specs.Operands.{Casts, Chooses, Indexes, Joins, Selects, SelectsBehind, Steps}
 use Rattle.c_types_faults.specs.Known.{Entity, Object, Function, Standard, Known}
 use Rattle.c_types_faults.specs.Types.{BaseBreaks, IsBase}
@@ -137,7 +137,7 @@ module _ (k : Known) where
         then_single (IsOperand k operand) (Breaks k operand) (λ y. Then (after y) (own y) (λ m. LinksBreak k m rest))
         (one_operand k operand) (expr_silent k operand) (expr_single operand) (λ y h.
         then_single (after y) (own y) (λ m. LinksBreak k m rest)
-        (λ m n g f. values_same (Joins k.structs (binary_of s) left y) (chained k.structs (binary_of s) left y) m n
+        (λ m n g f. values_same (Joins k.structs (binary_of s) left y) (typed_chain_operation k.structs (binary_of s) left y) m n
         (chained_back k.structs (binary_of s) left y) g f)
         (λ m j at g f. f.1.1 m.ctype g.0)
         (at_single (Misfits (Joins k.structs (binary_of s) left y)) token (misfit_kind (Joins k.structs (binary_of s) left y)))
@@ -151,7 +151,7 @@ module _ (k : Known) where
         then_single (IsOperand k x) (Breaks k x) (λ y. Then (after y) (own y) (λ m. PostfixBreaks k m rest))
         (one_operand k x) (expr_silent k x) (expr_single x) (λ y h.
         then_single (after y) (own y) (λ m. PostfixBreaks k m rest)
-        (λ m n g f. same_operand m n true (one_place (indexed k.structs left y) m.ctype n.ctype (indexed_back k.structs left y m.ctype g.0)
+        (λ m n g f. same_operand m n true (one_place (typed_subscript k.structs left y) m.ctype n.ctype (indexed_back k.structs left y m.ctype g.0)
         (indexed_back k.structs left y n.ctype f.0)) g.1 g.2 f.1 f.2)
         (λ m j at g f. f.1.1 m.ctype g.0)
         (at_single (Misfits (Indexes k.structs left y)) token (misfit_kind (Indexes k.structs left y)))

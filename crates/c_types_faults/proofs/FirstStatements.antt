@@ -10,8 +10,8 @@ use Rattle.c_types_rules.specs.declared.fault.FaultKind.TheVariants as fault
 use Rattle.c_types_rules.specs.declared.library.Library.TheVariants as library
 use Rattle.c_types_rules.specs.declared.operand.Operand.{Operand}
 use Rattle.c_types_rules.specs.Words.{is_struct, TypeTree}
-use Rattle.c_types_faults.specs.Known.{Entity, Object, Function, Standard, Known}
-use Rattle.c_types_faults.specs.Context.{Context, declare, inner, known}
+use Rattle.c_types_faults.specs.Known.{Entity, Object, Standard, Known}
+use Rattle.c_types_faults.specs.Context.{Context, name_declared, inner_context, known_identifiers}
 use Rattle.c_types_faults.specs.Types.{BaseBreaks, IsBase}
 use Rattle.c_types_faults.specs.Exprs.{AreOperands, IsOperand}
 use Rattle.c_types_faults.specs.ExprBreaks.{Breaks, ListBreaks}
@@ -21,7 +21,7 @@ use Rattle.c_types_faults.specs.Declarations.{VariableBreaks, VariableGives, Var
 use Rattle.c_types_faults.specs.Least.{IsLeast}
 use Rattle.c_types_faults.specs.Wholes.{IsWhole, WholeBreaks, WholeCallBreaks}
 use Rattle.c_types_faults.specs.Statements.{EntriesBreak, ForBreaks, GivesUpStruct, IfPart, IsSomeOperand, JumpBreaks, NoCondition, OfPart, ReturnBreaks}
-use Rattle.c_types_faults.specs.Statements.{IsRuledStatement, StartBreaks, StartLeaves, StatementBreaks, computed}
+use Rattle.c_types_faults.specs.Statements.{IsRuledStatement, StartBreaks, StartLeaves, StatementBreaks, for_start_expression}
 use Rattle.c_types_faults.proofs.First.{Next, OneKind, Single, Then, at_single, kind_single, least_single, next_single, none_single, then_single}
 use Rattle.c_types_faults.proofs.FirstExprs.{base_single, call_kind, expr_single, list_single}
 use Rattle.c_types_faults.proofs.Quiet.{completes_one, declaration_one, declaration_silent, initial_silent, one_type, part_silent, statement_silent}
@@ -52,7 +52,7 @@ module _ (global : Bool) (base : TypeTree) where
   variable_single : (x : StartTree) (c : Context) → Single (VariableBreaks global base c x)
   variable_single x c =
       let own : TypeTree → FaultKind → ℕ → Type 0 = λ u j at. (at ≡ x.token) × (j ≡ fault.Object) × SizeBreaks global base c u in
-      let inside : TypeTree → Known = λ t. known (declare x.declarator.name (Object t) c) in
+      let inside : TypeTree → Known = λ t. known_identifiers (name_declared x.declarator.name (Object t) c) in
       then_single (DeclaratorFits global base c x) (λ j at. (at ≡ x.token) × IsLeast (DeclaratorRule global base c x) j)
       (λ t. Then (Finishes global base c x t) (InitialBreaks (inside t) global t x.initial) own)
       (λ t u h g. one_type x.declarator base t u h.1 g.1) (λ t j at h b. declarator_silent x c t j h b.1.0)
@@ -67,8 +67,8 @@ module _ (global : Bool) (base : TypeTree) where
       (variable_one global base x c) (variable_silent global base x c) (variable_single x c) (λ next h. variables_single xs next)
 
 pub declaration_single : (global : Bool) (d : DeclarationTree) (c : Context) → Single (DeclarationBreaks global c d)
-declaration_single global d c = then_single (IsBase (known c) d.base) (BaseBreaks (known c) d.base) (λ base. VariablesBreak global base c d.starts)
-    (one_base (known c) d.base) (base_silent (known c) d.base) (base_single (known c) d.base) (λ base h. variables_single global base d.starts c)
+declaration_single global d c = then_single (IsBase (known_identifiers c) d.base) (BaseBreaks (known_identifiers c) d.base) (λ base. VariablesBreak global base c d.starts)
+    (one_base (known_identifiers c) d.base) (base_silent (known_identifiers c) d.base) (base_single (known_identifiers c) d.base) (λ base h. variables_single global base d.starts c)
 
 -- whole expressions
 
@@ -105,7 +105,7 @@ part_kind P (Some x) j f h = f x h
 
 for_kind : (before k : Known) (start : ForStartTree) (condition step : Option ExprTree) (j : FaultKind) → ForBreaks before k start condition step j
     → j ≡ fault.Operands
-for_kind before k start condition step j (inl h) = part_kind (λ x. GivesUpStruct before x j) (computed start) j (λ y g. g.0) h
+for_kind before k start condition step j (inl h) = part_kind (λ x. GivesUpStruct before x j) (for_start_expression start) j (λ y g. g.0) h
 for_kind before k start condition step j (inr (inl h)) = part_kind (λ x. NoCondition k x j) condition j (λ y g. g.0) h
 for_kind before k start condition step j (inr (inr h)) = part_kind (λ x. GivesUpStruct k x j) step j (λ y g. g.0) h
 
@@ -122,19 +122,19 @@ leaves_one (s.Computes x) c a b h g = h.1 ∙ sym g.1
 
 leaves_silent : (start : ForStartTree) (c a : Context) (j : FaultKind) (at : ℕ) → StartLeaves c start a → StartBreaks c start j at → ⊥
 leaves_silent (s.Declares d) c a j at h b = declaration_silent false d c a j at h b
-leaves_silent (s.Computes x) c a j at h b = some_part_silent (known c) x j at h.0 b
+leaves_silent (s.Computes x) c a j at h b = some_part_silent (known_identifiers c) x j at h.0 b
 
 start_single : (start : ForStartTree) (c : Context) → Single (StartBreaks c start)
 start_single (s.Declares d) c = declaration_single false d c
-start_single (s.Computes x) c = part_single (known c) x
+start_single (s.Computes x) c = part_single (known_identifiers c) x
 
 -- statements
 
 module _ (gives : TypeTree) where
   decided_single : (c : Context) (condition : ExprTree) (N : FaultKind → ℕ → Type 0) → Single N
-      → Single (Next (IsSomeOperand (known c) condition) (Breaks (known c) condition) N)
-  decided_single c condition N n = next_single (IsSomeOperand (known c) condition) (Breaks (known c) condition) N
-      (some_silent (known c) condition) (expr_single (known c) condition) (λ o. n)
+      → Single (Next (IsSomeOperand (known_identifiers c) condition) (Breaks (known_identifiers c) condition) N)
+  decided_single c condition N n = next_single (IsSomeOperand (known_identifiers c) condition) (Breaks (known_identifiers c) condition) N
+      (some_silent (known_identifiers c) condition) (expr_single (known_identifiers c) condition) (λ o. n)
 
   stated_single : (c : Context) (looping : Bool) (x : StatementTree) (N : FaultKind → ℕ → Type 0) → Single (StatementBreaks gives c looping x) → Single N
       → Single (Next (IsRuledStatement gives c looping x) (StatementBreaks gives c looping x) N)
@@ -144,49 +144,49 @@ module _ (gives : TypeTree) where
   for_single : (start : ForStartTree) (condition step : Option ExprTree) (body : StatementTree) (c d : Context) (token : ℕ)
       → Single (StatementBreaks gives d true body) → Single (λ j at. ForRest gives d start condition step body c j at token)
   for_single start condition step body c d token f =
-      let own : FaultKind → ℕ → Type 0 = λ j at. (at ≡ token) × ForBreaks (known (inner c)) (known d) start condition step j in
+      let own : FaultKind → ℕ → Type 0 = λ j at. (at ≡ token) × ForBreaks (known_identifiers (inner_context c)) (known_identifiers d) start condition step j in
       let behind : FaultKind → ℕ → Type 0 = Next (IsRuledStatement gives d true body) (StatementBreaks gives d true body) own in
-      next_single (IfPart (IsSomeOperand (known d)) condition) (λ j at. OfPart (λ x. Breaks (known d) x j at) condition)
-      (Next (IfPart (IsSomeOperand (known d)) step) (λ j at. OfPart (λ x. Breaks (known d) x j at) step) behind)
-      (some_part_silent (known d) condition) (part_single (known d) condition) (λ p.
-      next_single (IfPart (IsSomeOperand (known d)) step) (λ j at. OfPart (λ x. Breaks (known d) x j at) step) behind
-      (some_part_silent (known d) step) (part_single (known d) step) (λ q.
+      next_single (IfPart (IsSomeOperand (known_identifiers d)) condition) (λ j at. OfPart (λ x. Breaks (known_identifiers d) x j at) condition)
+      (Next (IfPart (IsSomeOperand (known_identifiers d)) step) (λ j at. OfPart (λ x. Breaks (known_identifiers d) x j at) step) behind)
+      (some_part_silent (known_identifiers d) condition) (part_single (known_identifiers d) condition) (λ p.
+      next_single (IfPart (IsSomeOperand (known_identifiers d)) step) (λ j at. OfPart (λ x. Breaks (known_identifiers d) x j at) step) behind
+      (some_part_silent (known_identifiers d) step) (part_single (known_identifiers d) step) (λ q.
       stated_single d true body own f
-      (at_single (ForBreaks (known (inner c)) (known d) start condition step) token (λ i j h g.
-      for_kind (known (inner c)) (known d) start condition step i h ∙ sym (for_kind (known (inner c)) (known d) start condition step j g)))))
+      (at_single (ForBreaks (known_identifiers (inner_context c)) (known_identifiers d) start condition step) token (λ i j h g.
+      for_kind (known_identifiers (inner_context c)) (known_identifiers d) start condition step i h ∙ sym (for_kind (known_identifiers (inner_context c)) (known_identifiers d) start condition step j g)))))
 
   mutual
     pub statement_single : (looping : Bool) (x : StatementTree) (c : Context) → Single (StatementBreaks gives c looping x)
-    statement_single looping (s.Block token entries) c = entries_single looping entries (inner c)
+    statement_single looping (s.Block token entries) c = entries_single looping entries (inner_context c)
     statement_single looping (s.Empty token) c = none_single
-    statement_single looping (s.Expr token x) c = then_single (IsWhole (known c) x) (WholeBreaks (known c) x)
-        (λ a j at. (at ≡ token) × (j ≡ fault.Operands) × (is_struct a.ctype ≡ true)) (whole_one (known c) x) (whole_silent (known c) x)
-        (whole_single (known c) x) (λ a h. kind_single (is_struct a.ctype ≡ true) token fault.Operands)
+    statement_single looping (s.Expr token x) c = then_single (IsWhole (known_identifiers c) x) (WholeBreaks (known_identifiers c) x)
+        (λ a j at. (at ≡ token) × (j ≡ fault.Operands) × (is_struct a.ctype ≡ true)) (whole_one (known_identifiers c) x) (whole_silent (known_identifiers c) x)
+        (whole_single (known_identifiers c) x) (λ a h. kind_single (is_struct a.ctype ≡ true) token fault.Operands)
     statement_single looping (s.If token condition first) c =
-        let own : FaultKind → ℕ → Type 0 = λ j at. (at ≡ token) × NoCondition (known c) condition j in
+        let own : FaultKind → ℕ → Type 0 = λ j at. (at ≡ token) × NoCondition (known_identifiers c) condition j in
         decided_single c condition (Next (IsRuledStatement gives c looping first) (StatementBreaks gives c looping first) own)
-        (stated_single c looping first own (statement_single looping first c) (condition_single (known c) token condition))
+        (stated_single c looping first own (statement_single looping first c) (condition_single (known_identifiers c) token condition))
     statement_single looping (s.IfElse token condition first second) c =
-        let own : FaultKind → ℕ → Type 0 = λ j at. (at ≡ token) × NoCondition (known c) condition j in
+        let own : FaultKind → ℕ → Type 0 = λ j at. (at ≡ token) × NoCondition (known_identifiers c) condition j in
         let last : FaultKind → ℕ → Type 0 = Next (IsRuledStatement gives c looping second) (StatementBreaks gives c looping second) own in
         decided_single c condition (Next (IsRuledStatement gives c looping first) (StatementBreaks gives c looping first) last)
         (stated_single c looping first last (statement_single looping first c)
-        (stated_single c looping second own (statement_single looping second c) (condition_single (known c) token condition)))
+        (stated_single c looping second own (statement_single looping second c) (condition_single (known_identifiers c) token condition)))
     statement_single looping (s.While token condition body) c =
-        let own : FaultKind → ℕ → Type 0 = λ j at. (at ≡ token) × NoCondition (known c) condition j in
+        let own : FaultKind → ℕ → Type 0 = λ j at. (at ≡ token) × NoCondition (known_identifiers c) condition j in
         decided_single c condition (Next (IsRuledStatement gives c true body) (StatementBreaks gives c true body) own)
-        (stated_single c true body own (statement_single true body c) (condition_single (known c) token condition))
+        (stated_single c true body own (statement_single true body c) (condition_single (known_identifiers c) token condition))
     statement_single looping (s.Do token body condition) c =
-        let own : FaultKind → ℕ → Type 0 = λ j at. (at ≡ token) × NoCondition (known c) condition j in
-        stated_single c true body (Next (IsSomeOperand (known c) condition) (Breaks (known c) condition) own) (statement_single true body c)
-        (decided_single c condition own (condition_single (known c) token condition))
-    statement_single looping (s.For token start condition step body) c = then_single (StartLeaves (inner c) start) (StartBreaks (inner c) start)
-        (λ d j at. ForRest gives d start condition step body c j at token) (leaves_one start (inner c)) (leaves_silent start (inner c))
-        (start_single start (inner c)) (λ d h. for_single start condition step body c d token (statement_single true body d))
-    statement_single looping (s.Return token value) c = next_single (IfPart (IsSomeOperand (known c)) value)
-        (λ j at. OfPart (λ x. Breaks (known c) x j at) value) (λ j at. (at ≡ token) × ReturnBreaks (known c) gives value j)
-        (some_part_silent (known c) value) (part_single (known c) value) (λ o.
-        at_single (ReturnBreaks (known c) gives value) token (return_kind (known c) gives value))
+        let own : FaultKind → ℕ → Type 0 = λ j at. (at ≡ token) × NoCondition (known_identifiers c) condition j in
+        stated_single c true body (Next (IsSomeOperand (known_identifiers c) condition) (Breaks (known_identifiers c) condition) own) (statement_single true body c)
+        (decided_single c condition own (condition_single (known_identifiers c) token condition))
+    statement_single looping (s.For token start condition step body) c = then_single (StartLeaves (inner_context c) start) (StartBreaks (inner_context c) start)
+        (λ d j at. ForRest gives d start condition step body c j at token) (leaves_one start (inner_context c)) (leaves_silent start (inner_context c))
+        (start_single start (inner_context c)) (λ d h. for_single start condition step body c d token (statement_single true body d))
+    statement_single looping (s.Return token value) c = next_single (IfPart (IsSomeOperand (known_identifiers c)) value)
+        (λ j at. OfPart (λ x. Breaks (known_identifiers c) x j at) value) (λ j at. (at ≡ token) × ReturnBreaks (known_identifiers c) gives value j)
+        (some_part_silent (known_identifiers c) value) (part_single (known_identifiers c) value) (λ o.
+        at_single (ReturnBreaks (known_identifiers c) gives value) token (return_kind (known_identifiers c) gives value))
     statement_single looping (s.Break token) c = at_single (JumpBreaks looping) token (λ i j h g. h.0 ∙ sym g.0)
     statement_single looping (s.Continue token) c = at_single (JumpBreaks looping) token (λ i j h g. h.0 ∙ sym g.0)
 

@@ -19,7 +19,7 @@ use Rattle.c_types_expressions.specs.Words.{walk_expr, with_stars, Done, Fine, F
 use Rattle.c_types_walk.specs.ItemWalk.{listed_params}
 use Rattle.c_types_faults.specs.Known.{Known}
 use Rattle.c_types_faults.specs.Agrees.{Agrees}
-use Rattle.c_types_faults.specs.Context.{Context, empty_context, inner, known}
+use Rattle.c_types_faults.specs.Context.{Context, empty_context, inner_context, known_identifiers}
 use Rattle.c_types_faults.specs.Least.{IsLeast}
 use Rattle.c_types_faults.specs.Types.{BaseBreaks, IsBase}
 use Rattle.c_types_faults.specs.Declarations.{IsObject}
@@ -29,7 +29,7 @@ use Rattle.c_types_faults.specs.Functions.{Clashes, Formal, FunctionBreaks, Func
 use Rattle.c_types_faults.specs.Functions.{ParamsBreak, ParamsGive, prototype, with_formals}
 use Rattle.c_types_faults.specs.Items.{ItemBreaks, ItemGives, ItemsBreak, ItemsGive}
 use Rattle.c_types_faults.specs.Statements.{AreRuledEntries, EntriesBreak}
-use Rattle.c_types_faults.specs.Structs.{HasMember, HasTag, LineBreaks, LineGives, MemberGives, MembersBreak, MembersGive, NewMemberBreaks, StructBreaks, tagging}
+use Rattle.c_types_faults.specs.Structs.{HasMember, HasTag, LineBreaks, LineGives, MemberGives, MembersBreak, MembersGive, NewMemberBreaks, StructBreaks, tag_declared}
 use Rattle.c_types_faults.specs.Texts.{EndBreaks, TextBreaks}
 use Rattle.c_types_faults.proofs.Exprs.{accepted_expr, refused_expr}
 use Rattle.c_types_faults.proofs.First.{Next, Single, Then, least_single, next_single, none_single, then_single}
@@ -55,26 +55,26 @@ module _ (c : Context) where
 
   members_single : (ms : List Members) (s : StructType) → Single (MembersBreak c ms s)
   members_single [] s = none_single
-  members_single (m ∷ ms) s = then_single (IsBase (known c) m.base) (BaseBreaks (known c) m.base)
+  members_single (m ∷ ms) s = then_single (IsBase (known_identifiers c) m.base) (BaseBreaks (known_identifiers c) m.base)
       (λ base. Then (LineGives c base m.declarators s) (LineBreaks c base m.declarators s) (λ next. MembersBreak c ms next))
-      (one_base (known c) m.base) (base_silent (known c) m.base) (base_single (known c) m.base) (λ base h.
+      (one_base (known_identifiers c) m.base) (base_silent (known_identifiers c) m.base) (base_single (known_identifiers c) m.base) (λ base h.
       then_single (LineGives c base m.declarators s) (LineBreaks c base m.declarators s) (λ next. MembersBreak c ms next)
       (line_one c base m.declarators s) (line_silent c base m.declarators s) (line_single base m.declarators s) (λ next g. members_single ms next))
 
 struct_single : (token : ℕ) (tag : List ℕ) (members : List Members) (c : Context) → Single (StructBreaks c token tag members)
 struct_single token tag members c =
     let rule : StructType → FaultKind → Type 0 = λ s j. ((j ≡ fault.Redeclared) × HasTag tag c.tags) ⊎ ((j ≡ fault.Object) × (s.cells ≤ most_cells → ⊥)) in
-    then_single (MembersGive (tagging tag c) members empty_struct) (MembersBreak (tagging tag c) members empty_struct)
-    (λ s j at. (at ≡ token) × IsLeast (rule s) j) (members_one (tagging tag c) members empty_struct) (members_silent (tagging tag c) members empty_struct)
-    (members_single (tagging tag c) members empty_struct) (λ s h. least_single (rule s) token)
+    then_single (MembersGive (tag_declared tag c) members empty_struct) (MembersBreak (tag_declared tag c) members empty_struct)
+    (λ s j at. (at ≡ token) × IsLeast (rule s) j) (members_one (tag_declared tag c) members empty_struct) (members_silent (tag_declared tag c) members empty_struct)
+    (members_single (tag_declared tag c) members empty_struct) (λ s h. least_single (rule s) token)
 
 -- parameters
 
 module _ (c : Context) (body : Bool) where
   param_single : (before : List Formal) (p : Param) → Single (ParamBreaks c body before p)
-  param_single before p = then_single (IsBase (known c) p.base) (BaseBreaks (known c) p.base)
+  param_single before p = then_single (IsBase (known_identifiers c) p.base) (BaseBreaks (known_identifiers c) p.base)
       (λ base j at. (at ≡ p.token) × IsLeast (ParamRule body before p.name (with_stars p.stars base)) j)
-      (one_base (known c) p.base) (base_silent (known c) p.base) (base_single (known c) p.base) (λ base h.
+      (one_base (known_identifiers c) p.base) (base_silent (known_identifiers c) p.base) (base_single (known_identifiers c) p.base) (λ base h.
       least_single (ParamRule body before p.name (with_stars p.stars base)) p.token)
 
   params_single : (ps : List Param) (before : List Formal) → Single (ParamsBreak c body before ps)
@@ -87,15 +87,15 @@ module _ (c : Context) (body : Bool) where
 
 module _ (token : ℕ) (name : List ℕ) (f : FunctionType) (formals : List Formal) (c : Context) where
   abbrev InBody : EntryList → Context → FaultKind → ℕ → Type 0
-  InBody body next = Next (AreRuledEntries f.gives (with_formals formals (inner next)) false body)
-      (EntriesBreak f.gives (with_formals formals (inner next)) false body)
+  InBody body next = Next (AreRuledEntries f.gives (with_formals formals (inner_context next)) false body)
+      (EntriesBreak f.gives (with_formals formals (inner_context next)) false body)
       (λ j at. (at ≡ token) × IsLeast (FunctionRule (Clashes name f c ⊎ IsDefinedBefore name f c) f) j)
 
   body_single : (body : EntryList) (next : Context) → Single (InBody body next)
-  body_single body next = next_single (AreRuledEntries f.gives (with_formals formals (inner next)) false body)
-      (EntriesBreak f.gives (with_formals formals (inner next)) false body)
+  body_single body next = next_single (AreRuledEntries f.gives (with_formals formals (inner_context next)) false body)
+      (EntriesBreak f.gives (with_formals formals (inner_context next)) false body)
       (λ j at. (at ≡ token) × IsLeast (FunctionRule (Clashes name f c ⊎ IsDefinedBefore name f c) f) j)
-      (entries_silent f.gives false body (with_formals formals (inner next))) (entries_single f.gives false body (with_formals formals (inner next)))
+      (entries_silent f.gives false body (with_formals formals (inner_context next))) (entries_single f.gives false body (with_formals formals (inner_context next)))
       (λ h. least_single (FunctionRule (Clashes name f c ⊎ IsDefinedBefore name f c) f) token)
 
   defined_single : (body : EntryList) → Single (FunctionBreaks token name f formals (Some body) c)
@@ -113,9 +113,9 @@ item_single (i.Struct token tag members) c = struct_single token tag members c
 item_single (i.Function token b stars name ps body) c =
     let last : TypeTree → List Formal → FaultKind → ℕ → Type 0 = λ base formals.
     FunctionBreaks token name (prototype (with_stars stars base) formals) formals body c in
-    then_single (IsBase (known c) b) (BaseBreaks (known c) b)
+    then_single (IsBase (known_identifiers c) b) (BaseBreaks (known_identifiers c) b)
     (λ base. Then (ParamsGive c (is_some body) [] (listed_params ps)) (ParamsBreak c (is_some body) [] (listed_params ps)) (last base))
-    (one_base (known c) b) (base_silent (known c) b) (base_single (known c) b) (λ base h.
+    (one_base (known_identifiers c) b) (base_silent (known_identifiers c) b) (base_single (known_identifiers c) b) (λ base h.
     then_single (ParamsGive c (is_some body) [] (listed_params ps)) (ParamsBreak c (is_some body) [] (listed_params ps)) (last base)
     (params_one c (is_some body) (listed_params ps) []) (params_silent c (is_some body) (listed_params ps) []) (params_single c (is_some body) (listed_params ps) [])
     (λ formals g. function_single token name (prototype (with_stars stars base) formals) formals c body))
@@ -149,7 +149,7 @@ pub text_told : (t : SourceTree) (kind : FaultKind) (at : ℕ) → IsShaped t �
 text_told t kind at s h = by (walk_tree t) refl
   where
     by : (m : Walked Done) → walk_tree t ≡ m → fault_of t ≡ Some (fault_number kind, at)
-    by (Fine d known) e = absurd (text_silent t kind at (accepted_text t known s e) h)
+    by (Fine d known_identifiers) e = absurd (text_silent t kind at (accepted_text t known_identifiers s e) h)
     by (Faulty j n) e =
         let one : (j ≡ kind) × (n ≡ at) = text_single t s j kind n at (refused_text t j n e) h in
         ap fault_in e ∙ ap₂ (λ k m. Some (fault_number k, m)) one.0 one.1

@@ -24,12 +24,12 @@ use Rattle.c_types_expressions.specs.declared.names.ScopeEntry.TheVariants.{Open
 use Rattle.c_types_expressions.specs.declared.walk.FunctionEntry.{FunctionEntry}
 use Rattle.c_types_expressions.specs.declared.walk.Parameter.{Parameter}
 use Rattle.c_types_expressions.specs.declared.walk.Walk.{Walk}
-use Rattle.c_types_expressions.specs.Words.{found, is_here, is_reserved, or_before, with_variable, Fine, Faulty, Done, opened, replaced}
-use Rattle.c_types_walk.specs.ItemWalk.{clashes, declares, has_type, is_defined, known_as, typed_function, walk_body, walk_function}
+use Rattle.c_types_expressions.specs.Words.{declared_meaning, is_here, is_reserved, or_before, with_variable, Fine, Faulty, Done, scope_opened, item_replaced}
+use Rattle.c_types_walk.specs.ItemWalk.{is_clashing_name, function_checked, has_type, is_defined, known_as, typed_function, walk_body, walk_function}
 use Rattle.c_types_walk.specs.ItemWalk.{with_definition, with_function, with_param, with_params}
-use Rattle.c_types.specs.Answers.{noted}
+use Rattle.c_types.specs.Answers.{note_at}
 use Rattle.c_types_faults.specs.Events as event
-use Rattle.c_types_faults.specs.Events.{Event, entries_events, scoped}
+use Rattle.c_types_faults.specs.Events.{Event, entries_events, scope_events}
 use Rattle.c_types_faults.proofs.Noting.{Named, path_onward, step_onward}
 use Rattle.c_types_faults.proofs.PathItems.{function_step}
 use Rattle.c_types_faults.proofs.PathStatements.{entries_goes}
@@ -38,7 +38,7 @@ use Rattle.c_types_faults.specs.Texts.{HasCall}
 use Rattle.c_types_faults.proofs.Calling.{CallsIn, both_tell, has_left, has_right, path_calls}
 use Rattle.c_types_faults.specs.Known.{Entity, Object, Function, Standard}
 use Rattle.c_types_faults.specs.Agrees.{Denotes, IsType}
-use Rattle.c_types_faults.specs.Context.{Context, HasName, IsReserved, declare, declared_in, inner}
+use Rattle.c_types_faults.specs.Context.{Context, HasName, IsReserved, name_declared, declared_in, inner_context}
 use Rattle.c_types_faults.specs.Functions.{Clashes, Formal, FunctionBreaks, FunctionGives, FunctionRule, IsDefinedBefore, IsKnownAs, Names, is_listed}
 use Rattle.c_types_faults.specs.Functions.{with_formal, FunctionFits}
 use Rattle.c_types_faults.specs.Functions.{with_formals}
@@ -103,7 +103,7 @@ param_knows : (token : ℕ) (o : Option (List ℕ)) (t : TypeTree) (c : Context)
     → Knows (with_formal o t c) (shown (with_param token o t w))
 param_knows token None t c w k = k
 param_knows token (Some name) t c w k =
-    subst (Knows (declare name (Object t) c)) (sym (variable_shown false token name t w)) (object_knows name t k)
+    subst (Knows (name_declared name (Object t) c)) (sym (variable_shown false token name t w)) (object_knows name t k)
 
 param_moves : (token : ℕ) (o : Option (List ℕ)) (t : TypeTree) (w : Walk)
     → (ps : List (List ℕ × ℕ)) × Moves ps (shown w) (shown (with_param token o t w))
@@ -138,7 +138,7 @@ formals_within (f ∷ fs) c =
 
 abbrev pub next_of : List ℕ → FunctionType → Option ℕ → Context → Context
 next_of name f (Some j) c = c
-next_of name f None c = declare name (Function f) c
+next_of name f None c = name_declared name (Function f) c
 
 pub named_knows : (name : List ℕ) (f : FunctionType) (o : Option ℕ) (c : Context) (w : Walk) → Knows c (shown w)
     → Knows (next_of name f o c) (shown (with_function name f o w))
@@ -160,7 +160,7 @@ named_knows name f None c w k =
 
 -- a function that is new in its scope
 new_files : (name : List ℕ) (f : FunctionType) (c : Context) (w : Walk) → Files c (shown w) → is_here name w.names ≡ false
-    → Files (declare name (Function f) c) (shown (with_function name f None w))
+    → Files (name_declared name (Function f) c) (shown (with_function name f None w))
 new_files name f c w k new =
     let g : FunctionEntry = record { name = name; ctype = f } in
     record {
@@ -184,7 +184,7 @@ new_files name f c w k new =
     not_listed true e = absurd (false≢true (sym new ∙ k.here name e))
     not_listed false e = refl
 
-named_files : (name : List ℕ) (f : FunctionType) (o : Option ℕ) (c : Context) (w : Walk) → Files c (shown w) → clashes name o w ≡ false
+named_files : (name : List ℕ) (f : FunctionType) (o : Option ℕ) (c : Context) (w : Walk) → Files c (shown w) → is_clashing_name name o w ≡ false
     → Files (next_of name f o c) (shown (with_function name f o w))
 named_files name f (Some j) c w k h = k
 named_files name f None c w k h =
@@ -203,18 +203,18 @@ moved_files {c = c} {s = s} {r = r} k n m = record {
   places = places_on k.places m.names m.functions;
 }
 
-found_here : (name : List ℕ) (j : ℕ) (names : List ScopeEntry) → IsFlat names → found name names ≡ Some (meaning.Function j) → is_here name names ≡ true
+found_here : (name : List ℕ) (j : ℕ) (names : List ScopeEntry) → IsFlat names → declared_meaning name names ≡ Some (meaning.Function j) → is_here name names ≡ true
 found_here name j [] flat e = absurd (cc)
 found_here name j (Opens ∷ rest) flat e = absurd flat
 found_here name j (Declares n m ∷ rest) flat e = by (bytes_eq n name) e (found_here name j rest flat)
   where
-    by : (b : Bool) → or_before (if b then Some m else None) (found name rest) ≡ Some (meaning.Function j)
-        → (found name rest ≡ Some (meaning.Function j) → is_here name rest ≡ true) → (b || is_here name rest) ≡ true
+    by : (b : Bool) → or_before (if b then Some m else None) (declared_meaning name rest) ≡ Some (meaning.Function j)
+        → (declared_meaning name rest ≡ Some (meaning.Function j) → is_here name rest ≡ true) → (b || is_here name rest) ≡ true
     by true e f = refl
     by false e f = f e
 
-defined_files : (name : List ℕ) (j number : ℕ) (c : Context) (s : Shown) → Files c s → found name s.names ≡ Some (meaning.Function j)
-    → Files (record c { defined = name ∷ c.defined }) (record s { defined_as = replaced s.defined_as j (Some number) })
+defined_files : (name : List ℕ) (j number : ℕ) (c : Context) (s : Shown) → Files c s → declared_meaning name s.names ≡ Some (meaning.Function j)
+    → Files (record c { defined = name ∷ c.defined }) (record s { defined_as = item_replaced s.defined_as j (Some number) })
 defined_files name j number c s k e =
     let less : j < length s.functions = found_below name j s.defined_as c.defined (length s.functions) s.names k.flat e k.funs in
     record {
@@ -261,19 +261,19 @@ body_events (Some body) = entries_events body
 
 -- the calls of a body are those of its function
 pub in_function : (k : ℕ) (called name : List ℕ) (ps body : List Event) → HasCall k called body
-    → HasCall k called (event.Names name ∷ scoped (ps ++ body) ++ event.Defines ∷ [])
+    → HasCall k called (event.Names name ∷ scope_events (ps ++ body) ++ event.Defines ∷ [])
 in_function k called name ps body h = has_left k called ((ps ++ body) ++ event.Closes ∷ []) (event.Defines ∷ [])
     (has_left k called (ps ++ body) (event.Closes ∷ []) (has_right k called ps body h))
 
 -- the function itself
 
 module _ (token : ℕ) (name : List ℕ) (f : FunctionType) (c : Context) (w : Walk) (k : Files c (shown w)) where
-  was_found : Denotes w.declared_types w.functions (found name w.names) (declared_in name c.scope)
+  was_found : Denotes w.declared_types w.functions (declared_meaning name w.names) (declared_in name c.scope)
   was_found = text_found w.declared_types w.functions (length w.variables) (length w.functions) w.names c.scope
       (subst (λ outer. Matches w.declared_types w.functions (length w.variables) (length w.functions) w.names c.scope outer) k.outer k.knows.names) name
 
   abbrev Was : Option ℕ → Type 0
-  Was o = KnownIs f (found name w.names) (declared_in name c.scope) o
+  Was o = KnownIs f (declared_meaning name w.names) (declared_in name c.scope) o
 
   names_so : (o : Option ℕ) → Was o → Names name f c (next_of name f o c)
   names_so None h = inr (h, refl)
@@ -290,7 +290,7 @@ module _ (token : ℕ) (name : List ℕ) (f : FunctionType) (c : Context) (w : W
   clash_rule (Some j) h (inr e) = absurd (false≢true (and_parts (is_here name w.names) false e).1)
 
   declares_tells : {B : FaultKind → ℕ → Type 0} (b : Bool) (gives : TypeTree) (v : Walk) → (b ≡ true → B fault.Redeclared token)
-      → (b ≡ false → is_struct gives ≡ true → B fault.Object token) → Tells (declares token b gives v)
+      → (b ≡ false → is_struct gives ≡ true → B fault.Object token) → Tells (function_checked token b gives v)
       (λ (d : Done) u. (b ≡ false) × (u ≡ v) × (is_struct gives ≡ false)) B
   declares_tells true gives v g h = record { by = g refl }
   declares_tells {B = B} false gives v g h = result (is_struct gives) (h refl)
@@ -300,7 +300,7 @@ module _ (token : ℕ) (name : List ℕ) (f : FunctionType) (c : Context) (w : W
       result true h = record { by = h refl }
       result false h = record { by = (refl, refl, refl) }
 
-  rule_of : (o : Option ℕ) → Was o → clashes name o w ≡ true → Clashes name f c
+  rule_of : (o : Option ℕ) → Was o → is_clashing_name name o w ≡ true → Clashes name f c
   rule_of o h e = clash_rule o h (or_cases (is_reserved name) (is_here name w.names && is_none o) e)
 
   named : (o : Option ℕ) → Named (view (with_function name f o w))
@@ -311,7 +311,7 @@ module _ (token : ℕ) (name : List ℕ) (f : FunctionType) (c : Context) (w : W
   grown o i other h = (step_onward (event.Names name) (view w) (view (with_function name f o w)) (function_step name f o w)).functions i other h
 
   -- the rules that it keeps
-  free_so : (o : Option ℕ) → Was o → clashes name o w ≡ false → (IsReserved name → ⊥) × (HasName name c.scope → IsKnownAs name f c)
+  free_so : (o : Option ℕ) → Was o → is_clashing_name name o w ≡ false → (IsReserved name → ⊥) × (HasName name c.scope → IsKnownAs name f c)
   free_so o h e =
       let parts = or_parts (is_reserved name) (is_here name w.names && is_none o) e in
       (λ r. false≢true (sym parts.0 ∙ reserved_true name r), λ n. known_so o h parts.1 n)
@@ -323,10 +323,10 @@ module _ (token : ℕ) (name : List ℕ) (f : FunctionType) (c : Context) (w : W
       known_so (Some j) h e n = h.0
       known_so None h e n = absurd (false≢true (sym (left_false (is_here name w.names) e) ∙ here n))
 
-  fits_so : (o : Option ℕ) → Was o → clashes name o w ≡ false → is_struct f.gives ≡ false → FunctionFits name f c
+  fits_so : (o : Option ℕ) → Was o → is_clashing_name name o w ≡ false → is_struct f.gives ≡ false → FunctionFits name f c
   fits_so o h e g = let q = free_so o h e in (q.0, q.1, g)
 
-  no_clash : (o : Option ℕ) → Was o → clashes name o w ≡ false → Clashes name f c → ⊥
+  no_clash : (o : Option ℕ) → Was o → is_clashing_name name o w ≡ false → Clashes name f c → ⊥
   no_clash o h e (inl r) = (free_so o h e).0 r
   no_clash o h e (inr r) = r.1 ((free_so o h e).1 r.0)
 
@@ -342,7 +342,7 @@ module _ (token : ℕ) (name : List ℕ) (f : FunctionType) (c : Context) (w : W
   -- a declaration
   declared_tells : (o : Option ℕ) → Was o → (xs : List Parameter)
       → Tells (walk_function token f name xs None o w) (Told (map formal_of xs) None) (FunctionBreaks token name f (map formal_of xs) None c)
-  declared_tells o h xs = weaker (declares_tells {B = λ j at. (at ≡ token) × IsLeast (FunctionRule (Clashes name f c) f) j} (clashes name o w) f.gives
+  declared_tells o h xs = weaker (declares_tells {B = λ j at. (at ≡ token) × IsLeast (FunctionRule (Clashes name f c) f) j} (is_clashing_name name o w) f.gives
       (with_function name f o w)
       (λ e. (
         refl,
@@ -360,7 +360,7 @@ module _ (token : ℕ) (name : List ℕ) (f : FunctionType) (c : Context) (w : W
           ),
         ),
         subst (Notes [] w) (sym p.1)
-            (record { calls = λ t i n. inl (ap (λ ns. noted ns t) (sym (function_calls name f o w)) ∙ n); grows = grown o }),
+            (record { calls = λ t i n. inl (ap (λ ns. note_at ns t) (sym (function_calls name f o w)) ∙ n); grows = grown o }),
       ))
 
   twice_by : (o : Option ℕ) → Was o → is_defined (unwrap_or o (length w.functions)) w.defined_as ≡ true → IsDefinedBefore name f c
@@ -373,32 +373,32 @@ module _ (token : ℕ) (name : List ℕ) (f : FunctionType) (c : Context) (w : W
   abbrev MayNot : Type 0
   MayNot = Clashes name f c ⊎ IsDefinedBefore name f c
 
-  may_not : (o : Option ℕ) → Was o → (clashes name o w || is_defined (unwrap_or o (length w.functions)) w.defined_as) ≡ true → MayNot
+  may_not : (o : Option ℕ) → Was o → (is_clashing_name name o w || is_defined (unwrap_or o (length w.functions)) w.defined_as) ≡ true → MayNot
   may_not o h e = ⊎_elim (λ a. inl (rule_of o h a)) (λ a. inr (twice_by o h a))
-      (or_cases (clashes name o w) (is_defined (unwrap_or o (length w.functions)) w.defined_as) e)
+      (or_cases (is_clashing_name name o w) (is_defined (unwrap_or o (length w.functions)) w.defined_as) e)
 
-  may : (o : Option ℕ) → Was o → (clashes name o w || is_defined (unwrap_or o (length w.functions)) w.defined_as) ≡ false → MayNot → ⊥
-  may o h e (inl r) = no_clash o h (or_parts (clashes name o w) (is_defined (unwrap_or o (length w.functions)) w.defined_as) e).0 r
+  may : (o : Option ℕ) → Was o → (is_clashing_name name o w || is_defined (unwrap_or o (length w.functions)) w.defined_as) ≡ false → MayNot → ⊥
+  may o h e (inl r) = no_clash o h (or_parts (is_clashing_name name o w) (is_defined (unwrap_or o (length w.functions)) w.defined_as) e).0 r
   may o h e (inr r) =
-      false≢true (sym (once_so o h (or_parts (clashes name o w) (is_defined (unwrap_or o (length w.functions)) w.defined_as) e).1 r.0) ∙ r.1)
+      false≢true (sym (once_so o h (or_parts (is_clashing_name name o w) (is_defined (unwrap_or o (length w.functions)) w.defined_as) e).1 r.0) ∙ r.1)
 
-  place_found : (o : Option ℕ) → Was o → found name (with_function name f o w).names ≡ Some (meaning.Function (unwrap_or o (length w.functions)))
+  place_found : (o : Option ℕ) → Was o → declared_meaning name (with_function name f o w).names ≡ Some (meaning.Function (unwrap_or o (length w.functions)))
   place_found (Some j) h = h.1
-  place_found None h = ap (λ b. or_before (if b then Some (meaning.Function (length w.functions)) else None) (found name w.names))
+  place_found None h = ap (λ b. or_before (if b then Some (meaning.Function (length w.functions)) else None) (declared_meaning name w.names))
       ((bytes_eq-Decides name name).1 refl)
 
   -- the body, behind its parameters
   body_notes : (o : Option ℕ) (xs : List Parameter) (es : List Event) (v : Walk)
-      → Path es (view (with_params xs (opened (record (with_function name f o w) { locals = 0 })))) (view v) → Notes es w v
+      → Path es (view (with_params xs (scope_opened (record (with_function name f o w) { locals = 0 })))) (view v) → Notes es w v
   body_notes o xs es v p =
       let begun : Walk = record (with_function name f o w) { locals = 0 } in
-      let first : Walk = with_params xs (opened begun) in
-      let m = params_move xs (opened begun) in
-      let n : Named (view (opened begun)) =
-      (step_onward event.Opens (view begun) (view (opened begun)) refl).named (named o) in
+      let first : Walk = with_params xs (scope_opened begun) in
+      let m = params_move xs (scope_opened begun) in
+      let n : Named (view (scope_opened begun)) =
+      (step_onward event.Opens (view begun) (view (scope_opened begun)) refl).named (named o) in
       record {
-        calls = λ t i h. ⊎_elim (λ e. inl (ap (λ ns. noted ns t) (sym (params_calls xs (opened begun) ∙ function_calls name f o w)) ∙ e)) (λ e. inr e)
-            (path_calls es (view first) (view v) (params_named xs (opened begun) n) p t i h);
+        calls = λ t i h. ⊎_elim (λ e. inl (ap (λ ns. note_at ns t) (sym (params_calls xs (scope_opened begun) ∙ function_calls name f o w)) ∙ e)) (λ e. inr e)
+            (path_calls es (view first) (view v) (params_named xs (scope_opened begun) n) p t i h);
         grows = λ i other h. (path_onward es (view first) (view v) p).functions i other
             (ap (λ fs. slice_get (map called_name fs) i) m.1.functions ∙ grown o i other h);
       }
@@ -412,27 +412,27 @@ module _ (token : ℕ) (name : List ℕ) (f : FunctionType) (c : Context) (w : W
       let begun : Walk = record (with_function name f o w) { locals = 0 } in
       let here : Knows next (shown begun) = named_knows name f o c w k.knows in
       let fs : List Formal = map formal_of xs in
-      let first : Walk = with_params xs (opened begun) in
-      let moved = params_move xs (opened begun) in
+      let first : Walk = with_params xs (scope_opened begun) in
+      let moved = params_move xs (scope_opened begun) in
       let es : List Event = entries_events body in
-      and_then (and_then {Q = λ (d : Done) v. Beyond next begun v × Notes es w v × AreRuledEntries f.gives (with_formals fs (inner next)) false body}
-      (both_tell (λ (d : Done) v. Within (with_formals fs (inner next)) first v × AreRuledEntries f.gives (with_formals fs (inner next)) false body) (λ
+      and_then (and_then {Q = λ (d : Done) v. Beyond next begun v × Notes es w v × AreRuledEntries f.gives (with_formals fs (inner_context next)) false body}
+      (both_tell (λ (d : Done) v. Within (with_formals fs (inner_context next)) first v × AreRuledEntries f.gives (with_formals fs (inner_context next)) false body) (λ
       (d : Done) v. Path es (view first) (view v) × Unit {0})
-      (EntriesBreak f.gives (with_formals fs (inner next)) false body) (walk_entries f.gives false body first)
-      (entries_tell f.gives false body (with_formals fs (inner next)) first (params_know xs (inner next) (opened begun) (entering_knows here)))
+      (EntriesBreak f.gives (with_formals fs (inner_context next)) false body) (walk_entries f.gives false body first)
+      (entries_tell f.gives false body (with_formals fs (inner_context next)) first (params_know xs (inner_context next) (scope_opened begun) (entering_knows here)))
       (entries_goes f.gives false body first))
       (λ j at b. (next, (names_so o h, inl b)))
       (λ d v i. record {
         by = (
           (closing_tells {B = FunctionBreaks token name f fs (Some body) c} next begun v d
-              (within_on moved.0 moved.1 (within_from (inner next) (with_formals fs (inner next)) first v (formals_within fs (inner next)) i.0.0))).by,
+              (within_on moved.0 moved.1 (within_from (inner_context next) (with_formals fs (inner_context next)) first v (formals_within fs (inner_context next)) i.0.0))).by,
           let n : Notes es w v = body_notes o xs es v i.1.0 in record { calls = n.calls; grows = n.grows },
           i.0.1,
         );
       }))
       (λ j at b. b)
       (λ d v p. and_then (declares_tells {B = FunctionBreaks token name f fs (Some body) c}
-      (clashes name o w || is_defined (unwrap_or o (length w.functions)) w.defined_as) f.gives v
+      (is_clashing_name name o w || is_defined (unwrap_or o (length w.functions)) w.defined_as) f.gives v
       (λ e. (
         next,
         (
@@ -460,16 +460,16 @@ module _ (token : ℕ) (name : List ℕ) (f : FunctionType) (c : Context) (w : W
             record next { defined = name ∷ next.defined },
             (
               (
-                fits_so o h (or_parts (clashes name o w) (is_defined (unwrap_or o (length w.functions)) w.defined_as) q.0).0 q.2,
-                once_so o h (or_parts (clashes name o w) (is_defined (unwrap_or o (length w.functions)) w.defined_as) q.0).1,
+                fits_so o h (or_parts (is_clashing_name name o w) (is_defined (unwrap_or o (length w.functions)) w.defined_as) q.0).0 q.2,
+                once_so o h (or_parts (is_clashing_name name o w) (is_defined (unwrap_or o (length w.functions)) w.defined_as) q.0).1,
                 (next, (names_so o h, p.2, refl)),
               ),
               subst (λ (z : Walk). Files (record next { defined = name ∷ next.defined })
                   (shown (with_definition (unwrap_or o (length w.functions)) (length w.variables) z))) (sym q.1)
                   (defined_files name (unwrap_or o (length w.functions)) (length v.definitions) next (shown v)
                   (moved_files (named_files name f o c w k
-                  (or_parts (clashes name o w) (is_defined (unwrap_or o (length w.functions)) w.defined_as) q.0).0) p.0.knows p.0.moves)
-                  (ap (found name) p.0.moves.names ∙ place_found o h)),
+                  (or_parts (is_clashing_name name o w) (is_defined (unwrap_or o (length w.functions)) w.defined_as) q.0).0) p.0.knows p.0.moves)
+                  (ap (declared_meaning name) p.0.moves.names ∙ place_found o h)),
             ),
           ),
           subst (λ (z : Walk). Notes es w (with_definition (unwrap_or o (length w.functions)) (length w.variables) z)) (sym q.1)
@@ -484,5 +484,5 @@ module _ (token : ℕ) (name : List ℕ) (f : FunctionType) (c : Context) (w : W
 
   pub function_tells : (xs : List Parameter) (body : Option EntryList)
       → Tells (typed_function token f name xs body w) (Told (map formal_of xs) body) (FunctionBreaks token name f (map formal_of xs) body c)
-  function_tells xs body = function_by (known_as f (found name w.names) w)
-      (known_by f (found name w.names) (declared_in name c.scope) w (known_as f (found name w.names) w) was_found refl) xs body
+  function_tells xs body = function_by (known_as f (declared_meaning name w.names) w)
+      (known_by f (declared_meaning name w.names) (declared_in name c.scope) w (known_as f (declared_meaning name w.names) w) was_found refl) xs body

@@ -16,7 +16,7 @@ use Rattle.c_types_expressions.specs.declared.walk.Walk.{Walk}
 use Rattle.c_types_expressions.specs.Words.{with_stars, is_here, Done}
 use Rattle.c_types_walk.specs.ItemWalk.{listed_params, types_of, walk_item, walk_items}
 use Rattle.c_syntax.specs.declared.parts.Params.{Params}
-use Rattle.c_types.specs.Answers.{noted}
+use Rattle.c_types.specs.Answers.{note_at}
 use Rattle.c_types_expressions.specs.declared.walk.FunctionEntry.{FunctionEntry}
 use Rattle.c_types_walk.specs.StatementWalk.{walk_declaration}
 use Rattle.c_types_faults.specs.Events.{Event, declaration_events, entries_events, item_events, items_events, params_events}
@@ -24,7 +24,7 @@ use Rattle.c_types_faults.proofs.Noting.{Listed, Named, NoLibrary, path_onward}
 use Rattle.c_types_faults.proofs.PathStatements.{declaration_goes}
 use Rattle.c_types_faults.proofs.Paths.{Path, called_name, view}
 use Rattle.c_types_faults.proofs.Calling.{both_tell, calls_then, path_calls}
-use Rattle.c_types_faults.specs.Context.{Context, counting, empty_context, known}
+use Rattle.c_types_faults.specs.Context.{Context, global_cells_added, empty_context, known_identifiers}
 use Rattle.c_types_faults.specs.Declarations.{VariableGives, VariablesGive, DeclarationGives, DeclarationBreaks}
 use Rattle.c_types_faults.specs.Structs.{StructGives}
 use Rattle.c_types_faults.specs.Functions.{FunctionBreaks, PrototypeGives, is_listed, formal_type, Names}
@@ -62,7 +62,7 @@ struct_keeps tag members c after (s, h) = (ap (λ (d : Context). d.outer) h.3, a
 
 -- variables
 
-counting_keeps : (global : Bool) (n : ℕ) (c : Context) → ((counting global n c).outer ≡ c.outer) × ((counting global n c).defined ≡ c.defined)
+counting_keeps : (global : Bool) (n : ℕ) (c : Context) → ((global_cells_added global n c).outer ≡ c.outer) × ((global_cells_added global n c).defined ≡ c.defined)
 counting_keeps true n c = (refl, refl)
 counting_keeps false n c = (refl, refl)
 
@@ -143,7 +143,7 @@ ItemTold c x w d v = ((after : Context) × (ItemGives c x after × Files after (
 -- what declares no function and calls none
 no_calls : (es : List Event) (w v : Walk) → v.functions_at ≡ w.functions_at → v.functions ≡ w.functions → Notes es w v
 no_calls es w v calls functions = record {
-  calls = λ t i h. inl (ap (λ ns. noted ns t) (sym calls) ∙ h);
+  calls = λ t i h. inl (ap (λ ns. note_at ns t) (sym calls) ∙ h);
   grows = λ i name h. ap (λ fs. slice_get (map called_name fs) i) functions ∙ h;
 }
 
@@ -168,7 +168,7 @@ item_tells (i.Struct token tag members) c w k = weaker (struct_tells token tag m
       (p.0, (p.1.0, structured_files p.0 w v s.0 s.1 k p.1.1)),
       no_calls (item_events (i.Struct token tag members)) w v p.1.1.calls p.1.1.functions,
     ))
-item_tells (i.Function token b stars name ps body) c w k = and_then (base_tells (known c) b w (agreed k.knows)) (λ j at h. inl h) (λ of v p.
+item_tells (i.Function token b stars name ps body) c w k = and_then (base_tells (known_identifiers c) b w (agreed k.knows)) (λ j at h. inl h) (λ of v p.
     and_then (params_tell c (is_some body) (listed_params ps) [] v (agrees_on (agreed k.knows) (ap shown p.1))) (λ j at h. inr (of, (p.0, inl h)))
     (λ xs u q.
     let f : FunctionType = record { gives = with_stars stars of; params = types_of xs } in

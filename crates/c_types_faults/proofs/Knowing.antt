@@ -19,10 +19,10 @@ use Rattle.c_types_expressions.specs.declared.names.ScopeEntry.TheVariants.{Open
 use Rattle.c_types_expressions.specs.declared.walk.FunctionEntry.{FunctionEntry}
 use Rattle.c_types_expressions.specs.declared.walk.Variable.TheVariants as variable
 use Rattle.c_types_expressions.specs.declared.walk.Walk.{Walk}
-use Rattle.c_types_expressions.specs.Words.{closed, found, is_here, meaning_of, or_before, replaced, with_variable}
+use Rattle.c_types_expressions.specs.Words.{names_after_scope, declared_meaning, is_here, meaning_of, or_before, item_replaced, with_variable}
 use Rattle.c_types_faults.specs.Known.{Entity, Object, Function, Standard}
 use Rattle.c_types_faults.specs.Agrees.{Denotes, IsTag, Means}
-use Rattle.c_types_faults.specs.Context.{Context, Declared, HasName, Tagged, counting, declare, declared_in, denoted, inner, known, or_else, tag_in}
+use Rattle.c_types_faults.specs.Context.{Context, Declared, HasName, Tagged, global_cells_added, name_declared, declared_in, denoted_entity, inner_context, known_identifiers, or_else, tag_in}
 use Rattle.c_types_faults.proofs.Telling.{Agreed, Shown, shown}
 
 -- names in scope: each denotes what the context says, and was declared after those before it
@@ -74,17 +74,17 @@ module _ (types : List TypeTree) (fs : List FunctionEntry) where
   one_denotes false m x found library inside outside h g = g
 
   entry_denotes : (n name : List ℕ) (d : Declared) (m : Meaning) (rest : List ScopeEntry) (ds : List Declared) (ss : List (List Declared)) → n ≡ d.name
-      → Means types fs m d.entity → Denotes types fs (meaning_of name rest) (denoted name (ds ∷ ss))
-      → Denotes types fs (meaning_of name (Declares n m ∷ rest)) (denoted name ((d ∷ ds) ∷ ss))
+      → Means types fs m d.entity → Denotes types fs (meaning_of name rest) (denoted_entity name (ds ∷ ss))
+      → Denotes types fs (meaning_of name (Declares n m ∷ rest)) (denoted_entity name ((d ∷ ds) ∷ ss))
   entry_denotes n name d m rest ds ss e h g =
-      subst (λ z. Denotes types fs (or_before (or_before (if bytes_eq z name then Some m else None) (found name rest)) (option_map meaning.Library
+      subst (λ z. Denotes types fs (or_before (or_before (if bytes_eq z name then Some m else None) (declared_meaning name rest)) (option_map meaning.Library
       (library_named name)))
-      (denoted name ((d ∷ ds) ∷ ss))) (sym e)
-      (one_denotes (bytes_eq d.name name) m d.entity (found name rest) (option_map meaning.Library (library_named name)) (declared_in name ds)
-      (denoted name ss) h g)
+      (denoted_entity name ((d ∷ ds) ∷ ss))) (sym e)
+      (one_denotes (bytes_eq d.name name) m d.entity (declared_meaning name rest) (option_map meaning.Library (library_named name)) (declared_in name ds)
+      (denoted_entity name ss) h g)
 
   pub name_denotes : (vb fb : ℕ) (names : List ScopeEntry) (scope : List Declared) (outer : List (List Declared)) → Matches types fs vb fb names scope outer
-      → (name : List ℕ) → Denotes types fs (meaning_of name names) (denoted name (scope ∷ outer))
+      → (name : List ℕ) → Denotes types fs (meaning_of name names) (denoted_entity name (scope ∷ outer))
   name_denotes vb fb [] [] [] h name = library_denotes types fs (library_named name)
   name_denotes vb fb (Opens ∷ rest) [] (s ∷ ss) h name = name_denotes vb fb rest s ss h name
   name_denotes vb fb (Declares n (meaning.Variable i) ∷ rest) (d ∷ ds) ss h name =
@@ -141,7 +141,7 @@ module _ (types : List TypeTree) (fs : List FunctionEntry) where
 
   -- the end of a scope
   pub closed_matches : (vb fb : ℕ) (names : List ScopeEntry) (scope next : List Declared) (outer : List (List Declared))
-      → Matches types fs vb fb names scope (next ∷ outer) → (v f : ℕ) → vb ≤ v → fb ≤ f → Matches types fs v f (closed names) next outer
+      → Matches types fs vb fb names scope (next ∷ outer) → (v f : ℕ) → vb ≤ v → fb ≤ f → Matches types fs v f (names_after_scope names) next outer
   closed_matches vb fb [] [] next outer h v f p q = absurd h
   closed_matches vb fb [] (d ∷ ds) next outer h v f p q = absurd h
   closed_matches vb fb (Opens ∷ rest) [] next outer h v f p q = wider vb fb rest next outer v f p q h
@@ -177,19 +177,19 @@ one_tag : (b : Bool) (i n : ℕ) (m : Option Meaning) (x : Option ℕ) → i ≡
 one_tag true i n m x h g = h
 one_tag false i n m x h g = g
 
-pub tag_denotes : (tags : List ScopeEntry) (ds : List Tagged) → TagsMatch tags ds → (tag : List ℕ) → IsTag (found tag tags) (tag_in tag ds)
+pub tag_denotes : (tags : List ScopeEntry) (ds : List Tagged) → TagsMatch tags ds → (tag : List ℕ) → IsTag (declared_meaning tag tags) (tag_in tag ds)
 tag_denotes [] [] h tag = tt
 tag_denotes [] (d ∷ ds) h tag = absurd h
 tag_denotes (Opens ∷ rest) ds h tag = absurd h
 tag_denotes (Declares t m ∷ rest) [] h tag = absurd h
 tag_denotes (Declares t (meaning.Struct i) ∷ rest) (d ∷ ds) h tag =
-    subst (λ z. IsTag (or_before (if bytes_eq z tag then Some (meaning.Struct i) else None) (found tag rest)) (tag_in tag (d ∷ ds))) (sym h.0)
-    (one_tag (bytes_eq d.tag tag) i d.number (found tag rest) (tag_in tag ds) h.1 (tag_denotes rest ds h.2 tag))
+    subst (λ z. IsTag (or_before (if bytes_eq z tag then Some (meaning.Struct i) else None) (declared_meaning tag rest)) (tag_in tag (d ∷ ds))) (sym h.0)
+    (one_tag (bytes_eq d.tag tag) i d.number (declared_meaning tag rest) (tag_in tag ds) h.1 (tag_denotes rest ds h.2 tag))
 tag_denotes (Declares t (meaning.Variable i) ∷ rest) (d ∷ ds) h tag = absurd h
 tag_denotes (Declares t (meaning.Function i) ∷ rest) (d ∷ ds) h tag = absurd h
 tag_denotes (Declares t (meaning.Library f) ∷ rest) (d ∷ ds) h tag = absurd h
 
-pub agreed : {c : Context} {s : Shown} → Knows c s → Agreed (known c) s
+pub agreed : {c : Context} {s : Shown} → Knows c s → Agreed (known_identifiers c) s
 agreed {c = c} {s = s} k = record {
   by = record {
     ordinary = name_denotes s.types s.functions s.count (length s.functions) s.names c.scope c.outer k.names;
@@ -244,7 +244,7 @@ with_object name t s = record s {
 }
 
 abbrev pub completed : ℕ → TypeTree → Shown → Shown
-completed index u s = record s { types = replaced s.types index u }
+completed index u s = record s { types = item_replaced s.types index u }
 
 abbrev pub grown : Bool → ℕ → Shown → Shown
 grown global cells s = if global then record s { global_cells = s.global_cells + cells } else s
@@ -253,7 +253,7 @@ abbrev pub entering : Shown → Shown
 entering s = record s { names = Opens ∷ s.names }
 
 abbrev pub leaving : Shown → Shown
-leaving s = record s { names = closed s.names }
+leaving s = record s { names = names_after_scope s.names }
 
 pub variable_shown : (global : Bool) (token : ℕ) (name : List ℕ) (t : TypeTree) (w : Walk)
     → shown (with_variable global token name t w) ≡ with_object name t (shown w)
@@ -265,7 +265,7 @@ variable_shown false token name t w =
     (length-append w.variables (record { name = name; variable = variable.Local w.locals; from = token } ∷ []))
 
 module _ {c : Context} {s : Shown} where
-  pub object_knows : (name : List ℕ) (t : TypeTree) → Knows c s → Knows (declare name (Object t) c) (with_object name t s)
+  pub object_knows : (name : List ℕ) (t : TypeTree) → Knows c s → Knows (name_declared name (Object t) c) (with_object name t s)
   object_knows name t k = record {
     names = (
       refl,
@@ -280,7 +280,7 @@ module _ {c : Context} {s : Shown} where
     cells = k.cells;
   }
 
-  pub completed_knows : (name : List ℕ) (t u : TypeTree) → Knows c s → Knows (declare name (Object u) c) (completed s.count u (with_object name t s))
+  pub completed_knows : (name : List ℕ) (t u : TypeTree) → Knows c s → Knows (name_declared name (Object u) c) (completed s.count u (with_object name t s))
   completed_knows name t u k =
       let within : s.count < length (s.types ++ t ∷ []) = omega (arith, k.count, length-append s.types (t ∷ [])) in
       record {
@@ -288,7 +288,7 @@ module _ {c : Context} {s : Shown} where
           refl,
           omega arith,
           replaced_same (s.types ++ t ∷ []) s.count u within,
-          matches_types s.types (replaced (s.types ++ t ∷ []) s.count u) s.functions s.count (length s.functions) s.names c.scope c.outer
+          matches_types s.types (item_replaced (s.types ++ t ∷ []) s.count u) s.functions s.count (length s.functions) s.names c.scope c.outer
               (λ i of p h. replaced_other (s.types ++ t ∷ []) s.count i u (λ e. omega (arith, e, p))
               ∙ get_before s.types t i (slice_get_within s.types i of h) ∙ h) k.names,
         );
@@ -298,15 +298,15 @@ module _ {c : Context} {s : Shown} where
         cells = k.cells;
       }
 
-  pub grown_knows : (global : Bool) (n : ℕ) → Knows c s → Knows (counting global n c) (grown global n s)
+  pub grown_knows : (global : Bool) (n : ℕ) → Knows c s → Knows (global_cells_added global n c) (grown global n s)
   grown_knows true n k = record { names = k.names; tags = k.tags; structs = k.structs; count = k.count; cells = ap (λ m. m + n) k.cells }
   grown_knows false n k = k
 
-  pub entering_knows : Knows c s → Knows (inner c) (entering s)
+  pub entering_knows : Knows c s → Knows (inner_context c) (entering s)
   entering_knows k = record { names = k.names; tags = k.tags; structs = k.structs; count = k.count; cells = k.cells }
 
 -- a scope within a context has ended
-pub leaving_knows : {c : Context} {s : Shown} (scope : List Declared) → Knows (record (inner c) { scope = scope }) s → Knows c (leaving s)
+pub leaving_knows : {c : Context} {s : Shown} (scope : List Declared) → Knows (record (inner_context c) { scope = scope }) s → Knows c (leaving s)
 leaving_knows {c = c} {s = s} scope k = record {
   names = closed_matches s.types s.functions s.count (length s.functions) s.names scope c.scope c.outer k.names s.count (length s.functions)
       (omega arith) (omega arith);

@@ -10,8 +10,8 @@ use Rattle.c_types_expressions.specs.declared.names.Meaning.{Meaning}
 use Rattle.c_types_expressions.specs.declared.names.Meaning.TheVariants as meaning
 use Rattle.c_types_expressions.specs.declared.names.ScopeEntry.{ScopeEntry}
 use Rattle.c_types_expressions.specs.declared.names.ScopeEntry.TheVariants as entry
-use Rattle.c_types_expressions.specs.Words.{closed, meaning_of, ended_scopes, replaced}
-use Rattle.c_types_faults.specs.Events.{Construct, Calls, Selects, Other, Event, Value, Initialises, Variable, Opens, Closes, Struct, Names, Defines, scoped}
+use Rattle.c_types_expressions.specs.Words.{names_after_scope, meaning_of, ended_scopes, item_replaced}
+use Rattle.c_types_faults.specs.Events.{Construct, Calls, Selects, Other, Event, Value, Initialises, Variable, Opens, Closes, Struct, Names, Defines, scope_events}
 use Rattle.c_types_faults.specs.Scopes.{Scope, scope_name}
 use Rattle.c_types_faults.proofs.Paths.{CalledAs, Notes, Path, View, calling, closing, opening, path_parts, selecting, typed}
 use Rattle.c_types_faults.proofs.Points.{Among, AreValues, Once, Spread, Within, among_parts, once_both, within_both}
@@ -40,7 +40,7 @@ end_by token (Some e) = Some e
 
 abbrev pub all_ended : ℕ → List ℕ → List (Option ℕ) → List (Option ℕ)
 all_ended token [] es = es
-all_ended token (q ∷ qs) es = all_ended token qs (replaced es q (Some token))
+all_ended token (q ∷ qs) es = all_ended token qs (item_replaced es q (Some token))
 
 variables_both : (xs ys : List ScopeEntry) → AreVariables xs → AreVariables ys → AreVariables (xs ++ ys)
 variables_both [] ys h k = k
@@ -59,7 +59,7 @@ places_both (entry.Declares name (meaning.Struct place) ∷ rest) ys = places_bo
 places_both (entry.Opens ∷ rest) ys = places_both rest ys
 
 -- where a scope closes, what it declared is gone
-pub closed_new : (xs outer : List ScopeEntry) → AreVariables xs → closed (xs ++ entry.Opens ∷ outer) ≡ outer
+pub closed_new : (xs outer : List ScopeEntry) → AreVariables xs → names_after_scope (xs ++ entry.Opens ∷ outer) ≡ outer
 closed_new [] outer h = refl
 closed_new (entry.Declares name (meaning.Variable place) ∷ rest) outer h = closed_new rest outer h
 closed_new (entry.Declares name (meaning.Function place) ∷ rest) outer h = absurd h
@@ -70,7 +70,7 @@ closed_new (entry.Opens ∷ rest) outer h = absurd h
 ended_new : (token : ℕ) (xs outer : List ScopeEntry) (es : List (Option ℕ)) → AreVariables xs
     → ended_scopes token (xs ++ entry.Opens ∷ outer) es ≡ all_ended token (places xs) es
 ended_new token [] outer es h = refl
-ended_new token (entry.Declares name (meaning.Variable place) ∷ rest) outer es h = ended_new token rest outer (replaced es place (Some token)) h
+ended_new token (entry.Declares name (meaning.Variable place) ∷ rest) outer es h = ended_new token rest outer (item_replaced es place (Some token)) h
 ended_new token (entry.Declares name (meaning.Function place) ∷ rest) outer es h = absurd h
 ended_new token (entry.Declares name (meaning.Library function) ∷ rest) outer es h = absurd h
 ended_new token (entry.Declares name (meaning.Struct place) ∷ rest) outer es h = absurd h
@@ -83,12 +83,12 @@ set_seam (z ∷ xs) ys x y = ap (λ zs. z ∷ zs) (set_seam xs ys x y)
 within_seam : (xs ys : List (Option ℕ)) (x : Option ℕ) → nat_lt (length xs) (length (xs ++ x ∷ ys)) ≡ true
 within_seam xs ys x = grind (arith, nat_tests, length-append xs (x ∷ ys))
 
-replaced_seam : (xs ys : List (Option ℕ)) (x y : Option ℕ) → replaced (xs ++ x ∷ ys) (length xs) y ≡ xs ++ y ∷ ys
+replaced_seam : (xs ys : List (Option ℕ)) (x y : Option ℕ) → item_replaced (xs ++ x ∷ ys) (length xs) y ≡ xs ++ y ∷ ys
 replaced_seam xs ys x y = rw (within_seam xs ys x) (set_seam xs ys x y)
 
 ended_both : (token : ℕ) (ps qs : List ℕ) (es : List (Option ℕ)) → all_ended token (ps ++ qs) es ≡ all_ended token qs (all_ended token ps es)
 ended_both token [] qs es = refl
-ended_both token (p ∷ ps) qs es = ended_both token ps qs (replaced es p (Some token))
+ended_both token (p ∷ ps) qs es = ended_both token ps qs (item_replaced es p (Some token))
 
 -- the places without an end get this one, the latest first
 fill : (token n : ℕ) (before es : List (Option ℕ)) → length before ≡ n
@@ -97,11 +97,11 @@ fill token n before [] h = refl
 fill token n before (None ∷ es) h =
     ap (λ ps. all_ended token ps (before ++ None ∷ es)) (reverse-append (n ∷ []) (unended (suc n) es))
     ∙ ended_both token (reverse (unended (suc n) es)) (n ∷ []) (before ++ None ∷ es)
-    ∙ ap (λ xs. replaced xs n (Some token))
+    ∙ ap (λ xs. item_replaced xs n (Some token))
     (ap (all_ended token (reverse (unended (suc n) es))) (sym (append_assoc before (None ∷ []) es))
     ∙ fill token (suc n) (before ++ None ∷ []) es (omega (arith, h, length-append before (None ∷ [])))
     ∙ append_assoc before (None ∷ []) (map (end_by token) es))
-    ∙ ap (λ m. replaced (before ++ None ∷ map (end_by token) es) m (Some token)) (sym h)
+    ∙ ap (λ m. item_replaced (before ++ None ∷ map (end_by token) es) m (Some token)) (sym h)
     ∙ replaced_seam before (map (end_by token) es) None (Some token)
 fill token n before (Some e ∷ es) h =
     ap (all_ended token (reverse (unended (suc n) es))) (sym (append_assoc before (Some e ∷ []) es))
@@ -478,7 +478,7 @@ left_variable lo hi last token a b low high p =
 
 -- a scope that closes
 
-among_scoped : (k : ℕ) (es : List Event) → Among k (scoped es) → Among k es
+among_scoped : (k : ℕ) (es : List Event) → Among k (scope_events es) → Among k es
 among_scoped k es (inl h) = absurd h
 among_scoped k es (inr h) = ⊎_elim (λ i. i) (λ i. absurd (none i)) (among_parts k es (Closes ∷ []) h)
   where
@@ -486,14 +486,14 @@ among_scoped k es (inr h) = ⊎_elim (λ i. i) (λ i. absurd (none i)) (among_pa
     none (inl i) = i
     none (inr i) = i
 
-once_scoped : (es : List Event) → Once es → Once (scoped es)
+once_scoped : (es : List Event) → Once es → Once (scope_events es)
 once_scoped es h = (λ k i j. i, once_both es (Closes ∷ []) h ((λ k i j. i), tt) (λ k i j. none k j))
   where
     none : (k : ℕ) → Among k (Closes ∷ []) → ⊥
     none k (inl i) = i
     none k (inr i) = i
 
-begun_scoped : (lo hi l h : ℕ) (es : List Event) (scope : Scope) → l ≤ lo → hi ≤ h → Begun lo hi es scope → Begun l h (scoped es) scope
+begun_scoped : (lo hi l h : ℕ) (es : List Event) (scope : Scope) → l ≤ lo → hi ≤ h → Begun lo hi es scope → Begun l h (scope_events es) scope
 begun_scoped lo hi l h es scope low high s = record {
   low = omega (arith, low, s.low);
   name = s.name;
@@ -503,7 +503,7 @@ begun_scoped lo hi l h es scope low high s = record {
 
 match_scoped : (start end lo hi last l h outer : ℕ) (es : List Event) (scopes : List Scope) (ends : List (Option ℕ)) → l ≤ lo → hi ≤ h → start ≤ end
     → end ≤ last → last < h → ((k : ℕ) → Among k es → k ≤ end) → Match start lo hi last es scopes ends
-    → Match start l h outer (scoped es) scopes (map (end_by end) ends)
+    → Match start l h outer (scope_events es) scopes (map (end_by end) ends)
 match_scoped start end lo hi last l h outer es [] [] low high grows inside done seen m = tt
 match_scoped start end lo hi last l h outer es (scope ∷ scopes) (None ∷ ends) low high grows inside done seen m = (
   record {
@@ -529,7 +529,7 @@ match_scoped start end lo hi last l h outer es [] (e ∷ ends) low high grows in
 match_scoped start end lo hi last l h outer es (scope ∷ scopes) [] low high grows inside done seen m = absurd m
 
 scope_left : {lo hi last : ℕ} {es : List Event} {scopes : List Scope} (a b : View) (l h outer : ℕ) → Left true lo hi last es scopes (opening a) b
-    → l ≤ lo → hi ≤ last + 1 → last < h → Left true l h outer (scoped es) scopes a (closing b)
+    → l ≤ lo → hi ≤ last + 1 → last < h → Left true l h outer (scope_events es) scopes a (closing b)
 scope_left {lo = lo} {hi = hi} {last = last} {es = es} {scopes = scopes} a b l h outer k low high done = record {
   within = λ i j. let m : (lo ≤ i) × (i < hi) = k.within i (among_scoped i es j) in (omega (arith, low, m.0), omega (arith, m.1, high, done));
   once = once_scoped es k.once;
@@ -537,7 +537,7 @@ scope_left {lo = lo} {hi = hi} {last = last} {es = es} {scopes = scopes} a b l h
   grows = k.grows;
   low = λ g. omega (arith, k.low (omega (arith, g, low)), high, done);
   new = [];
-  names = ap closed k.names ∙ closed_new k.new a.names k.kept.0;
+  names = ap names_after_scope k.names ∙ closed_new k.new a.names k.kept.0;
   own = map (end_by b.latest) k.own;
   ends = λ g. ap (λ ns. ended_scopes b.latest ns b.ends) k.names ∙ ended_new b.latest k.new a.names b.ends k.kept.0
       ∙ ap (λ es. all_ended b.latest (places k.new) es) (k.ends g) ∙ ap (λ ps. all_ended b.latest ps (a.ends ++ k.own)) (k.placed g)
@@ -580,10 +580,10 @@ leaves_wider lo hi l h k low high = record { by = λ a b p. left_wider l h (k.by
 
 -- what stands in a scope of its own, which ends here
 pub leaves_scoped : {es : List Event} {scopes : List Scope} (lo hi last l h outer : ℕ) → Leaves true lo hi last es scopes → l ≤ lo → hi ≤ last + 1 → last < h
-    → Leaves true l h outer (scoped es) scopes
+    → Leaves true l h outer (scope_events es) scopes
 leaves_scoped {es = es} {scopes = scopes} lo hi last l h outer k low high done = record {
   by = λ a b p. let q : (c : View) × (Path es p.0 c × Path (Closes ∷ []) c b) = path_parts es (Closes ∷ []) p.0 b p.1.1 in
-      subst (λ v. Left true l h outer (scoped es) scopes a v) (sym (q.1.1.1.1 ∙ q.1.1.1.0))
+      subst (λ v. Left true l h outer (scope_events es) scopes a v) (sym (q.1.1.1.1 ∙ q.1.1.1.0))
       (scope_left a q.0 l h outer (subst (λ v. Left true lo hi last es scopes v q.0) p.1.0 (k.by p.0 q.0 q.1.0)) low high done);
 }
 

@@ -11,15 +11,15 @@ use Rattle.c_syntax.specs.declared.parts.Params.{Params}
 use Rattle.c_syntax.specs.declared.parts.Params.TheVariants as params
 use Rattle.c_syntax.specs.declared.token.Sign.TheVariants as sign
 use Rattle.c_syntax.specs.ItemTree as i
-use Rattle.c_syntax.specs.Words.{ItemTree, EachAt, ItemAt, NameAt, ParamAt, ParamsAt, ShapedItem, a_name, a_sign, body_kinds, entry_kinds, item_kinds, optional}
-use Rattle.c_syntax.specs.Words.{param_kinds, param_name_kinds, params_kinds, parenthesized, type_kinds, with_commas, EntryList}
+use Rattle.c_syntax.specs.Words.{ItemTree, EachAt, ItemAt, NameAt, ParamAt, ShapedItem, a_name, a_sign, body_kinds, entry_kinds, item_kinds, optional_kinds}
+use Rattle.c_syntax.specs.Words.{param_kinds, param_name_kinds, params_kinds, parenthesized_kinds, type_kinds, with_commas, EntryList}
 use Rattle.c_types_expressions.specs.declared.names.Meaning.TheVariants as meaning
 use Rattle.c_types_expressions.specs.declared.names.ScopeEntry.{ScopeEntry}
 use Rattle.c_types_expressions.specs.declared.names.ScopeEntry.TheVariants as entry
 use Rattle.c_types_walk.specs.ItemWalk.{listed_params}
 use Rattle.c_types_laws.proofs.Goods.{around}
 use Rattle.c_types_laws.proofs.Statements.{commas_long, commas_one}
-use Rattle.c_types_faults.specs.Events.{Event, Struct, Names, Defines, entries_events, item_events, items_events, named_events, params_events, scoped}
+use Rattle.c_types_faults.specs.Events.{Event, Struct, Names, Defines, entries_events, item_events, items_events, named_events, params_events, scope_events}
 use Rattle.c_types_faults.specs.Scopes.{Scope, function_scopes, item_scopes, items_scopes, last_token, named_scopes, params_scopes}
 use Rattle.c_types_faults.proofs.Leaving.{Leaves, Left, leaves_at_large, leaves_none, leaves_scoped, leaves_then, leaves_variable, leaves_wider, places}
 use Rattle.c_types_faults.proofs.LeavingStatements.{declaration_leaves, entries_leave}
@@ -28,7 +28,7 @@ use Rattle.c_types_faults.proofs.Points.{Among}
 
 -- parameters
 
-named_leaves : (o : Option ParamName) (start at hi last : ℕ) → IfSome o (NameAt start) → at ≤ start → start + length (optional param_name_kinds o) ≤ hi
+named_leaves : (o : Option ParamName) (start at hi last : ℕ) → IfSome o (NameAt start) → at ≤ start → start + length (optional_kinds param_name_kinds o) ≤ hi
     → Leaves true at hi last (named_events o) (named_scopes last o)
 named_leaves None start at hi last p low high = leaves_none at hi last (omega (arith, low, high))
 named_leaves (Some n) start at hi last p low high =
@@ -38,7 +38,7 @@ named_leaves (Some n) start at hi last p low high =
 param_leaves : (q : Param) (at hi last : ℕ) → ParamAt at q → at + length (param_kinds q) ≤ hi → Leaves true at hi last (named_events q.name) (named_scopes last q.name)
 param_leaves q at hi last p high =
     named_leaves q.name (at + length (type_kinds q.base q.stars)) at hi last p.2 (omega arith)
-    (omega (arith, high, length-append (type_kinds q.base q.stars) (optional param_name_kinds q.name)))
+    (omega (arith, high, length-append (type_kinds q.base q.stars) (optional_kinds param_name_kinds q.name)))
 
 params_leave : (ps : List Param) (at hi last : ℕ) → EachAt ParamAt param_kinds 1 at ps → at + length (with_commas param_kinds ps) ≤ hi
     → Leaves true at hi last (params_events ps) (params_scopes last ps)
@@ -59,8 +59,8 @@ function_long : (b : Base) (stars : ℕ) (name : List ℕ) (ps : Params) (body :
 function_long b stars name ps body =
     omega (
       arith,
-      length-append (type_kinds b stars ++ a_name name ++ parenthesized (params_kinds ps)) (body_kinds (Some body)),
-      length-append (type_kinds b stars ++ a_name name) (parenthesized (params_kinds ps)),
+      length-append (type_kinds b stars ++ a_name name ++ parenthesized_kinds (params_kinds ps)) (body_kinds (Some body)),
+      length-append (type_kinds b stars ++ a_name name) (parenthesized_kinds (params_kinds ps)),
       length-append (type_kinds b stars) (a_name name),
       around (params_kinds ps),
       length-append (entry_kinds body) (a_sign sign.RightBrace),
@@ -149,7 +149,7 @@ item_leaves (i.Function token b stars name ps (Some body)) at hi end h p long =
     let total : length (item_kinds (i.Function token b stars name ps (Some body)))
     ≡ length (type_kinds b stars) + 5 + length (params_kinds ps) + length (entry_kinds body) = function_long b stars name ps body in
     leaves_then at at hi (name_leaves at end name)
-    (subst (Leaves false at hi end (scoped es ++ Defines ∷ [])) (append-nil scopes)
+    (subst (Leaves false at hi end (scope_events es ++ Defines ∷ [])) (append-nil scopes)
     (leaves_then at hi hi
     (leaves_at_large (leaves_scoped (at + length (type_kinds b stars) + 2)
     (at + length (type_kinds b stars) + 4 + length (params_kinds ps) + length (entry_kinds body)) last at hi end

@@ -1,19 +1,17 @@
 -- What declarations and statements leave: the scopes that their tree says.
 use Rattle.std.proofs.Common.{◌≡◌, ℕ, ◌+◌, ◌≤◌, ◌<◌, true, List, [], ◌∷◌, ◌++◌, length, Option, Some, None, refl, subst, arith, length-append}
 use Rattle.std.specs.Prelude.{IfSome}
-use Rattle.std.specs.List.{AllByRecursion, flat_map}
-use Rattle.std.proofs.lemmas.List.{append-nil, length-replicate}
-use Rattle.c_syntax.specs.declared.parts.Declarator.{Declarator}
+use Rattle.std.specs.List.{AllByRecursion}
+use Rattle.std.proofs.lemmas.List.{append-nil}
 use Rattle.c_syntax.specs.declared.token.Sign.TheVariants as sign
 use Rattle.c_syntax.specs.declared.token.TokenKind.TheVariants as kind
 use Rattle.c_syntax.specs.declared.token.Word.TheVariants as word
 use Rattle.c_syntax.specs.Words.{ExprTree, DeclarationAt, EachAt, EntriesAt, ExprAt, ForStartAt, InitialAt, StartAt, StatementAt, ShapedDeclaration}
-use Rattle.c_syntax.specs.Words.{ShapedEntries, ShapedExpr, ShapedForStart, ShapedInitial, ShapedStart, ShapedStatement, Kinds, a_name, a_sign, a_word}
-use Rattle.c_syntax.specs.Words.{base_kinds, bound_kinds, comma_kinds, declaration_kinds, declarator_kinds, entry_kinds, expr_kinds, exprs_kinds}
-use Rattle.c_syntax.specs.Words.{for_start_kinds, initial_kinds, optional, parenthesized, star_kinds, start_kinds, statement_kinds, with_commas, InitialTree}
+use Rattle.c_syntax.specs.Words.{ShapedEntries, ShapedExpr, ShapedForStart, ShapedInitial, ShapedStart, ShapedStatement, a_sign, a_word}
+use Rattle.c_syntax.specs.Words.{base_kinds, comma_kinds, declaration_kinds, declarator_kinds, entry_kinds, expr_kinds, exprs_kinds}
+use Rattle.c_syntax.specs.Words.{for_start_kinds, initial_kinds, optional_kinds, start_kinds, statement_kinds, with_commas, InitialTree}
 use Rattle.c_syntax.specs.Words.{StartTree, DeclarationTree, ForStartTree, StatementTree, EntryList}
 use Rattle.c_syntax.specs.StatementTree as s
-use Rattle.c_types_laws.proofs.Goods.{around}
 use Rattle.c_types_laws.proofs.Statements.{commas_long, commas_one, declarator_long}
 use Rattle.c_types_faults.specs.Events.{declaration_events, entries_events, expr_events, exprs_events, for_start_events, initial_events}
 use Rattle.c_types_faults.specs.Events.{optional_events, start_events, starts_events, statement_events}
@@ -21,43 +19,7 @@ use Rattle.c_types_faults.specs.Scopes.{declaration_scopes, entries_scopes, for_
 use Rattle.c_types_faults.proofs.Leaving.{Leaves, leaves_initialises, leaves_none, leaves_scoped, leaves_then, leaves_values, leaves_variable, leaves_wider}
 use Rattle.c_types_faults.proofs.Points.{spread_wider}
 use Rattle.c_types_faults.proofs.SpreadExprs.{expr_has, expr_spread, exprs_spread}
-
--- how many tokens a part has
-
-if_long : (c : ExprTree) (x : StatementTree) → length (statement_kinds (s.If 0 c x)) ≡ 3 + length (expr_kinds c) + length (statement_kinds x)
-if_long c x = omega (arith, length-append (a_word word.If ++ parenthesized (expr_kinds c)) (statement_kinds x), around (expr_kinds c))
-
-else_long : (c : ExprTree) (x y : StatementTree)
-    → length (statement_kinds (s.IfElse 0 c x y)) ≡ 4 + length (expr_kinds c) + length (statement_kinds x) + length (statement_kinds y)
-else_long c x y = omega (
-  arith,
-  length-append (a_word word.If ++ parenthesized (expr_kinds c) ++ statement_kinds x ++ a_word word.Else) (statement_kinds y),
-  length-append (a_word word.If ++ parenthesized (expr_kinds c) ++ statement_kinds x) (a_word word.Else),
-  length-append (a_word word.If ++ parenthesized (expr_kinds c)) (statement_kinds x),
-  around (expr_kinds c),
-)
-
-do_long : (c : ExprTree) (x : StatementTree) → length (statement_kinds (s.Do 0 x c)) ≡ 5 + length (expr_kinds c) + length (statement_kinds x)
-do_long c x = omega (
-  arith,
-  length-append (a_word word.Do ++ statement_kinds x ++ a_word word.While ++ parenthesized (expr_kinds c)) (a_sign sign.Semicolon),
-  length-append (a_word word.Do ++ statement_kinds x ++ a_word word.While) (parenthesized (expr_kinds c)),
-  length-append (a_word word.Do ++ statement_kinds x) (a_word word.While),
-  around (expr_kinds c),
-)
-
-for_long : (b : ForStartTree) (c d : Option ExprTree) (x : StatementTree) → length (statement_kinds (s.For 0 b c d x))
-    ≡ 4 + length (for_start_kinds b) + length (optional expr_kinds c) + length (optional expr_kinds d) + length (statement_kinds x)
-for_long b c d x =
-    let inner : Kinds = for_start_kinds b ++ optional expr_kinds c ++ a_sign sign.Semicolon ++ optional expr_kinds d in
-    omega (
-      arith,
-      length-append (a_word word.For ++ parenthesized inner) (statement_kinds x),
-      around inner,
-      length-append (for_start_kinds b ++ optional expr_kinds c ++ a_sign sign.Semicolon) (optional expr_kinds d),
-      length-append (for_start_kinds b ++ optional expr_kinds c) (a_sign sign.Semicolon),
-      length-append (for_start_kinds b) (optional expr_kinds c),
-    )
+use Rattle.c_types_laws.proofs.Statements.{do_long, else_long, for_long, if_long}
 
 -- expressions
 
@@ -66,7 +28,7 @@ expr_leaves x at hi last h p high =
     leaves_values at hi last (expr_events x) (omega (arith, high))
     (spread_wider at (at + length (expr_kinds x)) at hi (expr_events x) (expr_spread x at h p) (omega arith) high)
 
-optional_leaves : (o : Option ExprTree) (at hi last : ℕ) → IfSome o ShapedExpr → IfSome o (ExprAt at) → at + length (optional expr_kinds o) ≤ hi
+optional_leaves : (o : Option ExprTree) (at hi last : ℕ) → IfSome o ShapedExpr → IfSome o (ExprAt at) → at + length (optional_kinds expr_kinds o) ≤ hi
     → Leaves true at hi last (optional_events o) []
 optional_leaves None at hi last h p high = leaves_none at hi last (omega (arith, high))
 optional_leaves (Some x) at hi last h p high = expr_leaves x at hi last h p high
@@ -74,7 +36,7 @@ optional_leaves (Some x) at hi last h p high = expr_leaves x at hi last h p high
 -- declarations
 
 initial_leaves : (o : Option InitialTree) (equal at hi last : ℕ) → IfSome o ShapedInitial → IfSome o (InitialAt (at + 1)) → equal ≡ at
-    → at + length (optional (λ y. a_sign sign.Equal ++ initial_kinds y) o) ≤ hi → Leaves true equal hi last (initial_events equal o) []
+    → at + length (optional_kinds (λ y. a_sign sign.Equal ++ initial_kinds y) o) ≤ hi → Leaves true equal hi last (initial_events equal o) []
 initial_leaves None equal at hi last h p same high = leaves_none equal hi last (omega (arith, high, same))
 initial_leaves (Some (s.Value value)) equal at hi last h p same high =
     leaves_initialises equal hi last (expr_events value)
@@ -92,8 +54,8 @@ start_leaves : (x : StartTree) (at hi last : ℕ) → ShapedStart x → StartAt 
     → Leaves true at hi last (start_events x) (starts_scopes last (x ∷ []))
 start_leaves x at hi last h p high =
     let first : ℕ = x.declarator.token + length (declarator_kinds x.declarator) in
-    let long : length (start_kinds x) ≡ length (declarator_kinds x.declarator) + length (optional (λ y. a_sign sign.Equal ++ initial_kinds y) x.initial) =
-    length-append (declarator_kinds x.declarator) (optional (λ y. a_sign sign.Equal ++ initial_kinds y) x.initial) in
+    let long : length (start_kinds x) ≡ length (declarator_kinds x.declarator) + length (optional_kinds (λ y. a_sign sign.Equal ++ initial_kinds y) x.initial) =
+    length-append (declarator_kinds x.declarator) (optional_kinds (λ y. a_sign sign.Equal ++ initial_kinds y) x.initial) in
     leaves_then at first hi
     (leaves_variable at first last x.declarator.name_token (omega (arith, p.1.1)) (omega (arith, p.1.0, p.1.1, declarator_long x.declarator)))
     (initial_leaves x.initial first (at + length (declarator_kinds x.declarator)) hi last h p.2 (omega (arith, p.1.0)) (omega (arith, long, high)))
@@ -129,7 +91,7 @@ for_start_leaves : (x : ForStartTree) (at hi last : ℕ) → ShapedForStart x �
     → Leaves true at hi last (for_start_events x) (for_start_scopes last x)
 for_start_leaves (s.Declares d) at hi last h p high = declaration_leaves d at hi last h p high
 for_start_leaves (s.Computes x) at hi last h p high =
-    optional_leaves x at hi last h p (omega (arith, high, length-append (optional expr_kinds x) (a_sign sign.Semicolon)))
+    optional_leaves x at hi last h p (omega (arith, high, length-append (optional_kinds expr_kinds x) (a_sign sign.Semicolon)))
 
 -- statements
 
@@ -180,8 +142,8 @@ mutual
       (omega arith) (omega (arith, long, end)))
   statement_leaves (s.For token b c d x) at hi outer h p end =
       let n : ℕ = length (for_start_kinds b) in
-      let m : ℕ = length (optional expr_kinds c) in
-      let l : ℕ = length (optional expr_kinds d) in
+      let m : ℕ = length (optional_kinds expr_kinds c) in
+      let l : ℕ = length (optional_kinds expr_kinds d) in
       let last : ℕ = last_token token (statement_kinds (s.For token b c d x)) in
       let long : length (statement_kinds (s.For token b c d x)) ≡ 4 + n + m + l + length (statement_kinds x) = for_long b c d x in
       let one : ℕ = at + 2 + n in

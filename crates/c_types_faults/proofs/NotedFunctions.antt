@@ -16,12 +16,12 @@ use Rattle.c_types_expressions.specs.declared.names.Meaning.TheVariants as meani
 use Rattle.c_types_expressions.specs.declared.names.ScopeEntry.{ScopeEntry}
 use Rattle.c_types_expressions.specs.declared.names.ScopeEntry.TheVariants as entry
 use Rattle.c_types_expressions.specs.declared.walk.Walk.{Walk}
-use Rattle.c_types_expressions.specs.Names.{closed, found, is_here, is_reserved}
-use Rattle.c_types_walk.specs.ItemWalk.{clashes, has_type, known_as, listed_params, with_function}
+use Rattle.c_types_expressions.specs.Names.{names_after_scope, declared_meaning, is_here, is_reserved}
+use Rattle.c_types_walk.specs.ItemWalk.{is_clashing_name, has_type, known_as, listed_params, with_function}
 use Rattle.c_types_laws.proofs.Declaring.{more_stays}
 use Rattle.c_types_laws.proofs.Steps.{IsFlat}
 use Rattle.sites.specs.Table.{defined_by, defined_in}
-use Rattle.c_types_faults.specs.Events.{Event, Closes, Names, declaration_events, entries_events, params_events, scoped}
+use Rattle.c_types_faults.specs.Events.{Event, Closes, Names, declaration_events, entries_events, params_events, scope_events}
 use Rattle.c_types_faults.specs.Scopes.{Scope, declaration_scopes}
 use Rattle.c_types_faults.proofs.Leaving.{AreVariables, Leaves, Left, closed_new}
 use Rattle.c_types_faults.proofs.LeavingItems.{body_leaves}
@@ -148,10 +148,10 @@ Declared defs name f w known = Known defs (view (with_function name f known w))
     × (slice_get (map called_name (with_function name f known w).functions) (unwrap_or known (length w.functions)) ≡ Some name)
 
 declared_by : (defs : List (List ℕ)) (name : List ℕ) (f : FunctionType) (w : Walk) (known : Option ℕ) → known_of name f w ≡ known
-    → clashes name known w ≡ false → Known defs (view w) → Declared defs name f w known
+    → is_clashing_name name known w ≡ false → Known defs (view w) → Declared defs name f w known
 declared_by defs name f w (Some index) e c k = (
   k,
-  k.named.by name index (subst (λ m. FoundAs name m w.names) (known_found f (found name w.names) w index e) (found_is name w.names k.named.own)),
+  k.named.by name index (subst (λ m. FoundAs name m w.names) (known_found f (declared_meaning name w.names) w index e) (found_is name w.names k.named.own)),
 )
 declared_by defs name f w None e c k =
     let g : (is_reserved name ≡ false) × (is_here name w.names ≡ false) = both_false (is_reserved name) (is_here name w.names) c in (
@@ -161,18 +161,18 @@ declared_by defs name f w None e c k =
           (get_last (map called_name w.functions) name)),
     )
 
-function_known : (defs : List (List ℕ)) (name : List ℕ) (f : FunctionType) (w : Walk) → clashes name (known_of name f w) w ≡ false → Known defs (view w)
+function_known : (defs : List (List ℕ)) (name : List ℕ) (f : FunctionType) (w : Walk) → is_clashing_name name (known_of name f w) w ≡ false → Known defs (view w)
     → Declared defs name f w (known_of name f w)
 function_known defs name f w c k = declared_by defs name f w (known_of name f w) refl c k
 
 -- behind a body the names are those before it
-scope_kept : {lo hi last : ℕ} {es : List Event} {scopes : List Scope} (a b : View) → Leaves true lo hi last es scopes → Path (scoped es) a b
+scope_kept : {lo hi last : ℕ} {es : List Event} {scopes : List Scope} (a b : View) → Leaves true lo hi last es scopes → Path (scope_events es) a b
     → (b.names ≡ a.names) × (b.functions ≡ a.functions) × (b.definitions ≡ a.definitions)
 scope_kept {lo = lo} {hi = hi} {last = last} {es = es} {scopes = scopes} a b l p =
     let q : (c : View) × (Path es p.0 c × Path (Closes ∷ []) c b) = path_parts es (Closes ∷ []) p.0 b p.1.1 in
     let k : Left true lo hi last es scopes _ q.0 = subst (λ v. Left true lo hi last es scopes v q.0) p.1.0 (l.by p.0 q.0 q.1.0) in
     subst (λ (v : View). (v.names ≡ a.names) × (v.functions ≡ a.functions) × (v.definitions ≡ a.definitions)) (sym (q.1.1.1.1 ∙ q.1.1.1.0))
-    (ap closed k.names ∙ closed_new k.new a.names k.kept.0, k.kept.1, k.kept.2)
+    (ap names_after_scope k.names ∙ closed_new k.new a.names k.kept.0, k.kept.1, k.kept.2)
 
 defining_known : (defs : List (List ℕ)) (name : List ℕ) (index : ℕ) (a : View) → slice_get a.functions index ≡ Some name → Known defs a
     → Known (defs ++ name ∷ []) (defining index a)
@@ -209,7 +209,7 @@ item_known (i.Function token b stars name ps (Some body)) at defs a c s p h k =
     subst (Known (defs ++ name ∷ [])) (sym h.to)
     (defining_known defs name (unwrap_or (known_of name h.of h.here) (length h.here.functions)) h.inner
     (subst (λ fs. slice_get fs (unwrap_or (known_of name h.of h.here) (length h.here.functions)) ≡ Some name) (sym kept.1) g.1)
-    (known_same defs [] (view (with_function name h.of (known_of name h.of h.here) h.here)) h.inner (path_onward (scoped (params_events (listed_params ps) ++ entries_events body)) _ h.inner h.path).named kept.0 tt kept.1 kept.2
+    (known_same defs [] (view (with_function name h.of (known_of name h.of h.here) h.here)) h.inner (path_onward (scope_events (params_events (listed_params ps) ++ entries_events body)) _ h.inner h.path).named kept.0 tt kept.1 kept.2
     g.0))
 item_known (i.Declaration d) at defs a c s p h k =
     let l : Left true at (at + length (declaration_kinds d)) 0 (declaration_events d) (declaration_scopes 0 d) a c =

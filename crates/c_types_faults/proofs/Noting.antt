@@ -3,7 +3,7 @@ use Rattle.std.proofs.Common.{◌⊎◌, inl, inr, ⊎_elim, ◌≡◌, ℕ, ◌
 use Rattle.std.specs.Prelude.{slice_get}
 use Rattle.std.specs.Str.{bytes_eq}
 use Rattle.std.proofs.Math.Nat.{le-max_left}
-use Rattle.std.proofs.lemmas.Bool.{cases_eq, eq-eqb, false≢true, ne_eqb}
+use Rattle.std.proofs.lemmas.Bool.{false≢true}
 use Rattle.std.proofs.lemmas.Slice.Eq.{bytes_eq-Decides}
 use Rattle.std.proofs.lemmas.Option.{same_Some}
 use Rattle.c_types.proofs.Replaced.{noted_other}
@@ -11,12 +11,12 @@ use Rattle.c_types.proofs.Noted.{length_replaced}
 use Rattle.base_lists.proofs.Numbers.{not_number, same_number}
 use Rattle.base_lists.proofs.Lists.{get_last, Stays}
 use Rattle.c_types_rules.specs.TypeTree.{TypeTree}
-use Rattle.c_types.specs.Answers.{noted}
+use Rattle.c_types.specs.Answers.{note_at}
 use Rattle.c_types_expressions.specs.declared.names.Meaning.{Meaning}
 use Rattle.c_types_expressions.specs.declared.names.Meaning.TheVariants as meaning
 use Rattle.c_types_expressions.specs.declared.names.ScopeEntry.{ScopeEntry}
 use Rattle.c_types_expressions.specs.declared.names.ScopeEntry.TheVariants as entry
-use Rattle.c_types_expressions.specs.Names.{closed, found, meaning_of, or_before}
+use Rattle.c_types_expressions.specs.Names.{names_after_scope, declared_meaning, meaning_of, or_before}
 use Rattle.c_types_laws.proofs.Declaring.{more_stays}
 use Rattle.c_types_faults.specs.Events.{Construct, Calls, Selects, Other, Event, Value, Initialises, Variable, Opens, Closes, Struct, Names, Defines, construct_at}
 use Rattle.c_types_faults.proofs.Paths.{CalledAs, Notes, Path, Step, View, calling, selecting, typed}
@@ -38,7 +38,7 @@ pub record Named (a : View) : Type 0 where
   pub by : (name : List ℕ) (index : ℕ) → Listed name index a.names → slice_get a.functions index ≡ Some name
   pub own : NoLibrary a.names
 
-listed_closed : (name : List ℕ) (index : ℕ) (names : List ScopeEntry) → Listed name index (closed names) → Listed name index names
+listed_closed : (name : List ℕ) (index : ℕ) (names : List ScopeEntry) → Listed name index (names_after_scope names) → Listed name index names
 listed_closed name index [] h = h
 listed_closed name index (entry.Opens ∷ rest) h = h
 listed_closed name index (entry.Declares other (meaning.Variable place) ∷ rest) h = listed_closed name index rest h
@@ -46,7 +46,7 @@ listed_closed name index (entry.Declares other (meaning.Function place) ∷ rest
 listed_closed name index (entry.Declares other (meaning.Library function) ∷ rest) h = listed_closed name index rest h
 listed_closed name index (entry.Declares other (meaning.Struct place) ∷ rest) h = listed_closed name index rest h
 
-library_closed : (names : List ScopeEntry) → NoLibrary names → NoLibrary (closed names)
+library_closed : (names : List ScopeEntry) → NoLibrary names → NoLibrary (names_after_scope names)
 library_closed [] h = h
 library_closed (entry.Opens ∷ rest) h = h
 library_closed (entry.Declares other (meaning.Variable place) ∷ rest) h = library_closed rest h
@@ -87,16 +87,16 @@ no_library_rest : (e : ScopeEntry) (rest : List ScopeEntry) → NoLibrary (e ∷
 no_library_rest (entry.Declares other (meaning.Library function)) rest h = absurd h
 no_library_rest e rest h = h
 
-pub found_is : (name : List ℕ) (names : List ScopeEntry) → NoLibrary names → FoundAs name (found name names) names
+pub found_is : (name : List ℕ) (names : List ScopeEntry) → NoLibrary names → FoundAs name (declared_meaning name names) names
 found_is name [] h = tt
-found_is name (entry.Opens ∷ rest) h = found_opens name (found name rest) rest (found_is name rest h)
+found_is name (entry.Opens ∷ rest) h = found_opens name (declared_meaning name rest) rest (found_is name rest h)
 found_is name (entry.Declares other m ∷ rest) h =
     by (bytes_eq other name) refl (found_is name rest (no_library_rest (entry.Declares other m) rest h))
   where
-    by : (b : Bool) → bytes_eq other name ≡ b → FoundAs name (found name rest) rest
-        → FoundAs name (or_before (if b then Some m else None) (found name rest)) (entry.Declares other m ∷ rest)
+    by : (b : Bool) → bytes_eq other name ≡ b → FoundAs name (declared_meaning name rest) rest
+        → FoundAs name (or_before (if b then Some m else None) (declared_meaning name rest)) (entry.Declares other m ∷ rest)
     by true e k = found_here name other m rest ((bytes_eq-Decides other name).0 e) h
-    by false e k = found_behind name other m (found name rest) rest k
+    by false e k = found_behind name other m (declared_meaning name rest) rest k
 
 -- along a path nothing is lost
 pub record Onward (a b : View) : Type 0 where
@@ -225,9 +225,9 @@ path_onward (event ∷ es) a b h = onward_then (step_onward event a h.0 h.1.0) (
 
 -- the same is noted at the token
 pub record Alike (k : ℕ) (a b : View) : Type 0 where
-  pub types : noted b.types k ≡ noted a.types k
-  pub offsets : noted b.offsets k ≡ noted a.offsets k
-  pub calls : noted b.calls k ≡ noted a.calls k
+  pub types : note_at b.types k ≡ note_at a.types k
+  pub offsets : note_at b.offsets k ≡ note_at a.offsets k
+  pub calls : note_at b.calls k ≡ note_at a.calls k
 
 alike_here : (k : ℕ) (a : View) → Alike k a a
 alike_here k a = record { types = refl; offsets = refl; calls = refl }

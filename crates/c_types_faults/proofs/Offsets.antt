@@ -1,5 +1,5 @@
 -- The offset that is noted of a member is the sum of the cells before it.
-use Rattle.std.proofs.Common.{◌≡◌, ℕ, zero, suc, ◌+◌, ◌-◌, Bool, true, false, if◌then◌else◌, List, [], ◌∷◌, length, Option, Some, None, Ok, option_and_then, option_map, refl, ap, ◌∙◌, subst, arith}
+use Rattle.std.proofs.Common.{◌≡◌, ℕ, ◌+◌, ◌-◌, Bool, true, false, if◌then◌else◌, List, [], ◌∷◌, length, Option, Some, None, Ok, option_and_then, option_map, refl, ap, ◌∙◌, arith}
 use Rattle.std.specs.Prelude.{slice_get}
 use Rattle.std.specs.List.{AllByRecursion}
 use Rattle.std.specs.Str.{bytes_eq}
@@ -13,7 +13,7 @@ use Rattle.c_types_rules.specs.declared.layout.Member.{Member}
 use Rattle.c_types_rules.specs.declared.layout.StructType.{StructType}
 use Rattle.c_types_rules.specs.TypeTree as t
 use Rattle.c_types_rules.specs.Words.{TypeTree, known_member, member_in, member_named, member_of, cells_of}
-use Rattle.c_types.specs.Answers.{noted, offset_at, type_at}
+use Rattle.c_types.specs.Answers.{note_at, offset_at, type_at}
 use Rattle.c_types.specs.Fault.{walk_tree}
 use Rattle.c_types.specs.Laid.{AreLaid, IsSummed}
 use Rattle.c_types.proofs.Summed.{structs_summed}
@@ -104,7 +104,7 @@ module _ (s : SourceTree) (z : Walk) (shaped : IsShaped s) (w : walk_tree s ≡ 
   none_at_found : (c : Construct) (f : Found k c (events_of s) (before s) (view z)) → f.to.offsets ≡ f.from.offsets → offset_at z k ≡ None
   none_at_found c f same =
       (stays k f.after f.to (view z) (alone_after f left.once) f.rest).offsets
-      ∙ ap (λ xs. noted xs k) same
+      ∙ ap (λ xs. note_at xs k) same
       ∙ (stays k f.before (before s) f.from (alone_before f left.once) f.path).offsets
       ∙ none_noted n k
 
@@ -115,7 +115,7 @@ module _ (s : SourceTree) (z : Walk) (shaped : IsShaped s) (w : walk_tree s ≡ 
     (
       cells_are z operand behind name f.notes.of f.notes.member typed (structs_summed s z w)
           (record { tag = chosen.tag; struct = chosen.struct; is = chosen.is; stands = onward.structs chosen.tag chosen.struct chosen.stands; named = chosen.named }),
-      (stays k f.after f.to (view z) (alone_after f left.once) f.rest).offsets ∙ ap (λ (v : View). noted v.offsets k) f.notes.to
+      (stays k f.after f.to (view z) (alone_after f left.once) f.rest).offsets ∙ ap (λ (v : View). note_at v.offsets k) f.notes.to
           ∙ noted_same f.from.offsets k f.notes.member.offset
           (omega (arith, (left.within k among).1, (path_onward f.before (before s) f.from f.path).offsets, length-replicate {A = Option ℕ} n None)),
     ),
@@ -131,7 +131,7 @@ module _ (s : SourceTree) (z : Walk) (shaped : IsShaped s) (w : walk_tree s ≡ 
       onward = path_onward (Value k (Selects operand behind name) ∷ f.after) f.from (view z) path
 
       -- the operand's type was noted before
-      held : noted f.from.types operand ≡ Some f.notes.of
+      held : note_at f.from.types operand ≡ Some f.notes.of
       held = f.notes.holds.by
           (omega (
             arith,
@@ -143,9 +143,9 @@ module _ (s : SourceTree) (z : Walk) (shaped : IsShaped s) (w : walk_tree s ≡ 
             length-replicate {A = Option TypeTree} n None,
           ))
 
-      by : (o : Option Construct) → construct_at operand f.before ≡ o → noted z.types operand ≡ Some f.notes.of
+      by : (o : Option Construct) → construct_at operand f.before ≡ o → note_at z.types operand ≡ Some f.notes.of
       by None e =
-          none_is_some (noted f.from.types operand) f.notes.of
+          none_is_some (note_at f.from.types operand) f.notes.of
           ((stays operand f.before (before s) f.from e f.path).types ∙ none_noted {A = TypeTree} n operand) held
       by (Some c) e =
           (stays operand (Value k (Selects operand behind name) ∷ f.after) f.from (view z)

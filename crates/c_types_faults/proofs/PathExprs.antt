@@ -7,7 +7,7 @@ use Rattle.c_syntax.specs.ExprTree.{ExprTree, ExprList, LinkList, PostfixList}
 use Rattle.c_types_rules.specs.declared.fault.FaultKind.{FaultKind}
 use Rattle.c_types_rules.specs.declared.layout.Member.{Member}
 use Rattle.c_types_rules.specs.declared.operand.Operand.{Operand}
-use Rattle.c_types_rules.specs.Words.{TypeTree, Looked, constant_of, enclosed, null_of, place_of, string_of, value_of, library_called}
+use Rattle.c_types_rules.specs.Words.{TypeTree, OperandOrFault, constant_of, parenthesized_operand, null_of, place_of, string_of, value_of, library_called}
 use Rattle.c_types_rules.specs.TypeTree as t
 use Rattle.c_types_rules.specs.Functions as functions
 use Rattle.c_meaning.specs.Trees.{link_token, postfix_token, token_of}
@@ -15,8 +15,8 @@ use Rattle.c_types_expressions.specs.declared.names.Meaning.{Meaning}
 use Rattle.c_types_expressions.specs.declared.names.Meaning.TheVariants as meaning
 use Rattle.c_types_expressions.specs.declared.walk.FunctionEntry.{FunctionEntry}
 use Rattle.c_types_expressions.specs.declared.walk.Walk.{Walk}
-use Rattle.c_types_expressions.specs.Words.{found, meaning_of, Walked, ◌>>=◌, with_type, base_type, called_name, format_of, is_printf, looked, named}
-use Rattle.c_types_expressions.specs.Words.{of_function, of_variable, selected, string_cells, tagged_type, walk_expr, walk_exprs, walk_links, walk_postfix}
+use Rattle.c_types_expressions.specs.Words.{declared_meaning, meaning_of, Walked, ◌>>=◌, with_type, base_type, called_name, format_of, is_printf, operand_noted, named_operand}
+use Rattle.c_types_expressions.specs.Words.{of_function, of_variable, selected_member, string_cells, tagged_type, walk_expr, walk_exprs, walk_links, walk_postfix}
 use Rattle.c_types_expressions.specs.Words.{walk_whole, whole_call, with_call, with_offset, with_use}
 use Rattle.c_types_faults.specs.Events.{Calls, Selects, Other, Event, Value, expr_events, exprs_events, links_events, postfix_events}
 use Rattle.c_types_faults.proofs.Paths.{Anyhow, CalledAs, Goes, Holds, Notes, View, either, goes_then, holds_here, member_by, then_on, typed, view}
@@ -26,29 +26,29 @@ tagged_goes token (Some (meaning.Struct index)) w = (refl, tt)
 tagged_goes token m w = tt
 
 pub base_goes : (b : Base) (w : Walk) → Goes Anyhow [] (view w) (base_type b w)
-base_goes (base.Struct token tag) w = tagged_goes token (found tag w.tags) w
+base_goes (base.Struct token tag) w = tagged_goes token (declared_meaning tag w.tags) w
 base_goes b w = (refl, tt)
 
 -- the type of the operand is noted at the token
 abbrev pub TypedAt : ℕ → Operand → View → Type 0
 TypedAt token x a = Holds token x.ctype a
 
-looked_goes : (token : ℕ) (l : Looked) (w : Walk) → Goes (TypedAt token) (Value token Other ∷ []) (view w) (looked token l w)
+looked_goes : (token : ℕ) (l : OperandOrFault) (w : Walk) → Goes (TypedAt token) (Value token Other ∷ []) (view w) (operand_noted token l w)
 looked_goes token (Ok x) w = ((view (with_type token x.ctype w), ((x.ctype, refl), refl)), holds_here token x.ctype (view w))
 looked_goes token (Err kind) w = tt
 
 -- a construct that is looked at, and what comes behind it
-looked_on : {A : Type 0} (Q : A → View → Type 0) (ys : List Event) (token : ℕ) (l : Looked) (w : Walk) (next : Operand → Walk → Walked A)
+looked_on : {A : Type 0} (Q : A → View → Type 0) (ys : List Event) (token : ℕ) (l : OperandOrFault) (w : Walk) (next : Operand → Walk → Walked A)
     → ((x : Operand) (v : Walk) → TypedAt token x (view v) → Goes Q ys (view v) (next x v))
-    → Goes Q (Value token Other ∷ ys) (view w) (looked token l w >>= next)
-looked_on Q ys token l w next k = goes_then (TypedAt token) Q (Value token Other ∷ []) ys (view w) (looked token l w) next (looked_goes token l w) k
+    → Goes Q (Value token Other ∷ ys) (view w) (operand_noted token l w >>= next)
+looked_on Q ys token l w next k = goes_then (TypedAt token) Q (Value token Other ∷ []) ys (view w) (operand_noted token l w) next (looked_goes token l w) k
 
 variable_goes : (token index : ℕ) (declared : Option TypeTree) (w : Walk)
     → Goes (TypedAt token) (Value token Other ∷ []) (view w) (of_variable token index declared w)
 variable_goes token index None w = tt
 variable_goes token index (Some t) w = looked_goes token (Ok (place_of t)) (with_use token index w)
 
-named_goes : (token : ℕ) (m : Option Meaning) (w : Walk) → Goes (TypedAt token) (Value token Other ∷ []) (view w) (named token m w)
+named_goes : (token : ℕ) (m : Option Meaning) (w : Walk) → Goes (TypedAt token) (Value token Other ∷ []) (view w) (named_operand token m w)
 named_goes token (Some (meaning.Variable index)) w = variable_goes token index (slice_get w.declared_types index) w
 named_goes token m w = tt
 
@@ -61,18 +61,18 @@ function_goes : (token index : ℕ) (name : List ℕ) (f : Option FunctionEntry)
     → meaning_of name w.names ≡ Some (meaning.Function index)
     → Goes (TypedAt token) (Value token (Calls name) ∷ []) (view w) (of_function token index f xs w)
 function_goes token index name None xs w h = tt
-function_goes token index name (Some f) xs w h = by (functions.called f.ctype xs)
+function_goes token index name (Some f) xs w h = by (functions.typed_call f.ctype xs)
   where
-    by : (l : Looked) → Goes (TypedAt token) (Value token (Calls name) ∷ []) (view w) (looked token l (with_call token index w))
+    by : (l : OperandOrFault) → Goes (TypedAt token) (Value token (Calls name) ∷ []) (view w) (operand_noted token l (with_call token index w))
     by (Ok x) = (
       (view (with_type token x.ctype (with_call token index w)), (called_step token name (view w) _ (Some (meaning.Function index)) h (x.ctype, refl), refl)),
       holds_here token x.ctype (view (with_call token index w)),
     )
     by (Err kind) = tt
 
-library_goes : (token : ℕ) (name : List ℕ) (m : Option Meaning) (l : Looked) (w : Walk) → meaning_of name w.names ≡ m
+library_goes : (token : ℕ) (name : List ℕ) (m : Option Meaning) (l : OperandOrFault) (w : Walk) → meaning_of name w.names ≡ m
     → ((t : TypeTree) → CalledAs token m (view w) (typed token t (view w)))
-    → Goes (TypedAt token) (Value token (Calls name) ∷ []) (view w) (looked token l w)
+    → Goes (TypedAt token) (Value token (Calls name) ∷ []) (view w) (operand_noted token l w)
 library_goes token name m (Ok x) w h k = (
   (view (with_type token x.ctype w), (called_step token name (view w) _ m h (k x.ctype), refl)),
   holds_here token x.ctype (view w),
@@ -90,7 +90,7 @@ whole_call_goes : (token : ℕ) (name : List ℕ) (m : Option Meaning) (argument
     → Goes (TypedAt token) (Value token (Calls name) ∷ []) (view w) (whole_call token m arguments xs w)
 whole_call_goes token name (Some (meaning.Function index)) arguments xs w h = called_goes token name (Some (meaning.Function index)) xs w h
 whole_call_goes token name (Some (meaning.Library function)) arguments xs w h =
-    either (TypedAt token) (Value token (Calls name) ∷ []) (view w) (is_printf (Some (meaning.Library function))) (looked token (format_of arguments xs) w)
+    either (TypedAt token) (Value token (Calls name) ∷ []) (view w) (is_printf (Some (meaning.Library function))) (operand_noted token (format_of arguments xs) w)
     (called_name token (Some (meaning.Library function)) xs w)
     (library_goes token name (Some (meaning.Library function)) (format_of arguments xs) w h (λ t. (t, refl)))
     (called_goes token name (Some (meaning.Library function)) xs w h)
@@ -99,7 +99,7 @@ whole_call_goes token name m arguments xs w h = tt
 -- a member of an operand whose type is noted
 selected_goes : (token operand : ℕ) (behind place : Bool) (name : List ℕ) (left : TypeTree) (m : Result Member FaultKind) (w : Walk)
     → member_by behind w.structs name left ≡ m → Holds operand left (view w)
-    → Goes (TypedAt token) (Value token (Selects operand behind name) ∷ []) (view w) (selected token place m w)
+    → Goes (TypedAt token) (Value token (Selects operand behind name) ∷ []) (view w) (selected_member token place m w)
 selected_goes token operand behind place name left (Err kind) w h k = tt
 selected_goes token operand behind place name left (Ok m) w h k = (
   (view (with_type token m.ctype (with_offset token m.offset w)), (record { of = left; member = m; holds = k; is = h; to = refl }, refl)),
@@ -147,7 +147,7 @@ mutual
   expr_goes (e.Strings token parts) w = looked_goes token (Ok (string_of (string_cells parts))) w
   expr_goes (e.Paren token inner) w =
       goes_then (TypedAt (token_of inner)) (TypedAt token) (expr_events inner) (Value token Other ∷ []) (view w) (walk_expr inner w) _ (expr_goes inner w)
-      (λ x v g. looked_goes token (Ok (enclosed x)) v)
+      (λ x v g. looked_goes token (Ok (parenthesized_operand x)) v)
   expr_goes (e.Null token) w = looked_goes token (Ok null_of) w
   expr_goes (e.EndOfFile token) w = looked_goes token (Ok (value_of t.Int)) w
 

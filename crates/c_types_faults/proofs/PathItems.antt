@@ -22,11 +22,11 @@ use Rattle.c_types_expressions.specs.declared.names.Meaning.TheVariants as meani
 use Rattle.c_types_expressions.specs.declared.names.ScopeEntry.TheVariants as entry
 use Rattle.c_types_expressions.specs.declared.walk.Parameter.{Parameter}
 use Rattle.c_types_expressions.specs.declared.walk.Walk.{Walk}
-use Rattle.c_types_expressions.specs.Words.{beginning, found, is_here, is_reserved, Walked, Fine, Faulty, ◌>>=◌, Done, closing, opened, base_type, with_stars}
+use Rattle.c_types_expressions.specs.Words.{empty_walk, declared_meaning, is_here, is_reserved, Walked, Fine, Faulty, ◌>>=◌, Done, scope_closed, scope_opened, base_type, with_stars}
 use Rattle.c_types_walk.specs.Declarators.{declared_type}
 use Rattle.c_types_walk.specs.StatementWalk.{walk_declaration, walk_entries}
-use Rattle.c_types_walk.specs.ItemWalk.{clashes, declares, entered, has_length, is_among, is_defined, known_as, listed_params, looked_param, param_type, scalar_param, typed_function, typed_member, walk_body, walk_declarators, walk_item, walk_items, walk_member, walk_members, walk_param, walk_params, walk_struct, with_definition, with_function, with_param, with_params, with_tag}
-use Rattle.c_types_faults.specs.Events.{Event, Variable, Struct, Names, Defines, declaration_events, entries_events, item_events, items_events, named_events, params_events, scoped}
+use Rattle.c_types_walk.specs.ItemWalk.{is_clashing_name, function_checked, body_scope_opened, has_length, is_among, is_defined, known_as, listed_params, looked_param, param_type, scalar_param, typed_function, typed_member, walk_body, walk_declarators, walk_item, walk_items, walk_member, walk_members, walk_param, walk_params, walk_struct, with_definition, with_function, with_param, with_params, with_tag}
+use Rattle.c_types_faults.specs.Events.{Event, Variable, Struct, Names, Defines, declaration_events, entries_events, item_events, items_events, named_events, params_events, scope_events}
 use Rattle.c_types_faults.proofs.Paths.{Anyhow, Goes, Path, Step, View, called_name, defining, naming, path_one, path_then, then_on, variable_step, view}
 use Rattle.c_types_faults.proofs.PathExprs.{base_goes}
 use Rattle.c_types_faults.proofs.PathStatements.{declaration_goes, entries_goes, scope_goes}
@@ -108,14 +108,14 @@ behind P xs ys a b r p h =
 
 -- the place of the function as which the name was declared before
 abbrev pub known_of : List ℕ → FunctionType → Walk → Option ℕ
-known_of name f w = known_as f (found name w.names) w
+known_of name f w = known_as f (declared_meaning name w.names) w
 
 -- a function that is declared
 pub record Prototyped (name : List ℕ) (a c : View) : Type 0 where
   pub here : Walk
   pub same : view here ≡ a
   pub of : FunctionType
-  pub fits : clashes name (known_of name of here) here ≡ false
+  pub fits : is_clashing_name name (known_of name of here) here ≡ false
   pub to : c ≡ view (with_function name of (known_of name of here) here)
 
 -- a function that is defined, with its parameters and its body
@@ -123,9 +123,9 @@ pub record Bodied (es : List Event) (name : List ℕ) (a c : View) : Type 0 wher
   pub here : Walk
   pub same : view here ≡ a
   pub of : FunctionType
-  pub fits : clashes name (known_of name of here) here ≡ false
+  pub fits : is_clashing_name name (known_of name of here) here ≡ false
   pub inner : View
-  pub path : Path (scoped es) (view (with_function name of (known_of name of here) here)) inner
+  pub path : Path (scope_events es) (view (with_function name of (known_of name of here) here)) inner
   pub to : c ≡ defining (unwrap_or (known_of name of here) (length here.functions)) inner
 
 pub naming_view : (name : List ℕ) (f : FunctionType) (w : Walk) → view (with_function name f None w) ≡ naming name (view w)
@@ -140,7 +140,7 @@ function_step name f (Some index) w = inl refl
 function_step name f None w = inr (naming_view name f w)
 
 declares_goes : (token : ℕ) (taken : Bool) (gives : TypeTree) (w : Walk)
-    → Goes (λ _ a. (taken ≡ false)) [] (view w) (declares token taken gives w)
+    → Goes (λ _ a. (taken ≡ false)) [] (view w) (function_checked token taken gives w)
 declares_goes token true gives w = tt
 declares_goes token false gives w = by (is_struct gives)
   where
@@ -150,11 +150,11 @@ declares_goes token false gives w = by (is_struct gives)
 
 -- the parameters and the body of a function
 inner_goes : (gives : TypeTree) (xs : List Parameter) (body : EntryList) (w : Walk)
-    → Goes Anyhow (scoped (variables_from xs ++ entries_events body)) (view w) (walk_entries gives false body (entered xs w) >>= closing)
+    → Goes Anyhow (scope_events (variables_from xs ++ entries_events body)) (view w) (walk_entries gives false body (body_scope_opened xs w) >>= scope_closed)
 inner_goes gives xs body w =
-    scope_goes (variables_from xs ++ entries_events body) (record w { locals = 0 }) (walk_entries gives false body (entered xs w))
-    (behind Anyhow (variables_from xs) (entries_events body) (view (opened (record w { locals = 0 }))) (view (entered xs w))
-    (walk_entries gives false body (entered xs w)) (params_path xs (opened (record w { locals = 0 }))) (entries_goes gives false body (entered xs w)))
+    scope_goes (variables_from xs ++ entries_events body) (record w { locals = 0 }) (walk_entries gives false body (body_scope_opened xs w))
+    (behind Anyhow (variables_from xs) (entries_events body) (view (scope_opened (record w { locals = 0 }))) (view (body_scope_opened xs w))
+    (walk_entries gives false body (body_scope_opened xs w)) (params_path xs (scope_opened (record w { locals = 0 }))) (entries_goes gives false body (body_scope_opened xs w)))
 
 definition_view : (index first : ℕ) (w : Walk) → view (with_definition index first w) ≡ defining index (view w)
 definition_view index first w = ap (λ ds. record (view w) { definitions = ds }) (map-append function_of w.definitions _)
@@ -166,15 +166,15 @@ body_does token f name xs body w =
     let known : Option ℕ = known_of name f w in
     let es : List Event = variables_from xs ++ entries_events body in
     let u : Walk = with_function name f known w in
-    let taken : Bool = clashes name known w || is_defined (unwrap_or known (length w.functions)) w.defined_as in
-    gives_then (λ _ v. Path (scoped es) (view u) (view v) × Unit {0}) (λ _ r. Bodied es name (view w) (view r))
-    (walk_entries f.gives false body (entered xs u) >>= closing) _ (inner_goes f.gives xs body u)
-    (λ _ v g. gives_then (λ _ r. (view r ≡ view v) × (taken ≡ false)) (λ _ r. Bodied es name (view w) (view r)) (declares token taken f.gives v) _
+    let taken : Bool = is_clashing_name name known w || is_defined (unwrap_or known (length w.functions)) w.defined_as in
+    gives_then (λ _ v. Path (scope_events es) (view u) (view v) × Unit {0}) (λ _ r. Bodied es name (view w) (view r))
+    (walk_entries f.gives false body (body_scope_opened xs u) >>= scope_closed) _ (inner_goes f.gives xs body u)
+    (λ _ v g. gives_then (λ _ r. (view r ≡ view v) × (taken ≡ false)) (λ _ r. Bodied es name (view w) (view r)) (function_checked token taken f.gives v) _
     (declares_goes token taken f.gives v) (λ _ r k. record {
       here = w;
       same = refl;
       of = f;
-      fits = or_first_false (clashes name known w) _ k.1;
+      fits = or_first_false (is_clashing_name name known w) _ k.1;
       inner = view v;
       path = g.0;
       to = definition_view (unwrap_or known (length w.functions)) (length w.variables) r ∙ ap (defining (unwrap_or known (length w.functions))) k.0;
@@ -227,10 +227,10 @@ struct_does token tag members w =
 prototype_does : (token : ℕ) (f : FunctionType) (name : List ℕ) (xs : List Parameter) (a : View) (w : Walk) → view w ≡ a
     → Gives (λ _ r. Prototyped name a (view r)) (typed_function token f name xs None w)
 prototype_does token f name xs a w same =
-    gives_more (λ _ r. (view r ≡ view (with_function name f (known_of name f w) w)) × (clashes name (known_of name f w) w ≡ false))
+    gives_more (λ _ r. (view r ≡ view (with_function name f (known_of name f w) w)) × (is_clashing_name name (known_of name f w) w ≡ false))
     (λ _ r. Prototyped name a (view r)) (typed_function token f name xs None w)
     (λ _ r k. record { here = w; same = same; of = f; fits = k.1; to = k.0 })
-    (declares_goes token (clashes name (known_of name f w) w) f.gives (with_function name f (known_of name f w) w))
+    (declares_goes token (is_clashing_name name (known_of name f w) w) f.gives (with_function name f (known_of name f w) w))
 
 definition_does : (token : ℕ) (f : FunctionType) (name : List ℕ) (xs : List Parameter) (events : List Event) (body : EntryList) (a : View) (w : Walk)
     → view w ≡ a → variables_from xs ≡ events
@@ -278,12 +278,12 @@ ends_do xs a None w h = h
 ends_do xs a (Some f) w h = tt
 
 -- what the items of a text without a fault do
-pub text_does : (t : SourceTree) (w : Walk) → walk_tree t ≡ Fine tt w → ItemsDo t.items (view (beginning (length t.lines))) (view w)
+pub text_does : (t : SourceTree) (w : Walk) → walk_tree t ≡ Fine tt w → ItemsDo t.items (view (empty_walk (length t.lines))) (view w)
 text_does t w is =
-    subst (Gives (λ _ v. ItemsDo t.items (view (beginning (length t.lines))) (view v))) is
-    (gives_then (λ _ v. ItemsDo t.items (view (beginning (length t.lines))) (view v)) (λ _ v. ItemsDo t.items (view (beginning (length t.lines))) (view v))
-    (walk_items t.items (beginning (length t.lines))) _ (items_do t.items (beginning (length t.lines)))
-    (λ _ v h. ends_do t.items (view (beginning (length t.lines))) (last_fault (length t.lines) v) v h))
+    subst (Gives (λ _ v. ItemsDo t.items (view (empty_walk (length t.lines))) (view v))) is
+    (gives_then (λ _ v. ItemsDo t.items (view (empty_walk (length t.lines))) (view v)) (λ _ v. ItemsDo t.items (view (empty_walk (length t.lines))) (view v))
+    (walk_items t.items (empty_walk (length t.lines))) _ (items_do t.items (empty_walk (length t.lines)))
+    (λ _ v h. ends_do t.items (view (empty_walk (length t.lines))) (last_fault (length t.lines) v) v h))
 
 -- the path through the items
 pub item_path : (x : ItemTree) (a c : View) → ItemDoes x a c → Path (item_events x) a c
@@ -294,11 +294,11 @@ item_path (i.Function token b stars name ps None) a c h =
     (path_one (Names name) (view h.here) _ (function_step name h.of (known_of name h.of h.here) h.here)))
 item_path (i.Function token b stars name ps (Some body)) a c h =
     let es : List Event = params_events (listed_params ps) ++ entries_events body in
-    subst (λ v. Path (Names name ∷ scoped es ++ Defines ∷ []) v c) h.same (
+    subst (λ v. Path (Names name ∷ scope_events es ++ Defines ∷ []) v c) h.same (
       view (with_function name h.of (known_of name h.of h.here) h.here),
       (
         function_step name h.of (known_of name h.of h.here) h.here,
-        path_then (scoped es) (Defines ∷ []) _ h.inner c h.path (c, ((_, h.to), refl)),
+        path_then (scope_events es) (Defines ∷ []) _ h.inner c h.path (c, ((_, h.to), refl)),
       ),
     )
 item_path (i.Declaration declaration) a c h = h

@@ -4,19 +4,19 @@ use Rattle.c_syntax.specs.Words.{first_token, ExprTree, declarator_kinds, Initia
 use Rattle.c_syntax.specs.StatementTree as s
 use Rattle.c_types_rules.specs.declared.fault.FaultKind.{FaultKind}
 use Rattle.c_types_rules.specs.declared.fault.FaultKind.TheVariants as fault
-use Rattle.c_types_rules.specs.Words.{TypeTree, assignable, is_struct, is_void, is_scalar_value, cells_of, is_object, most_cells}
+use Rattle.c_types_rules.specs.Words.{TypeTree, is_assignable, is_struct, is_void, is_scalar_value, cells_of, is_object, most_cells}
 use Rattle.c_meaning.specs.Trees.{token_of}
 use Rattle.c_types_expressions.specs.declared.walk.Walk.{Walk}
-use Rattle.c_types_expressions.specs.Words.{is_name_taken, Walked, Fine, Faulty, Done, closing, opened, unless, with_variable, ◌>>=◌, base_type, walk_expr}
+use Rattle.c_types_expressions.specs.Words.{is_name_taken, Walked, Fine, Faulty, Done, scope_closed, scope_opened, fault_if_wrong, with_variable, ◌>>=◌, base_type, walk_expr}
 use Rattle.c_types_expressions.specs.Words.{walk_exprs, walk_whole}
 use Rattle.c_types_walk.specs.Declarators.{declared_type, is_open}
-use Rattle.c_types_walk.specs.Initialisers.{cells_of_string, completes, listed_type, valued, walk_initial}
-use Rattle.c_types_walk.specs.StatementWalk.{counted_cells, looped, sized, walk_closed, walk_declaration, walk_entries, walk_for_start, walk_open, walk_optional, walk_start, walk_starts, walk_statement, walk_typed}
-use Rattle.c_types_faults.specs.Events.{Event, Initialises, Variable, Opens, Closes, declaration_events, entries_events, expr_events, exprs_events, for_start_events, initial_events, optional_events, scoped, start_events, starts_events, statement_events}
+use Rattle.c_types_walk.specs.Initialisers.{cells_of_string, type_or_fault, listed_type, type_by_expression, walk_initial}
+use Rattle.c_types_walk.specs.StatementWalk.{counted_cells, for_parts_checked, object_type_checked, walk_closed, walk_declaration, walk_entries, walk_for_start, walk_open, walk_optional, walk_start, walk_starts, walk_statement, walk_typed}
+use Rattle.c_types_faults.specs.Events.{Event, Initialises, Variable, Opens, Closes, declaration_events, entries_events, expr_events, exprs_events, for_start_events, initial_events, optional_events, scope_events, start_events, starts_events, statement_events}
 use Rattle.c_types_faults.proofs.Paths.{Anyhow, Goes, and_done, either, event_then, goes_same, goes_then, then_on, variable_step, view}
 use Rattle.c_types_faults.proofs.PathExprs.{TypedAt, base_goes, expr_goes, exprs_goes, whole_goes}
 
-pub unless_goes : (wrong : Bool) (kind : FaultKind) (token : ℕ) (w : Walk) → Goes Anyhow [] (view w) (unless wrong kind token w)
+pub unless_goes : (wrong : Bool) (kind : FaultKind) (token : ℕ) (w : Walk) → Goes Anyhow [] (view w) (fault_if_wrong wrong kind token w)
 unless_goes true kind token w = tt
 unless_goes false kind token w = (refl, tt)
 
@@ -26,12 +26,12 @@ counted_by true c kind token cells w = (refl, tt)
 counted_by false true kind token cells w = (refl, tt)
 counted_by false false kind token cells w = tt
 
-sized_goes : (global : Bool) (token : ℕ) (t : TypeTree) (w : Walk) → Goes Anyhow [] (view w) (sized global token t w)
+sized_goes : (global : Bool) (token : ℕ) (t : TypeTree) (w : Walk) → Goes Anyhow [] (view w) (object_type_checked global token t w)
 sized_goes global token t w =
     either Anyhow [] (view w) (is_object w.structs t) (counted_cells global token (cells_of w.structs t) w) (Faulty fault.Object token)
     (counted_by (not global) (nat_le (w.global_cells + cells_of w.structs t) most_cells) fault.Object token (w.global_cells + cells_of w.structs t) w) tt
 
-completes_goes : (token : ℕ) (t : Option TypeTree) (w : Walk) → Goes Anyhow [] (view w) (completes token t w)
+completes_goes : (token : ℕ) (t : Option TypeTree) (w : Walk) → Goes Anyhow [] (view w) (type_or_fault token t w)
 completes_goes token None w = tt
 completes_goes token (Some t) w = (refl, tt)
 
@@ -41,7 +41,7 @@ initial_goes global t equal None w = (refl, tt)
 initial_goes global t equal (Some (s.Value value)) w =
     event_then Anyhow (Initialises equal) (expr_events value) (view w) (view w) _ refl
     (and_done (TypedAt (token_of value)) Anyhow (expr_events value) (view w) (walk_expr value w) _ (expr_goes value w)
-    (λ x v g. completes_goes (first_token value) (valued global t value x (cells_of_string value)) v))
+    (λ x v g. completes_goes (first_token value) (type_by_expression global t value x (cells_of_string value)) v))
 initial_goes global t equal (Some (s.Braced token items comma)) w =
     and_done Anyhow Anyhow (exprs_events items) (view w) (walk_exprs items [] w) _ (exprs_goes items [] w)
     (λ xs v g. completes_goes token (listed_type global items xs t) v)
@@ -62,11 +62,11 @@ open_goes global x t w =
     let u : Walk = with_variable global x.declarator.name_token x.declarator.name t w in
     variable_first global x t w (walk_open global x t w)
     (and_done Anyhow Anyhow (initial_events (equal_of x) x.initial) (view u) (walk_initial global t x.initial u) _ (initial_goes global t (equal_of x) x.initial u)
-    (λ c v g. and_done Anyhow Anyhow [] (view v) (sized global x.token c v) _ (sized_goes global x.token c v) (λ _ r f. (refl, tt))))
+    (λ c v g. and_done Anyhow Anyhow [] (view v) (object_type_checked global x.token c v) _ (sized_goes global x.token c v) (λ _ r f. (refl, tt))))
 
 closed_goes : (global : Bool) (x : StartTree) (t : TypeTree) (w : Walk) → Goes Anyhow (start_events x) (view w) (walk_closed global x t w)
 closed_goes global x t w =
-    then_on Anyhow Anyhow (start_events x) (view w) (sized global x.token t w) _ (sized_goes global x.token t w)
+    then_on Anyhow Anyhow (start_events x) (view w) (object_type_checked global x.token t w) _ (sized_goes global x.token t w)
     (λ _ v g. variable_first global x t v _
     (and_done Anyhow Anyhow (initial_events (equal_of x) x.initial) (view (with_variable global x.declarator.name_token x.declarator.name t v))
     (walk_initial global t x.initial (with_variable global x.declarator.name_token x.declarator.name t v)) _
@@ -106,15 +106,15 @@ for_start_goes (s.Declares declaration) w =
 for_start_goes (s.Computes x) w = optional_goes x w
 
 returned_by : (b c : Bool) (token : ℕ) (w : Walk)
-    → Goes {A = Done} Anyhow [] (view w) (if b then Faulty fault.Jump token else unless c fault.Operands token w)
+    → Goes {A = Done} Anyhow [] (view w) (if b then Faulty fault.Jump token else fault_if_wrong c fault.Operands token w)
 returned_by true c token w = tt
 returned_by false c token w = unless_goes c fault.Operands token w
 
 -- what stands in a scope of its own
-pub scope_goes : (es : List Event) (w : Walk) (r : Walked Done) → Goes Anyhow es (view (opened w)) r → Goes Anyhow (scoped es) (view w) (r >>= closing)
+pub scope_goes : (es : List Event) (w : Walk) (r : Walked Done) → Goes Anyhow es (view (scope_opened w)) r → Goes Anyhow (scope_events es) (view w) (r >>= scope_closed)
 scope_goes es w r h =
-    event_then Anyhow Opens (es ++ Closes ∷ []) (view w) (view (opened w)) (r >>= closing) refl
-    (goes_then Anyhow Anyhow es (Closes ∷ []) (view (opened w)) r closing h (λ _ v g. ((_, (refl, refl)), tt)))
+    event_then Anyhow Opens (es ++ Closes ∷ []) (view w) (view (scope_opened w)) (r >>= scope_closed) refl
+    (goes_then Anyhow Anyhow es (Closes ∷ []) (view (scope_opened w)) r scope_closed h (λ _ v g. ((_, (refl, refl)), tt)))
 
 one_behind : (a b c d k : List Event) → a ++ (b ++ (c ++ (d ++ k))) ≡ (a ++ (b ++ (c ++ d))) ++ k
 one_behind a b c d k = sym (append_assoc a (b ++ (c ++ d)) k ∙ ap (λ x. a ++ x) (append_assoc b (c ++ d) k ∙ ap (λ x. b ++ x) (append_assoc c d k)))
@@ -123,7 +123,7 @@ mutual
   pub statement_goes : (gives : TypeTree) (looping : Bool) (x : StatementTree) (w : Walk)
       → Goes Anyhow (statement_events x) (view w) (walk_statement gives looping x w)
   statement_goes gives looping (s.Block token entries) w =
-      scope_goes (entries_events entries) w (walk_entries gives looping entries (opened w)) (entries_goes gives looping entries (opened w))
+      scope_goes (entries_events entries) w (walk_entries gives looping entries (scope_opened w)) (entries_goes gives looping entries (scope_opened w))
   statement_goes gives looping (s.Empty token) w = (refl, tt)
   statement_goes gives looping (s.Expr token x) w =
       and_done (TypedAt (token_of x)) Anyhow (expr_events x) (view w) (walk_whole x w) _ (whole_goes x w)
@@ -148,21 +148,21 @@ mutual
       (λ _ v g. and_done (TypedAt (token_of condition)) Anyhow (expr_events condition) (view v) (walk_expr condition v) _ (expr_goes condition v)
       (λ x u f. unless_goes (not (is_scalar_value x)) fault.Operands token u))
   statement_goes gives looping (s.For token start condition step body) w =
-      event_then Anyhow Opens _ (view w) (view (opened w)) _ refl
-      (goes_same Anyhow _ _ (view (opened w)) _
+      event_then Anyhow Opens _ (view w) (view (scope_opened w)) _ refl
+      (goes_same Anyhow _ _ (view (scope_opened w)) _
       (one_behind (for_start_events start) (optional_events condition) (optional_events step) (statement_events body) (Closes ∷ []))
       (goes_then Anyhow Anyhow (for_start_events start) (optional_events condition ++ (optional_events step ++ (statement_events body ++ Closes ∷ [])))
-      (view (opened w)) (walk_for_start start (opened w)) _ (for_start_goes start (opened w))
+      (view (scope_opened w)) (walk_for_start start (scope_opened w)) _ (for_start_goes start (scope_opened w))
       (λ x v g. goes_then Anyhow Anyhow (optional_events condition) (optional_events step ++ (statement_events body ++ Closes ∷ [])) (view v)
       (walk_optional condition v) _ (optional_goes condition v)
       (λ y u f. goes_then Anyhow Anyhow (optional_events step) (statement_events body ++ Closes ∷ []) (view u) (walk_optional step u) _ (optional_goes step u)
       (λ z r h. goes_then Anyhow Anyhow (statement_events body) (Closes ∷ []) (view r) (walk_statement gives true body r) _ (statement_goes gives true body r)
-      (λ _ q k. then_on Anyhow Anyhow (Closes ∷ []) (view q) (looped token x y z q) closing (unless_goes _ fault.Operands token q)
+      (λ _ q k. then_on Anyhow Anyhow (Closes ∷ []) (view q) (for_parts_checked token x y z q) scope_closed (unless_goes _ fault.Operands token q)
       (λ _ o l. ((_, (refl, refl)), tt))))))))
   statement_goes gives looping (s.Return token None) w = unless_goes (not (is_void gives)) fault.Jump token w
   statement_goes gives looping (s.Return token (Some value)) w =
       and_done (TypedAt (token_of value)) Anyhow (expr_events value) (view w) (walk_expr value w) _ (expr_goes value w)
-      (λ x v g. returned_by (is_void gives) (not (assignable gives x)) token v)
+      (λ x v g. returned_by (is_void gives) (not (is_assignable gives x)) token v)
   statement_goes gives looping (s.Break token) w = unless_goes (not looping) fault.Jump token w
   statement_goes gives looping (s.Continue token) w = unless_goes (not looping) fault.Jump token w
 

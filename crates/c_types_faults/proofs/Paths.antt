@@ -7,15 +7,15 @@ use Rattle.c_types.proofs.Replaced.{noted_same}
 use Rattle.c_types_rules.specs.declared.fault.FaultKind.{FaultKind}
 use Rattle.c_types_rules.specs.declared.layout.Member.{Member}
 use Rattle.c_types_rules.specs.declared.layout.StructType.{StructType}
-use Rattle.c_types_rules.specs.Words.{TypeTree, decayed, member_behind, member_of}
-use Rattle.c_types.specs.Answers.{noted}
+use Rattle.c_types_rules.specs.Words.{TypeTree, decayed_type, member_behind, member_of}
+use Rattle.c_types.specs.Answers.{note_at}
 use Rattle.c_types_expressions.specs.declared.names.Meaning.{Meaning}
 use Rattle.c_types_expressions.specs.declared.names.Meaning.TheVariants as meaning
 use Rattle.c_types_expressions.specs.declared.names.ScopeEntry.{ScopeEntry}
 use Rattle.c_types_expressions.specs.declared.names.ScopeEntry.TheVariants as entry
 use Rattle.c_types_expressions.specs.declared.walk.FunctionEntry.{FunctionEntry}
 use Rattle.c_types_expressions.specs.declared.walk.Walk.{Walk}
-use Rattle.c_types_expressions.specs.Words.{closed, meaning_of, Walked, ◌>>=◌, ended_scopes, replaced, with_variable}
+use Rattle.c_types_expressions.specs.Words.{names_after_scope, meaning_of, Walked, ◌>>=◌, ended_scopes, item_replaced, with_variable}
 use Rattle.c_types.proofs.Noted.{Gives, gives_more, gives_then, length_replaced}
 use Rattle.c_types.specs.Numbers.{function_of}
 use Rattle.c_types_faults.specs.Events.{Construct, Calls, Selects, Other, Event, Value, Initialises, Variable, Opens, Closes, Struct, Names, Defines}
@@ -54,13 +54,13 @@ view w = record {
 -- the steps
 
 abbrev pub typed : ℕ → TypeTree → View → View
-typed token t a = record a { types = replaced a.types token (Some t); latest = max a.latest token }
+typed token t a = record a { types = item_replaced a.types token (Some t); latest = max a.latest token }
 
 abbrev pub calling : ℕ → ℕ → View → View
-calling token index a = record a { calls = replaced a.calls token (Some index) }
+calling token index a = record a { calls = item_replaced a.calls token (Some index) }
 
 abbrev pub selecting : ℕ → ℕ → View → View
-selecting token offset a = record a { offsets = replaced a.offsets token (Some offset) }
+selecting token offset a = record a { offsets = item_replaced a.offsets token (Some offset) }
 
 abbrev pub declared : List ℕ → ℕ → View → View
 declared name token a = record a {
@@ -73,7 +73,7 @@ abbrev pub opening : View → View
 opening a = record a { names = entry.Opens ∷ a.names }
 
 abbrev pub closing : View → View
-closing a = record a { names = closed a.names; ends = ended_scopes a.latest a.names a.ends }
+closing a = record a { names = names_after_scope a.names; ends = ended_scopes a.latest a.names a.ends }
 
 abbrev pub with_struct : StructType → View → View
 with_struct s a = record a { structs = a.structs ++ s ∷ [] }
@@ -89,13 +89,13 @@ defining index a = record a { definitions = a.definitions ++ index ∷ [] }
 
 -- the type is noted at the token, if there is such a token
 pub record Holds (token : ℕ) (t : TypeTree) (a : View) : Type 0 where
-  pub by : token < length a.types → noted a.types token ≡ Some t
+  pub by : token < length a.types → note_at a.types token ≡ Some t
   pub reached : token ≤ a.latest
 
 -- a member by `.` or by `->`
 abbrev pub member_by : Bool → List StructType → List ℕ → TypeTree → Result Member FaultKind
 member_by false structs name t = member_of structs name t
-member_by true structs name t = member_behind structs name (decayed t)
+member_by true structs name t = member_behind structs name (decayed_type t)
 
 abbrev pub CalledAs : ℕ → Option Meaning → View → View → Type 0
 CalledAs token (Some (meaning.Function index)) a b = (t : TypeTree) × (b ≡ typed token t (calling token index a))

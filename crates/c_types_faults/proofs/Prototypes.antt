@@ -15,9 +15,9 @@ use Rattle.c_types_expressions.specs.declared.walk.Parameter.{Parameter}
 use Rattle.c_types_expressions.specs.declared.walk.Walk.{Walk}
 use Rattle.c_types_expressions.specs.Words.{with_stars, is_reserved, Fine, Faulty}
 use Rattle.c_types_walk.specs.ItemWalk.{has_length, is_among, is_length, is_named, looked_param, param_type, scalar_param, walk_param, walk_params}
-use Rattle.c_types_faults.specs.Context.{Context, IsReserved, known}
+use Rattle.c_types_faults.specs.Context.{Context, IsReserved, known_identifiers}
 use Rattle.c_types_faults.specs.Functions.{Formal, HasLength, IsFormal, IsPositiveLength, ParamBreaks, ParamGives, ParamRule, ParamsBreak, ParamsGive}
-use Rattle.c_types_faults.specs.Functions.{adjusted, formal, IsRuledParam}
+use Rattle.c_types_faults.specs.Functions.{adjusted_type, formal_parameter, IsRuledParam}
 use Rattle.c_types_faults.specs.Least.{IsLeast}
 use Rattle.c_types_faults.proofs.Exprs.{base_tells}
 use Rattle.c_types_faults.proofs.Least.{least_first, least_second}
@@ -27,7 +27,7 @@ use Rattle.c_types_faults.proofs.Variables.{reserved_by, reserved_true}
 abbrev pub formal_of : Parameter → Formal
 formal_of p = record { name = p.name; of = p.ctype }
 
-adjusted_is : (b : Option Bound) (t : TypeTree) → param_type b t ≡ adjusted b t
+adjusted_is : (b : Option Bound) (t : TypeTree) → param_type b t ≡ adjusted_type b t
 adjusted_is None t = refl
 adjusted_is (Some bound) t = refl
 
@@ -74,7 +74,7 @@ module _ (c : Context) (body : Bool) (token : ℕ) where
 
   no_name : (b : Bool) (t : TypeTree) (before : List Parameter) (w : Walk) → body ≡ b
       → Tells (if b then Faulty fault.Unknown token else scalar_param token None t (record { token = token; name = None; ctype = t }) w)
-      (λ x v. (formal_of x ≡ formal None t) × (v ≡ w) × IsRuledParam body (map formal_of before) None t) (Rule before None t)
+      (λ x v. (formal_of x ≡ formal_parameter None t) × (v ≡ w) × IsRuledParam body (map formal_of before) None t) (Rule before None t)
   no_name true t before w e = record {
     by = (refl, least_first (body ≡ true) (is_scalar t ≡ true → ⊥) fault.Unknown fault.Object fault.Unknown (omega arith) refl e);
   }
@@ -89,11 +89,11 @@ module _ (c : Context) (body : Bool) (token : ℕ) where
   named_by : (b : Bool) (n : ParamName) (t : TypeTree) (before : List Parameter) (w : Walk) → (is_reserved n.name || is_among n.name before) ≡ b
       → Tells (if b then Faulty fault.Redeclared token
       else scalar_param token n.bound (param_type n.bound t) (record { token = n.token; name = Some n.name; ctype = param_type n.bound t }) w)
-      (λ x v. (formal_of x ≡ formal (Some n) t) × (v ≡ w) × IsRuledParam body (map formal_of before) (Some n) t) (Rule before (Some n) t)
+      (λ x v. (formal_of x ≡ formal_parameter (Some n) t) × (v ≡ w) × IsRuledParam body (map formal_of before) (Some n) t) (Rule before (Some n) t)
   named_by true n t before w e = record {
     by = (
       refl,
-      least_first (IsReserved n.name ⊎ IsFormal n.name (map formal_of before)) ((is_scalar (adjusted n.bound t) ≡ true) × HasLength n.bound → ⊥)
+      least_first (IsReserved n.name ⊎ IsFormal n.name (map formal_of before)) ((is_scalar (adjusted_type n.bound t) ≡ true) × HasLength n.bound → ⊥)
           fault.Redeclared fault.Object fault.Redeclared (omega arith) refl (taken (or_cases (is_reserved n.name) (is_among n.name before) e)),
     );
   }
@@ -105,7 +105,7 @@ module _ (c : Context) (body : Bool) (token : ℕ) where
       (record { token = n.token; name = Some n.name; ctype = param_type n.bound t }) w
       (λ h. (
         refl,
-        least_second (IsReserved n.name ⊎ IsFormal n.name (map formal_of before)) ((is_scalar (adjusted n.bound t) ≡ true) × HasLength n.bound → ⊥)
+        least_second (IsReserved n.name ⊎ IsFormal n.name (map formal_of before)) ((is_scalar (adjusted_type n.bound t) ≡ true) × HasLength n.bound → ⊥)
             fault.Redeclared fault.Object fault.Object free refl
             (λ s. false≢true (sym h ∙ and_from (is_scalar (param_type n.bound t)) (has_length n.bound)
             (ap is_scalar (adjusted_is n.bound t) ∙ s.0) (length_back n.bound s.1))),
@@ -129,19 +129,19 @@ module _ (c : Context) (body : Bool) (token : ℕ) where
 
   looked_tells : (name : Option ParamName) (t : TypeTree) (before : List Parameter) (w : Walk)
       → Tells (looked_param body token name t before w)
-      (λ x v. (formal_of x ≡ formal name t) × (v ≡ w) × IsRuledParam body (map formal_of before) name t) (Rule before name t)
+      (λ x v. (formal_of x ≡ formal_parameter name t) × (v ≡ w) × IsRuledParam body (map formal_of before) name t) (Rule before name t)
   looked_tells None t before w = no_name body t before w refl
   looked_tells (Some n) t before w = named_by (is_reserved n.name || is_among n.name before) n t before w refl
 
 module _ (c : Context) (body : Bool) where
-  param_tells : (p : Param) (before : List Parameter) (w : Walk) → Agreed (known c) (shown w)
+  param_tells : (p : Param) (before : List Parameter) (w : Walk) → Agreed (known_identifiers c) (shown w)
       → Tells (walk_param body p before w) (λ x v. ParamGives c body (map formal_of before) p (formal_of x) × (v ≡ w)) (ParamBreaks c body
       (map formal_of before) p)
-  param_tells p before w g = and_then (base_tells (known c) p.base w g) (λ j at h. inl h) (λ of v q.
+  param_tells p before w g = and_then (base_tells (known_identifiers c) p.base w g) (λ j at h. inl h) (λ of v q.
       weaker (looked_tells c body p.token p.name (with_stars p.stars of) before v) (λ j at h. inr (of, (q.0, h)))
       (λ x u n. ((of, (q.0, n.2, n.0)), n.1 ∙ q.1)))
 
-  pub params_tell : (ps : List Param) (before : List Parameter) (w : Walk) → Agreed (known c) (shown w)
+  pub params_tell : (ps : List Param) (before : List Parameter) (w : Walk) → Agreed (known_identifiers c) (shown w)
       → Tells (walk_params body ps before w) (λ xs v. ParamsGive c body (map formal_of before) ps (map formal_of xs) × (v ≡ w))
       (ParamsBreak c body (map formal_of before) ps)
   params_tell [] before w g = record { by = (refl, refl) }

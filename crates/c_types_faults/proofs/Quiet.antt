@@ -14,11 +14,11 @@ use Rattle.c_types_rules.specs.declared.library.Library.TheVariants as library
 use Rattle.c_types_rules.specs.declared.operand.Operand.{Operand}
 use Rattle.c_types_rules.specs.Words.{is_struct, cells_of, TypeTree, Void, Char, Int, Unsigned, Pointer, Array, Struct}
 use Rattle.c_types_walk.specs.Declarators.{declared_type}
-use Rattle.c_types_walk.specs.Initialisers.{cells_of_string, listed_type as list_of, valued}
+use Rattle.c_types_walk.specs.Initialisers.{cells_of_string, listed_type as list_of, type_by_expression}
 use Rattle.c_types_laws.specs.Operands.{Accepts, IsScalar}
-use Rattle.c_types_faults.specs.Known.{Entity, Object, Function, Standard, Known}
+use Rattle.c_types_faults.specs.Known.{Entity, Object, Standard, Known}
 use Rattle.c_types_faults.specs.Calls.{Calls}
-use Rattle.c_types_faults.specs.Context.{Context, counting, declare, inner, known}
+use Rattle.c_types_faults.specs.Context.{Context, global_cells_added, name_declared, inner_context, known_identifiers}
 use Rattle.c_types_faults.specs.Declarators.{DeclaresAs}
 use Rattle.c_types_faults.specs.Initialisers.{Completes, InitialBreaks, Lists, ObjectBegins}
 use Rattle.c_types_faults.specs.Declarations.{BeginningBreaks, DeclarationBreaks, DeclarationGives, ElementBreaks, Finishes, GlobalsHaveRoom, IsObject, IsOpen, SizeBreaks}
@@ -26,7 +26,7 @@ use Rattle.c_types_faults.specs.Declarations.{VariableBreaks, VariableGives, Var
 use Rattle.c_types_faults.specs.ExprBreaks.{Breaks}
 use Rattle.c_types_faults.specs.Wholes.{IsFormatted, IsWhole, WholeBreaks, WholeCallBreaks}
 use Rattle.c_types_faults.specs.Statements.{AreRuledEntries, EntriesBreak, ForBreaks, GivesUpStruct, IfPart, IsCondition, IsGivenUp, IsSomeOperand, NoCondition, OfPart}
-use Rattle.c_types_faults.specs.Statements.{IsRuledStatement, ReturnBreaks, Returns, StartBreaks, StartGives, StartLeaves, StatementBreaks, computed}
+use Rattle.c_types_faults.specs.Statements.{IsRuledStatement, ReturnBreaks, Returns, StartBreaks, StartGives, StartLeaves, StatementBreaks, for_start_expression}
 use Rattle.c_types_faults.proofs.Beginnings.{begins_back, lists_back, completes_so, SameOrOpen}
 use Rattle.c_types_faults.proofs.Bounds.{declared_back}
 use Rattle.c_types_faults.proofs.Variables.{element_object}
@@ -43,7 +43,7 @@ module _ (k : Known) (global : Bool) where
       → Completes k global of initial u → t ≡ u
   completes_one of None t u h g = h ∙ sym g
   completes_one of (Some (s.Value value)) t u (x, h) (y, g) =
-      one_some (valued global of value x (cells_of_string value)) t u (begins_back global value of t x h.1)
+      one_some (type_by_expression global of value x (cells_of_string value)) t u (begins_back global value of t x h.1)
       (begins_back global value of u x (subst (λ z. ObjectBegins global of value z u) (sym (one_operand k value x y h.0 g.0)) g.1))
   completes_one of (Some (s.Braced token items comma)) t u (xs, h) (ys, g) =
       one_some (list_of global items xs of) t u (lists_back global of items xs t h.1)
@@ -94,29 +94,29 @@ module _ (global : Bool) (base : TypeTree) where
   pub variable_one : (x : StartTree) (c a b : Context) → VariableGives global base c x a → VariableGives global base c x b → a ≡ b
   variable_one x c a b (new, (t, (u, h))) (new2, (t2, (u2, g))) =
       let is : t2 ≡ t = one_type x.declarator base t2 t g.0 h.0 in
-      let same : u ≡ u2 = completes_one (known (declare x.declarator.name (Object t) c)) global t x.initial u u2 h.1
+      let same : u ≡ u2 = completes_one (known_identifiers (name_declared x.declarator.name (Object t) c)) global t x.initial u u2 h.1
       (subst (λ z. Finishes global base c x z u2) is g.1) in
-      h.4 ∙ ap (λ v. declare x.declarator.name (Object v) (counting global (cells_of c.structs v) c)) same ∙ sym g.4
+      h.4 ∙ ap (λ v. name_declared x.declarator.name (Object v) (global_cells_added global (cells_of c.structs v) c)) same ∙ sym g.4
 
   beginning_silent : (x : StartTree) (c : Context) (t u : TypeTree) → Finishes global base c x t u → IsObject c.structs u → GlobalsHaveRoom global c u
       → BeginningBreaks global base c x t → ⊥
   beginning_silent x c t u f o r (inl (closed, bad)) =
-      let is : u ≡ t = completes_closed (known (declare x.declarator.name (Object t) c)) global t x.initial u f closed in
+      let is : u ≡ t = completes_closed (known_identifiers (name_declared x.declarator.name (Object t) c)) global t x.initial u f closed in
       ⊎_elim (λ n. n (subst (IsObject c.structs) is o)) (λ n. n (subst (GlobalsHaveRoom global c) is r)) bad
   beginning_silent x c t u f o r (inr (opens, b)) =
-      completes_elements (known (declare x.declarator.name (Object t) c)) global c.structs t x.initial u f o opens b
+      completes_elements (known_identifiers (name_declared x.declarator.name (Object t) c)) global c.structs t x.initial u f o opens b
 
   pub variable_silent : (x : StartTree) (c a : Context) (j : FaultKind) (at : ℕ) → VariableGives global base c x a → VariableBreaks global base c x j at → ⊥
   variable_silent x c a j at (new, (t, (u, h))) (inl (q, (inl b, least))) = new b.1
   variable_silent x c a j at (new, (t, (u, h))) (inl (q, (inr b, least))) = beginning_silent x c t u h.1 h.2 h.3 (b.1 t h.0)
   variable_silent x c a j at (new, (t, (u, h))) (inr (t2, (f, b))) = by t2 (one_type x.declarator base t t2 h.0 f.1) b
     where
-      by : (t2 : TypeTree) → t ≡ t2 → (InitialBreaks (known (declare x.declarator.name (Object t2) c)) global t2 x.initial j at
+      by : (t2 : TypeTree) → t ≡ t2 → (InitialBreaks (known_identifiers (name_declared x.declarator.name (Object t2) c)) global t2 x.initial j at
           ⊎ ((v : TypeTree) × (Finishes global base c x t2 v × ((at ≡ x.token) × (j ≡ fault.Object) × SizeBreaks global base c v)))) → ⊥
-      by t2 e (inl b) = initial_silent (known (declare x.declarator.name (Object t2) c)) global t2 x.initial u j at
+      by t2 e (inl b) = initial_silent (known_identifiers (name_declared x.declarator.name (Object t2) c)) global t2 x.initial u j at
           (subst (λ z. Finishes global base c x z u) e h.1) b
       by t2 e (inr (v, b)) =
-          let is : u ≡ v = completes_one (known (declare x.declarator.name (Object t2) c)) global t2 x.initial u v
+          let is : u ≡ v = completes_one (known_identifiers (name_declared x.declarator.name (Object t2) c)) global t2 x.initial u v
           (subst (λ z. Finishes global base c x z u) e h.1) b.0 in
           ⊎_elim (λ n. n (subst (IsObject c.structs) is h.2)) (λ n. n (subst (GlobalsHaveRoom global c) is h.3)) b.1.2
 
@@ -135,13 +135,13 @@ module _ (global : Bool) (base : TypeTree) where
 pub declaration_one : (global : Bool) (d : DeclarationTree) (c a b : Context) → DeclarationGives global c d a → DeclarationGives global c d b → a ≡ b
 declaration_one global d c a b (base, h) (base2, g) =
     variables_one global base d.starts c a b h.1
-    (subst (λ z. VariablesGive global z c d.starts b) (sym (one_base (known c) d.base base base2 h.0 g.0)) g.1)
+    (subst (λ z. VariablesGive global z c d.starts b) (sym (one_base (known_identifiers c) d.base base base2 h.0 g.0)) g.1)
 
 pub declaration_silent : (global : Bool) (d : DeclarationTree) (c a : Context) (j : FaultKind) (at : ℕ) → DeclarationGives global c d a
     → DeclarationBreaks global c d j at → ⊥
-declaration_silent global d c a j at (base, h) (inl b) = base_silent (known c) d.base base j at h.0 b
+declaration_silent global d c a j at (base, h) (inl b) = base_silent (known_identifiers c) d.base base j at h.0 b
 declaration_silent global d c a j at (base, h) (inr (base2, b)) = variables_silent global base d.starts c a j at h.1
-    (subst (λ z. VariablesBreak global z c d.starts j at) (one_base (known c) d.base base2 base b.0 h.0) b.1)
+    (subst (λ z. VariablesBreak global z c d.starts j at) (one_base (known_identifiers c) d.base base2 base b.0 h.0) b.1)
 
 -- whole expressions
 
@@ -199,11 +199,11 @@ start_one (s.Computes x) c a b h g = h.1 ∙ sym g.1
 
 pub start_silent : (start : ForStartTree) (c a : Context) (j : FaultKind) (at : ℕ) → StartGives c start a → StartBreaks c start j at → ⊥
 start_silent (s.Declares d) c a j at h b = declaration_silent false d c a j at h b
-start_silent (s.Computes x) c a j at h b = part_silent (IsGivenUp (known c)) (λ y. Breaks (known c) y j at) x (λ y. given_breaks (known c) y j at) h.0 b
+start_silent (s.Computes x) c a j at h b = part_silent (IsGivenUp (known_identifiers c)) (λ y. Breaks (known_identifiers c) y j at) x (λ y. given_breaks (known_identifiers c) y j at) h.0 b
 
-start_given : (start : ForStartTree) (c a : Context) (j : FaultKind) → StartGives c start a → OfPart (λ x. GivesUpStruct (known c) x j) (computed start) → ⊥
+start_given : (start : ForStartTree) (c a : Context) (j : FaultKind) → StartGives c start a → OfPart (λ x. GivesUpStruct (known_identifiers c) x j) (for_start_expression start) → ⊥
 start_given (s.Declares d) c a j h b = b
-start_given (s.Computes x) c a j h b = part_silent (IsGivenUp (known c)) (λ y. GivesUpStruct (known c) y j) x (λ y. given_silent (known c) y j) h.0 b
+start_given (s.Computes x) c a j h b = part_silent (IsGivenUp (known_identifiers c)) (λ y. GivesUpStruct (known_identifiers c) y j) x (λ y. given_silent (known_identifiers c) y j) h.0 b
 
 return_silent : (k : Known) (gives : TypeTree) (value : Option ExprTree) (j : FaultKind) → Returns k gives value → ReturnBreaks k gives value j → ⊥
 return_silent k gives None j h b = false≢true (sym b.1 ∙ h)
@@ -220,53 +220,53 @@ return_breaks k gives (Some x) j at (q, (a, h)) b = expr_silent k x a j at h.0 b
 module _ (gives : TypeTree) where
   -- behind the first part of a `for`
   abbrev pub ForRest : Context → ForStartTree → Option ExprTree → Option ExprTree → StatementTree → Context → FaultKind → ℕ → ℕ → Type 0
-  ForRest d start condition step body c j at token = OfPart (λ x. Breaks (known d) x j at) condition
-      ⊎ (IfPart (IsSomeOperand (known d)) condition × (OfPart (λ x. Breaks (known d) x j at) step
-      ⊎ (IfPart (IsSomeOperand (known d)) step × (StatementBreaks gives d true body j at
-      ⊎ (IsRuledStatement gives d true body × ((at ≡ token) × ForBreaks (known (inner c)) (known d) start condition step j))))))
+  ForRest d start condition step body c j at token = OfPart (λ x. Breaks (known_identifiers d) x j at) condition
+      ⊎ (IfPart (IsSomeOperand (known_identifiers d)) condition × (OfPart (λ x. Breaks (known_identifiers d) x j at) step
+      ⊎ (IfPart (IsSomeOperand (known_identifiers d)) step × (StatementBreaks gives d true body j at
+      ⊎ (IsRuledStatement gives d true body × ((at ≡ token) × ForBreaks (known_identifiers (inner_context c)) (known_identifiers d) start condition step j))))))
 
   for_silent : (start : ForStartTree) (condition step : Option ExprTree) (body : StatementTree) (c d : Context) (j : FaultKind) (at token : ℕ)
-      → (StartGives (inner c) start d × IfPart (IsCondition (known d)) condition × IfPart (IsGivenUp (known d)) step × IsRuledStatement gives d true body)
+      → (StartGives (inner_context c) start d × IfPart (IsCondition (known_identifiers d)) condition × IfPart (IsGivenUp (known_identifiers d)) step × IsRuledStatement gives d true body)
       → (StatementBreaks gives d true body j at → ⊥)
       → ForRest d start condition step body c j at token → ⊥
   for_silent start condition step body c d j at token h f (inl b) =
-      part_silent (IsCondition (known d)) (λ x. Breaks (known d) x j at) condition (λ y. condition_breaks (known d) y j at) h.1 b
+      part_silent (IsCondition (known_identifiers d)) (λ x. Breaks (known_identifiers d) x j at) condition (λ y. condition_breaks (known_identifiers d) y j at) h.1 b
   for_silent start condition step body c d j at token h f (inr (p, inl b)) =
-      part_silent (IsGivenUp (known d)) (λ x. Breaks (known d) x j at) step (λ y. given_breaks (known d) y j at) h.2 b
+      part_silent (IsGivenUp (known_identifiers d)) (λ x. Breaks (known_identifiers d) x j at) step (λ y. given_breaks (known_identifiers d) y j at) h.2 b
   for_silent start condition step body c d j at token h f (inr (p, inr (r, inl b))) = f b
-  for_silent start condition step body c d j at token h f (inr (p, inr (r, inr (m, (q, inl b))))) = start_given start (inner c) d j h.0 b
+  for_silent start condition step body c d j at token h f (inr (p, inr (r, inr (m, (q, inl b))))) = start_given start (inner_context c) d j h.0 b
   for_silent start condition step body c d j at token h f (inr (p, inr (r, inr (m, (q, inr (inl b)))))) =
-      part_silent (IsCondition (known d)) (λ x. NoCondition (known d) x j) condition (λ y. condition_silent (known d) y j) h.1 b
+      part_silent (IsCondition (known_identifiers d)) (λ x. NoCondition (known_identifiers d) x j) condition (λ y. condition_silent (known_identifiers d) y j) h.1 b
   for_silent start condition step body c d j at token h f (inr (p, inr (r, inr (m, (q, inr (inr b)))))) =
-      part_silent (IsGivenUp (known d)) (λ x. GivesUpStruct (known d) x j) step (λ y. given_silent (known d) y j) h.2 b
+      part_silent (IsGivenUp (known_identifiers d)) (λ x. GivesUpStruct (known_identifiers d) x j) step (λ y. given_silent (known_identifiers d) y j) h.2 b
 
   mutual
     pub statement_silent : (looping : Bool) (x : StatementTree) (c : Context) (j : FaultKind) (at : ℕ) → IsRuledStatement gives c looping x
         → StatementBreaks gives c looping x j at → ⊥
-    statement_silent looping (s.Block token entries) c j at h b = entries_silent looping entries (inner c) j at h b
+    statement_silent looping (s.Block token entries) c j at h b = entries_silent looping entries (inner_context c) j at h b
     statement_silent looping (s.Empty token) c j at h b = b
-    statement_silent looping (s.Expr token x) c j at (a, h) (inl b) = whole_silent (known c) x a j at h.0 b
+    statement_silent looping (s.Expr token x) c j at (a, h) (inl b) = whole_silent (known_identifiers c) x a j at h.0 b
     statement_silent looping (s.Expr token x) c j at (a, h) (inr (d, b)) =
-        false≢true (sym h.1 ∙ ap (λ (z : Operand). is_struct z.ctype) (whole_one (known c) x a d h.0 b.0) ∙ b.1.2)
-    statement_silent looping (s.If token condition first) c j at h (inl b) = condition_breaks (known c) condition j at h.0 b
+        false≢true (sym h.1 ∙ ap (λ (z : Operand). is_struct z.ctype) (whole_one (known_identifiers c) x a d h.0 b.0) ∙ b.1.2)
+    statement_silent looping (s.If token condition first) c j at h (inl b) = condition_breaks (known_identifiers c) condition j at h.0 b
     statement_silent looping (s.If token condition first) c j at h (inr (o, inl b)) = statement_silent looping first c j at h.1 b
-    statement_silent looping (s.If token condition first) c j at h (inr (o, inr (f, b))) = condition_silent (known c) condition j h.0 b.1
-    statement_silent looping (s.IfElse token condition first second) c j at h (inl b) = condition_breaks (known c) condition j at h.0 b
+    statement_silent looping (s.If token condition first) c j at h (inr (o, inr (f, b))) = condition_silent (known_identifiers c) condition j h.0 b.1
+    statement_silent looping (s.IfElse token condition first second) c j at h (inl b) = condition_breaks (known_identifiers c) condition j at h.0 b
     statement_silent looping (s.IfElse token condition first second) c j at h (inr (o, inl b)) = statement_silent looping first c j at h.1 b
     statement_silent looping (s.IfElse token condition first second) c j at h (inr (o, inr (f, inl b))) = statement_silent looping second c j at h.2 b
-    statement_silent looping (s.IfElse token condition first second) c j at h (inr (o, inr (f, inr (g, b)))) = condition_silent (known c) condition j h.0 b.1
-    statement_silent looping (s.While token condition body) c j at h (inl b) = condition_breaks (known c) condition j at h.0 b
+    statement_silent looping (s.IfElse token condition first second) c j at h (inr (o, inr (f, inr (g, b)))) = condition_silent (known_identifiers c) condition j h.0 b.1
+    statement_silent looping (s.While token condition body) c j at h (inl b) = condition_breaks (known_identifiers c) condition j at h.0 b
     statement_silent looping (s.While token condition body) c j at h (inr (o, inl b)) = statement_silent true body c j at h.1 b
-    statement_silent looping (s.While token condition body) c j at h (inr (o, inr (f, b))) = condition_silent (known c) condition j h.0 b.1
+    statement_silent looping (s.While token condition body) c j at h (inr (o, inr (f, b))) = condition_silent (known_identifiers c) condition j h.0 b.1
     statement_silent looping (s.Do token body condition) c j at h (inl b) = statement_silent true body c j at h.0 b
-    statement_silent looping (s.Do token body condition) c j at h (inr (f, inl b)) = condition_breaks (known c) condition j at h.1 b
-    statement_silent looping (s.Do token body condition) c j at h (inr (f, inr (o, b))) = condition_silent (known c) condition j h.1 b.1
-    statement_silent looping (s.For token start condition step body) c j at (d, h) (inl b) = start_silent start (inner c) d j at h.0 b
+    statement_silent looping (s.Do token body condition) c j at h (inr (f, inl b)) = condition_breaks (known_identifiers c) condition j at h.1 b
+    statement_silent looping (s.Do token body condition) c j at h (inr (f, inr (o, b))) = condition_silent (known_identifiers c) condition j h.1 b.1
+    statement_silent looping (s.For token start condition step body) c j at (d, h) (inl b) = start_silent start (inner_context c) d j at h.0 b
     statement_silent looping (s.For token start condition step body) c j at (d, h) (inr (d2, (g, b))) =
         for_silent start condition step body c d j at token h (λ f. statement_silent true body d j at h.3 f)
-        (subst (λ z. ForRest z start condition step body c j at token) (sym (start_one start (inner c) d d2 h.0 g)) b)
-    statement_silent looping (s.Return token value) c j at h (inl b) = return_breaks (known c) gives value j at h b
-    statement_silent looping (s.Return token value) c j at h (inr (o, b)) = return_silent (known c) gives value j h b.1
+        (subst (λ z. ForRest z start condition step body c j at token) (sym (start_one start (inner_context c) d d2 h.0 g)) b)
+    statement_silent looping (s.Return token value) c j at h (inl b) = return_breaks (known_identifiers c) gives value j at h b
+    statement_silent looping (s.Return token value) c j at h (inr (o, b)) = return_silent (known_identifiers c) gives value j h b.1
     statement_silent looping (s.Break token) c j at h b = false≢true (sym b.1.1 ∙ h)
     statement_silent looping (s.Continue token) c j at h b = false≢true (sym b.1.1 ∙ h)
 

@@ -15,13 +15,13 @@ use Rattle.c_types_rules.specs.declared.layout.StructType.{StructType}
 use Rattle.c_types_rules.specs.Words.{empty_struct, with_member, most_cells, TypeTree}
 use Rattle.c_types_expressions.specs.ExprWalk.{with_stars}
 use Rattle.c_types_walk.specs.ItemWalk.{listed_params}
-use Rattle.c_types_faults.specs.Context.{Context, empty_context, inner, known}
+use Rattle.c_types_faults.specs.Context.{Context, empty_context, inner_context, known_identifiers}
 use Rattle.c_types_faults.specs.Functions.{Clashes, Formal, FunctionBreaks, FunctionFits, FunctionGives, FunctionRule, IsDefinedBefore, IsRuledParam, Names, ParamBreaks}
 use Rattle.c_types_faults.specs.Functions.{ParamGives, ParamRule}
-use Rattle.c_types_faults.specs.Functions.{ParamsBreak, ParamsGive, PrototypeGives, formal, formal_type, prototype, with_formals}
+use Rattle.c_types_faults.specs.Functions.{ParamsBreak, ParamsGive, PrototypeGives, formal_parameter, formal_type, prototype, with_formals}
 use Rattle.c_types_faults.specs.Items.{ItemBreaks, ItemGives, ItemsBreak, ItemsGive}
 use Rattle.c_types_faults.specs.Statements.{EntriesBreak}
-use Rattle.c_types_faults.specs.Structs.{LineBreaks, LineGives, NewMemberBreaks, MemberGives, MembersBreak, MembersGive, StructBreaks, StructGives, tagging}
+use Rattle.c_types_faults.specs.Structs.{LineBreaks, LineGives, NewMemberBreaks, MemberGives, MembersBreak, MembersGive, StructBreaks, StructGives, tag_declared}
 use Rattle.c_types_faults.specs.Texts.{TextBreaks, TextKeepsRules, DefinesMain, CallsUndefined}
 use Rattle.c_types_faults.proofs.Quiet.{declaration_one, declaration_silent, entries_silent, one_type}
 use Rattle.c_types_faults.proofs.Silent.{base_silent}
@@ -52,29 +52,29 @@ module _ (c : Context) where
   members_one [] s a b h g = h ∙ sym g
   members_one (m ∷ ms) s a b (base, (n, h)) (base2, (n2, g)) =
       let g' : LineGives c base m.declarators s n2 =
-      subst (λ z. LineGives c z m.declarators s n2) (sym (one_base (known c) m.base base base2 h.0 g.0)) g.1 in
+      subst (λ z. LineGives c z m.declarators s n2) (sym (one_base (known_identifiers c) m.base base base2 h.0 g.0)) g.1 in
       members_one ms n a b h.2 (subst (λ z. MembersGive c ms z b) (sym (line_one base m.declarators s n n2 h.1 g')) g.2)
 
   pub members_silent : (ms : List Members) (s a : StructType) (j : FaultKind) (at : ℕ) → MembersGive c ms s a → MembersBreak c ms s j at → ⊥
   members_silent [] s a j at h b = b
-  members_silent (m ∷ ms) s a j at (base, (n, h)) (inl b) = base_silent (known c) m.base base j at h.0 b
+  members_silent (m ∷ ms) s a j at (base, (n, h)) (inl b) = base_silent (known_identifiers c) m.base base j at h.0 b
   members_silent (m ∷ ms) s a j at (base, (n, h)) (inr (base2, (g, inl b))) = line_silent base m.declarators s n j at h.1
-      (subst (λ z. LineBreaks c z m.declarators s j at) (one_base (known c) m.base base2 base g h.0) b)
+      (subst (λ z. LineBreaks c z m.declarators s j at) (one_base (known_identifiers c) m.base base2 base g h.0) b)
   members_silent (m ∷ ms) s a j at (base, (n, h)) (inr (base2, (g, inr (n2, b)))) =
       let l : LineGives c base m.declarators s n2 =
-      subst (λ z. LineGives c z m.declarators s n2) (one_base (known c) m.base base2 base g h.0) b.0 in
+      subst (λ z. LineGives c z m.declarators s n2) (one_base (known_identifiers c) m.base base2 base g h.0) b.0 in
       members_silent ms n a j at h.2 (subst (λ z. MembersBreak c ms z j at) (line_one base m.declarators s n2 n l h.1) b.1)
 
 struct_one : (tag : List ℕ) (members : List Members) (c a b : Context) → StructGives c tag members a → StructGives c tag members b → a ≡ b
 struct_one tag members c a b (s, h) (r, g) =
-    h.3 ∙ ap (λ x. record (tagging tag c) { structs = c.structs ++ x ∷ [] }) (members_one (tagging tag c) members empty_struct s r h.0 g.0) ∙ sym g.3
+    h.3 ∙ ap (λ x. record (tag_declared tag c) { structs = c.structs ++ x ∷ [] }) (members_one (tag_declared tag c) members empty_struct s r h.0 g.0) ∙ sym g.3
 
 pub struct_silent : (token : ℕ) (tag : List ℕ) (members : List Members) (c a : Context) (j : FaultKind) (at : ℕ) → StructGives c tag members a
     → StructBreaks c token tag members j at → ⊥
-struct_silent token tag members c a j at (s, h) (inl b) = members_silent (tagging tag c) members empty_struct s j at h.0 b
+struct_silent token tag members c a j at (s, h) (inl b) = members_silent (tag_declared tag c) members empty_struct s j at h.0 b
 struct_silent token tag members c a j at (s, h) (inr (r, (g, (q, (inl b, least))))) = h.1 b.1
 struct_silent token tag members c a j at (s, h) (inr (r, (g, (q, (inr b, least))))) =
-    b.1 (subst (λ (z : StructType). z.cells ≤ most_cells) (members_one (tagging tag c) members empty_struct s r h.0 g) h.2)
+    b.1 (subst (λ (z : StructType). z.cells ≤ most_cells) (members_one (tag_declared tag c) members empty_struct s r h.0 g) h.2)
 
 -- parameters
 
@@ -88,12 +88,12 @@ rule_silent body before (Some n) t j h (inr b) = b.1 (h.1, h.2)
 module _ (c : Context) (body : Bool) where
   pub param_one : (before : List Formal) (p : Param) (a b : Formal) → ParamGives c body before p a → ParamGives c body before p b → a ≡ b
   param_one before p a b (base, h) (base2, g) =
-      h.2 ∙ ap (λ z. formal p.name (with_stars p.stars z)) (one_base (known c) p.base base base2 h.0 g.0) ∙ sym g.2
+      h.2 ∙ ap (λ z. formal_parameter p.name (with_stars p.stars z)) (one_base (known_identifiers c) p.base base base2 h.0 g.0) ∙ sym g.2
 
   pub param_silent : (before : List Formal) (p : Param) (a : Formal) (j : FaultKind) (at : ℕ) → ParamGives c body before p a → ParamBreaks c body before p j at → ⊥
-  param_silent before p a j at (base, h) (inl b) = base_silent (known c) p.base base j at h.0 b
+  param_silent before p a j at (base, h) (inl b) = base_silent (known_identifiers c) p.base base j at h.0 b
   param_silent before p a j at (base, h) (inr (base2, b)) = rule_silent body before p.name (with_stars p.stars base) j h.1
-      (subst (λ z. ParamRule body before p.name (with_stars p.stars z) j) (one_base (known c) p.base base2 base b.0 h.0) b.1.1.0)
+      (subst (λ z. ParamRule body before p.name (with_stars p.stars z) j) (one_base (known_identifiers c) p.base base2 base b.0 h.0) b.1.1.0)
 
   pub params_one : (ps : List Param) (before a b : List Formal) → ParamsGive c body before ps a → ParamsGive c body before ps b → a ≡ b
   params_one [] before a b h g = h ∙ sym g
@@ -124,7 +124,7 @@ formals_one b stars body ps c f g fs gs (base, h) (base2, k) = params_one c body
 pub prototype_one : (b : Base) (stars : ℕ) (body : Bool) (ps : List Param) (c : Context) (f g : FunctionType) (fs gs : List Formal)
     → PrototypeGives b stars body ps c f fs → PrototypeGives b stars body ps c g gs → f ≡ g
 prototype_one b stars body ps c f g fs gs (base, h) (base2, k) =
-    h.2 ∙ ap (λ z. made (with_stars stars z) fs) (one_base (known c) b base base2 h.0 k.0)
+    h.2 ∙ ap (λ z. made (with_stars stars z) fs) (one_base (known_identifiers c) b base base2 h.0 k.0)
     ∙ ap (made (with_stars stars base2)) (params_one c body ps [] fs gs h.1 k.1) ∙ sym k.2
 
 pub function_one : (name : List ℕ) (f : FunctionType) (formals : List Formal) (body : Option EntryList) (c a b : Context)
@@ -146,8 +146,8 @@ pub function_silent : (token : ℕ) (name : List ℕ) (f : FunctionType) (formal
     → FunctionGives name f formals body c a → FunctionBreaks token name f formals body c j at → ⊥
 function_silent token name f formals None c a j at h b = function_rule_silent (Clashes name f c) name f c j h.0 (clash_silent name f c h.0) b.1.0
 function_silent token name f formals (Some body) c a j at (x, y, (n, h)) (m, (g, inl b)) =
-    entries_silent f.gives false body (with_formals formals (inner n)) j at h.1
-    (subst (λ z. EntriesBreak f.gives (with_formals formals (inner z)) false body j at) (names_one name f c m n g h.0) b)
+    entries_silent f.gives false body (with_formals formals (inner_context n)) j at h.1
+    (subst (λ z. EntriesBreak f.gives (with_formals formals (inner_context z)) false body j at) (names_one name f c m n g h.0) b)
 function_silent token name f formals (Some body) c a j at (x, y, (n, h)) (m, (g, inr (r, b))) =
     function_rule_silent (Clashes name f c ⊎ IsDefinedBefore name f c) name f c j x
     (⊎_elim (clash_silent name f c x) (λ d. false≢true (sym (y d.0) ∙ d.1))) b.1.0
@@ -164,7 +164,7 @@ item_one (i.Declaration declaration) c a b h g = declaration_one true declaratio
 
 pub item_silent : (x : ItemTree) (c a : Context) (j : FaultKind) (at : ℕ) → ItemGives c x a → ItemBreaks c x j at → ⊥
 item_silent (i.Struct token tag members) c a j at h b = struct_silent token tag members c a j at h b
-item_silent (i.Function token base stars name ps body) c a j at (f, (fs, h)) (inl b) = base_silent (known c) base h.0.0 j at h.0.1.0 b
+item_silent (i.Function token base stars name ps body) c a j at (f, (fs, h)) (inl b) = base_silent (known_identifiers c) base h.0.0 j at h.0.1.0 b
 item_silent (i.Function token base stars name ps body) c a j at (f, (fs, h)) (inr (of, (g, inl b))) =
     params_silent c (is_some body) (listed_params ps) [] fs j at h.0.1.1 b
 item_silent (i.Function token base stars name ps body) c a j at (f, (fs, h)) (inr (of, (g, inr (gs, (k, b))))) =

@@ -1,6 +1,6 @@
 -- An expression that is an operand breaks no rule.
 use Rattle.std.proofs.Common.{inl, inr, ◌≡◌, ℕ, refl, subst, sym, ◌∙◌, List, [], ◌∷◌, Some, None, Ok, true, false}
-use Rattle.c_types_faults.proofs.Bounds.{none_some}
+use Rattle.base_lists.proofs.Options.{none_is_some}
 use Rattle.std.proofs.lemmas.Bool.{false≢true}
 use Rattle.std.specs.Prelude.{Option}
 use Rattle.cbi_base.specs.declared.operators.Binary.{Binary}
@@ -15,8 +15,8 @@ use Rattle.c_types_rules.specs.declared.layout.Member.{Member}
 use Rattle.c_types_rules.specs.declared.layout.StructType.{StructType}
 use Rattle.c_types_rules.specs.declared.operand.Operand.{Operand}
 use Rattle.c_types_rules.specs.TypeTree as t
-use Rattle.c_types_rules.specs.Words.{TypeTree, is_struct, value_type, indexed, member_of, is_complete}
-use Rattle.c_types_expressions.specs.ExprWalk.{binary_of, chained, compound_of, with_stars}
+use Rattle.c_types_rules.specs.Words.{TypeTree, is_struct, value_type, typed_subscript, member_of, is_complete}
+use Rattle.c_types_expressions.specs.ExprWalk.{binary_of, typed_chain_operation, compound_of, with_stars}
 use Rattle.c_types_laws.specs.Operands.{Assigns, Casts, Chooses, Indexes, Joins, Prefixes, Selects, SelectsBehind, Steps}
 use Rattle.c_types_faults.specs.Known.{Entity, Object, Function, Standard, Known}
 use Rattle.c_types_faults.specs.Types.{BaseBreaks, IsBase}
@@ -92,7 +92,7 @@ call_silent (Some (Standard f)) xs of j h b = b.1 of h
 
 module _ (k : Known) where
   pub base_silent : (b : Base) (of : TypeTree) (j : FaultKind) (at : ℕ) → IsBase k b of → BaseBreaks k b j at → ⊥
-  base_silent (base.Struct token tag) of j at h b = none_some (k.tags tag) h.0 b.2 h.1.0
+  base_silent (base.Struct token tag) of j at h b = none_is_some (k.tags tag) h.0 b.2 h.1.0
   base_silent other of j at h b = b
 
   mutual
@@ -151,7 +151,7 @@ module _ (k : Known) where
     links_silent (e.more_links token s operand rest) left d j at (y, (m, h)) (inr (y2, (g, inl b))) =
         b.1.1 m.ctype (subst (λ z. Joins k.structs (binary_of s) left z m.ctype) (one_operand k operand y y2 h.0 g) h.1.0)
     links_silent (e.more_links token s operand rest) left d j at (y, (m, h)) (inr (y2, (g, inr (m2, b)))) =
-        let is : m2 ≡ m = values_same (Joins k.structs (binary_of s) left y2) (chained k.structs (binary_of s) left y2) m2 m
+        let is : m2 ≡ m = values_same (Joins k.structs (binary_of s) left y2) (typed_chain_operation k.structs (binary_of s) left y2) m2 m
         (chained_back k.structs (binary_of s) left y2) b.0
         (subst (λ z. AsValue (Joins k.structs (binary_of s) left z) m) (one_operand k operand y y2 h.0 g) h.1) in
         links_silent rest m d j at h.2 (subst (λ z. LinksBreak k z rest j at) is b.1)
@@ -164,7 +164,7 @@ module _ (k : Known) where
         b.1.1 m.ctype (subst (λ z. Indexes k.structs left z m.ctype) (one_operand k x y y2 h.0 g) h.1.0)
     postfix_silent (e.index token x rest) left d j at (y, (m, h)) (inr (y2, (g, inr (m2, b)))) =
         let h' : AsPlace (Indexes k.structs left y2) m = subst (λ z. AsPlace (Indexes k.structs left z) m) (one_operand k x y y2 h.0 g) h.1 in
-        let is : m2 ≡ m = same_operand m2 m true (one_place (indexed k.structs left y2) m2.ctype m.ctype (indexed_back k.structs left y2 m2.ctype b.0.0)
+        let is : m2 ≡ m = same_operand m2 m true (one_place (typed_subscript k.structs left y2) m2.ctype m.ctype (indexed_back k.structs left y2 m2.ctype b.0.0)
         (indexed_back k.structs left y2 m.ctype h'.0)) b.0.1 b.0.2 h'.1 h'.2 in
         postfix_silent rest m d j at h.2 (subst (λ z. PostfixBreaks k z rest j at) is b.1)
     postfix_silent (e.member token name rest) left d j at (m, h) (inl b) = member_silent k.structs name left.ctype m.ctype j h.0.0 b.1

@@ -16,8 +16,8 @@ use Rattle.c_types_rules.specs.declared.library.Library.{Library}
 use Rattle.c_types_rules.specs.declared.library.Library.TheVariants as library
 use Rattle.c_types_rules.specs.declared.operand.Operand.{Operand}
 use Rattle.c_types_rules.specs.TypeTree as t
-use Rattle.c_types_rules.specs.Words.{TypeTree, enclosed, place_of, value_of, value_type, Looked, chosen, indexed, member_of}
-use Rattle.c_types_expressions.specs.ExprWalk.{binary_of, chained, compound_of, with_stars}
+use Rattle.c_types_rules.specs.Words.{TypeTree, parenthesized_operand, place_of, value_of, value_type, OperandOrFault, typed_conditional, typed_subscript, member_of}
+use Rattle.c_types_expressions.specs.ExprWalk.{binary_of, typed_chain_operation, compound_of, with_stars}
 use Rattle.c_types_laws.specs.Operands.{Assigns, Chooses, Indexes, Joins, Prefixes, Selects, SelectsBehind}
 use Rattle.c_types_faults.specs.Known.{Entity, Object, Function, Standard, Known}
 use Rattle.c_types_faults.specs.Types.{IsBase}
@@ -29,7 +29,7 @@ use Rattle.c_types_faults.proofs.Fitting.{chained_back, chosen_back, indexed_bac
 abbrev made : TypeTree → Bool → Bool → Operand
 made t p n = record { ctype = t; place = p; null = n }
 
-abbrev IsOk : Looked → Operand → Type 0
+abbrev IsOk : OperandOrFault → Operand → Type 0
 IsOk r x = r ≡ Ok x
 
 -- operands of one type, of which the rest is said
@@ -37,19 +37,19 @@ pub same_operand : (a b : Operand) (p : Bool) → a.ctype ≡ b.ctype → a.plac
 same_operand a b p e f g h k =
     ap (λ u. made u a.place a.null) e ∙ ap (λ q. made b.ctype q a.null) (f ∙ sym h) ∙ ap (λ q. made b.ctype b.place q) (g ∙ sym k)
 
-one_value : (r : Looked) (a b : TypeTree) → r ≡ Ok (value_of a) → r ≡ Ok (value_of b) → a ≡ b
+one_value : (r : OperandOrFault) (a b : TypeTree) → r ≡ Ok (value_of a) → r ≡ Ok (value_of b) → a ≡ b
 one_value r a b h k = ap (λ (x : Operand). x.ctype) (same (value_of a) (value_of b) (sym h ∙ k))
   where
     same : (x y : Operand) → IsOk (Ok x) y → x ≡ y
     same x y h = cc
 
-pub one_place : (r : Looked) (a b : TypeTree) → r ≡ Ok (place_of a) → r ≡ Ok (place_of b) → a ≡ b
+pub one_place : (r : OperandOrFault) (a b : TypeTree) → r ≡ Ok (place_of a) → r ≡ Ok (place_of b) → a ≡ b
 one_place r a b h k = ap (λ (x : Operand). x.ctype) (same (place_of a) (place_of b) (sym h ∙ k))
   where
     same : (x y : Operand) → IsOk (Ok x) y → x ≡ y
     same x y h = cc
 
-pub values_same : (P : TypeTree → Type 0) (r : Looked) (a b : Operand) → ((t : TypeTree) → P t → r ≡ Ok (value_of t)) → AsValue P a → AsValue P b → a ≡ b
+pub values_same : (P : TypeTree → Type 0) (r : OperandOrFault) (a b : Operand) → ((t : TypeTree) → P t → r ≡ Ok (value_of t)) → AsValue P a → AsValue P b → a ≡ b
 values_same P r a b f h k = same_operand a b false (one_value r a.ctype b.ctype (f a.ctype h.0) (f b.ctype k.0)) h.1 h.2 k.1 k.2
 
 assigns_one : (ss : List StructType) (o : Option Binary) (x y : Operand) (t : TypeTree) → Assigns ss o x y t → t ≡ value_type x
@@ -112,7 +112,7 @@ module _ (k : Known) where
         same_operand a b false (assigns_one k.structs (compound_of s) x y a.ctype h.2.0 ∙ ap value_type (one_operand target x x2 h.0 g.0)
         ∙ sym (assigns_one k.structs (compound_of s) x2 y2 b.ctype g.2.0)) h.2.1 h.2.2 g.2.1 g.2.2
     one_operand (e.Conditional token condition first second) a b (c, (x, (y, h))) (c2, (x2, (y2, g))) =
-        values_same (Chooses c x y) (chosen c x y) a b (chosen_back c x y) h.3
+        values_same (Chooses c x y) (typed_conditional c x y) a b (chosen_back c x y) h.3
         (subst (λ z. AsValue (Chooses z x y) b) (sym (one_operand condition c c2 h.0 g.0))
         (subst (λ z. AsValue (Chooses c2 z y) b) (sym (one_operand first x x2 h.1 g.1))
         (subst (λ z. AsValue (Chooses c2 x2 z) b) (sym (one_operand second y y2 h.2 g.2)) g.3)))
@@ -131,7 +131,7 @@ module _ (k : Known) where
     one_operand (e.Call token name arguments) a b (xs, h) (ys, g) =
         let g' : AsValue (Calls (k.ordinary name) xs) b = subst (λ zs. AsValue (Calls (k.ordinary name) zs) b) (sym (one_list arguments xs ys h.0 g.0)) g.1 in
         same_operand a b false (calls_one (k.ordinary name) xs a.ctype b.ctype h.1.0 g'.0) h.1.1 h.1.2 g'.1 g'.2
-    one_operand (e.Paren token inner) a b (x, h) (y, g) = h.1 ∙ ap enclosed (one_operand inner x y h.0 g.0) ∙ sym g.1
+    one_operand (e.Paren token inner) a b (x, h) (y, g) = h.1 ∙ ap parenthesized_operand (one_operand inner x y h.0 g.0) ∙ sym g.1
     one_operand x a b h g = h ∙ sym g
 
     pub one_list : (xs : ExprList) (us vs : List Operand) → AreOperands k xs us → AreOperands k xs vs → us ≡ vs
@@ -145,7 +145,7 @@ module _ (k : Known) where
     pub one_links : (links : LinkList) (left a b : Operand) → LinksGive k left links a → LinksGive k left links b → a ≡ b
     one_links e.no_links left a b h g = h ∙ sym g
     one_links (e.more_links token s operand rest) left a b (y, (m, h)) (y2, (m2, g)) =
-        let is : m ≡ m2 = values_same (Joins k.structs (binary_of s) left y) (chained k.structs (binary_of s) left y) m m2
+        let is : m ≡ m2 = values_same (Joins k.structs (binary_of s) left y) (typed_chain_operation k.structs (binary_of s) left y) m m2
         (chained_back k.structs (binary_of s) left y) h.1
         (subst (λ z. AsValue (Joins k.structs (binary_of s) left z) m2) (sym (one_operand operand y y2 h.0 g.0)) g.1) in
         one_links rest m a b h.2 (subst (λ z. LinksGive k z rest b) (sym is) g.2)
@@ -154,7 +154,7 @@ module _ (k : Known) where
     one_postfix e.no_postfix left a b h g = h ∙ sym g
     one_postfix (e.index token x rest) left a b (y, (m, h)) (y2, (m2, g)) =
         let g' : AsPlace (Indexes k.structs left y) m2 = subst (λ z. AsPlace (Indexes k.structs left z) m2) (sym (one_operand x y y2 h.0 g.0)) g.1 in
-        let is : m ≡ m2 = same_operand m m2 true (one_place (indexed k.structs left y) m.ctype m2.ctype (indexed_back k.structs left y m.ctype h.1.0)
+        let is : m ≡ m2 = same_operand m m2 true (one_place (typed_subscript k.structs left y) m.ctype m2.ctype (indexed_back k.structs left y m.ctype h.1.0)
         (indexed_back k.structs left y m2.ctype g'.0)) h.1.1 h.1.2 g'.1 g'.2 in
         one_postfix rest m a b h.2 (subst (λ z. PostfixGives k z rest b) (sym is) g.2)
     one_postfix (e.member token name rest) left a b (m, h) (m2, g) =

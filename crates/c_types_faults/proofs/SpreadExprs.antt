@@ -3,7 +3,7 @@ use Rattle.std.proofs.Common.{inl, ◌≡◌, ℕ, ◌+◌, [], ◌∷◌, ◌++
 use Rattle.c_syntax.specs.declared.token.Sign.TheVariants as sign
 use Rattle.c_syntax.specs.ExprTree as e
 use Rattle.c_syntax.specs.Words.{ExprTree, ExprList, LinkList, PostfixList, ExprAt, ExprsAt, LinksAt, PostfixAt, ShapedExpr, ShapedExprs, ShapedLinks}
-use Rattle.c_syntax.specs.Words.{ShapedPostfix, a_sign, expr_kinds, exprs_kinds, link_kinds, more_exprs_kinds, parenthesized, postfix_kinds, type_kinds}
+use Rattle.c_syntax.specs.Words.{ShapedPostfix, a_sign, expr_kinds, exprs_kinds, link_kinds, more_exprs_kinds, parenthesized_kinds, postfix_kinds, type_kinds}
 use Rattle.c_meaning.specs.Trees.{token_of}
 use Rattle.c_types_laws.proofs.Goods.{around, conditional_long, infix_long, texts_long}
 use Rattle.c_types_faults.specs.Events.{Calls, Other, Selects, Value, expr_events, exprs_events, links_events, postfix_events}
@@ -62,7 +62,7 @@ mutual
       let n : ℕ = length (type_kinds b stars) in
       let hi : ℕ = at + length (expr_kinds (e.Cast token b stars x)) in
       let long : length (expr_kinds (e.Cast token b stars x)) ≡ n + 2 + length (expr_kinds x) =
-      omega (arith, length-append (parenthesized (type_kinds b stars)) (expr_kinds x), around (type_kinds b stars)) in
+      omega (arith, length-append (parenthesized_kinds (type_kinds b stars)) (expr_kinds x), around (type_kinds b stars)) in
       spread_own at (at + 1 + n + 1) hi token Other (expr_events x)
       (spread_wider (at + 1 + n + 1) (at + 1 + n + 1 + length (expr_kinds x)) (at + 1 + n + 1) hi (expr_events x) (expr_spread x (at + 1 + n + 1) s.1 p.2)
       (omega arith) (omega (arith, long)))

@@ -9,20 +9,20 @@ use Rattle.c_syntax.specs.StatementTree as s
 use Rattle.c_types_rules.specs.declared.fault.FaultKind.{FaultKind}
 use Rattle.c_types_rules.specs.declared.fault.FaultKind.TheVariants as fault
 use Rattle.c_types_rules.specs.declared.operand.Operand.{Operand}
-use Rattle.c_types_rules.specs.Words.{assignable, is_struct, is_void, is_scalar_value, TypeTree}
+use Rattle.c_types_rules.specs.Words.{is_assignable, is_struct, is_void, is_scalar_value, TypeTree}
 use Rattle.c_types_expressions.specs.declared.walk.Walk.{Walk}
-use Rattle.c_types_expressions.specs.Words.{closed, Faulty, Done, closing, opened, unless}
-use Rattle.c_types_walk.specs.StatementWalk.{conditioned, is_condition_part, is_struct_part, looped, walk_entries, walk_for_start}
+use Rattle.c_types_expressions.specs.Words.{names_after_scope, Faulty, Done, scope_closed, scope_opened, fault_if_wrong}
+use Rattle.c_types_walk.specs.StatementWalk.{condition_checked, is_condition_part, is_struct_part, for_parts_checked, walk_entries, walk_for_start}
 use Rattle.c_types_walk.specs.StatementWalk.{walk_optional, walk_statement}
 use Rattle.c_types_laws.specs.Operands.{IsScalar}
 use Rattle.c_types_faults.specs.Known.{Known}
-use Rattle.c_types_faults.specs.Context.{Context, Declared, inner, known}
+use Rattle.c_types_faults.specs.Context.{Context, Declared, inner_context, known_identifiers}
 use Rattle.c_types_faults.specs.Exprs.{IsOperand}
 use Rattle.c_types_faults.specs.ExprBreaks.{Breaks}
 use Rattle.c_types_faults.specs.Declarations.{DeclarationGives, VariableGives, VariablesGive}
 use Rattle.c_types_faults.specs.Statements.{EntriesBreak, ForBreaks, GivesUpStruct, NoCondition, OfPart, ReturnBreaks, StartBreaks, StartGives}
 use Rattle.c_types_faults.specs.Statements.{AreRuledEntries, IsRuledStatement, IsCondition, IsGivenUp, IsSomeOperand, IfPart, Returns, StartLeaves}
-use Rattle.c_types_faults.specs.Statements.{StatementBreaks, computed}
+use Rattle.c_types_faults.specs.Statements.{StatementBreaks, for_start_expression}
 use Rattle.c_types_faults.proofs.Exprs.{expr_tells}
 use Rattle.c_types_faults.proofs.Wholes.{whole_tells}
 use Rattle.c_types_faults.proofs.Declaring.{Behind, declaration_tells}
@@ -70,7 +70,7 @@ declaration_within d c after (base, h) = variables_within base d.starts c after 
 -- tests at the end of a statement
 
 unless_tells : {B : FaultKind → ℕ → Type 0} (b : Bool) (kind : FaultKind) (token : ℕ) (c : Context) (w : Walk) → Knows c (shown w)
-    → (b ≡ true → B kind token) → Tells (unless b kind token w) (λ (d : Done) v. Beyond c w v × (b ≡ false)) B
+    → (b ≡ true → B kind token) → Tells (fault_if_wrong b kind token w) (λ (d : Done) v. Beyond c w v × (b ≡ false)) B
 unless_tells true kind token c w k f = record { by = f refl }
 unless_tells false kind token c w k f = record { by = (beyond_here k refl, refl) }
 
@@ -81,8 +81,8 @@ no_scalar : (a : Operand) → not (is_scalar_value a) ≡ true → IsScalar a �
 no_scalar a h g = false≢true (sym (not-true (is_scalar_value a) h) ∙ g)
 
 condition_tells : {B : FaultKind → ℕ → Type 0} (token : ℕ) (x : ExprTree) (a : Operand) (c : Context) (w : Walk) → Knows c (shown w)
-    → IsOperand (known c) x a → ((j : FaultKind) → NoCondition (known c) x j → B j token)
-    → Tells (conditioned token a w) (λ (d : Done) v. Beyond c w v × IsCondition (known c) x) B
+    → IsOperand (known_identifiers c) x a → ((j : FaultKind) → NoCondition (known_identifiers c) x j → B j token)
+    → Tells (condition_checked token a w) (λ (d : Done) v. Beyond c w v × IsCondition (known_identifiers c) x) B
 condition_tells token x a c w k h f = weaker (unless_tells (not (is_scalar_value a)) fault.Operands token c w k
     (λ e. f fault.Operands (refl, (a, (h, no_scalar a e))))) (λ j at b. b) (λ d v p. (p.0, (a, (h, a_scalar a p.1))))
 
@@ -129,20 +129,20 @@ deciding_part k (Some x) None h e = absurd h
 deciding_part k (Some x) (Some a) h e = (a, (h, a_scalar a e))
 
 abbrev PartsFit : Known → Known → ForStartTree → Option ExprTree → Option ExprTree → Type 0
-PartsFit before k start condition step = IfPart (IsGivenUp before) (computed start) × IfPart (IsCondition k) condition × IfPart (IsGivenUp k) step
+PartsFit before k start condition step = IfPart (IsGivenUp before) (for_start_expression start) × IfPart (IsCondition k) condition × IfPart (IsGivenUp k) step
 
 looped_tells : {B : FaultKind → ℕ → Type 0} (before k : Known) (token : ℕ) (start : ForStartTree) (condition step : Option ExprTree) (x y z : Option Operand)
-    (c : Context) (w : Walk) → Knows c (shown w) → PartIs before (computed start) x → PartIs k condition y → PartIs k step z
+    (c : Context) (w : Walk) → Knows c (shown w) → PartIs before (for_start_expression start) x → PartIs k condition y → PartIs k step z
     → (ForBreaks before k start condition step fault.Operands → B fault.Operands token)
-    → Tells (looped token x y z w) (λ (d : Done) v. Beyond c w v × PartsFit before k start condition step) B
+    → Tells (for_parts_checked token x y z w) (λ (d : Done) v. Beyond c w v × PartsFit before k start condition step) B
 looped_tells before k token start condition step x y z c w g p q r f =
     weaker (unless_tells (is_struct_part x || not (is_condition_part y) || is_struct_part z) fault.Operands token c w g (λ e.
-    f (⊎_elim (λ h. inl (struct_part before (computed start) x p h))
+    f (⊎_elim (λ h. inl (struct_part before (for_start_expression start) x p h))
     (λ h. inr (⊎_elim (λ i. inl (condition_part k condition y q i)) (λ i. inr (struct_part k step z r i)) h))
     (three_or (is_struct_part x) (not (is_condition_part y)) (is_struct_part z) e))))
     (λ j at b. b) (λ d v h.
     let n = three_or_false (is_struct_part x) (not (is_condition_part y)) (is_struct_part z) h.1 in
-    (h.0, (given_part before (computed start) x p n.0, deciding_part k condition y q n.1, given_part k step z r n.2)))
+    (h.0, (given_part before (for_start_expression start) x p n.0, deciding_part k condition y q n.1, given_part k step z r n.2)))
 
 -- the first part of a `for`
 pub record Starts (c : Context) (start : ForStartTree) (o : Option Operand) (w v : Walk) : Type 0 where
@@ -150,34 +150,34 @@ pub record Starts (c : Context) (start : ForStartTree) (o : Option Operand) (w v
   pub gives : StartLeaves c start after
   pub within : IsWithin c after
   pub behind : Behind after w v
-  pub part : PartIs (known c) (computed start) o
+  pub part : PartIs (known_identifiers c) (for_start_expression start) o
 
 start_tells : (start : ForStartTree) (c : Context) (w : Walk) → Knows c (shown w)
     → Tells (walk_for_start start w) (λ o v. Starts c start o w v) (StartBreaks c start)
 start_tells (s.Declares d) c w k = and_then (declaration_tells false d c w k) (λ j at h. h) (λ u v p. record {
   by = record { after = p.0; gives = p.1.0; within = declaration_within d c p.0 p.1.0; behind = p.1.1; part = tt };
 })
-start_tells (s.Computes x) c w k = weaker (optional_tells (known c) x w (agreed k)) (λ j at h. h) (λ o v p. record {
+start_tells (s.Computes x) c w k = weaker (optional_tells (known_identifiers c) x w (agreed k)) (λ j at h. h) (λ o v p. record {
   after = c;
-  gives = (part_is (known c) x o p.0, refl);
+  gives = (part_is (known_identifiers c) x o p.0, refl);
   within = refl;
   behind = record { knows = know_on k p.1; names = []; moves = still (shown w) (shown v) p.1 };
   part = p.0;
 })
 
 -- with its own rule, it gives the same
-start_gives : (start : ForStartTree) (c after : Context) → StartLeaves c start after → IfPart (IsGivenUp (known c)) (computed start) → StartGives c start after
+start_gives : (start : ForStartTree) (c after : Context) → StartLeaves c start after → IfPart (IsGivenUp (known_identifiers c)) (for_start_expression start) → StartGives c start after
 start_gives (s.Declares d) c after h g = h
 start_gives (s.Computes x) c after h g = (g, h.1)
 
 -- the end of a scope
-pub closing_tells : {B : FaultKind → ℕ → Type 0} (c : Context) (w v : Walk) (d : Done) → Within (inner c) (opened w) v
-    → Tells (closing d v) (λ (e : Done) u. Beyond c w u) B
+pub closing_tells : {B : FaultKind → ℕ → Type 0} (c : Context) (w v : Walk) (d : Done) → Within (inner_context c) (scope_opened w) v
+    → Tells (scope_closed d v) (λ (e : Done) u. Beyond c w u) B
 closing_tells c w v d i = record {
   by = record {
     knows = leaving_knows i.scope i.knows;
     moves = record {
-      names = ap (λ ns. closed ns) i.moves.names ∙ closed_pushed i.names w.names;
+      names = ap (λ ns. names_after_scope ns) i.moves.names ∙ closed_pushed i.names w.names;
       tags = i.moves.tags;
       structs = i.moves.structs;
       functions = i.moves.functions;
@@ -188,13 +188,13 @@ closing_tells c w v d i = record {
 
 -- `return`
 value_tells : {B : FaultKind → ℕ → Type 0} (b : Bool) (token : ℕ) (gives : TypeTree) (x : ExprTree) (a : Operand) (c : Context) (w : Walk) → Knows c (shown w)
-    → IsOperand (known c) x a → is_void gives ≡ b → ((j : FaultKind) → ReturnBreaks (known c) gives (Some x) j → B j token)
-    → Tells (if b then Faulty fault.Jump token else unless (not (assignable gives a)) fault.Operands token w)
-    (λ (d : Done) v. Beyond c w v × Returns (known c) gives (Some x)) B
+    → IsOperand (known_identifiers c) x a → is_void gives ≡ b → ((j : FaultKind) → ReturnBreaks (known_identifiers c) gives (Some x) j → B j token)
+    → Tells (if b then Faulty fault.Jump token else fault_if_wrong (not (is_assignable gives a)) fault.Operands token w)
+    (λ (d : Done) v. Beyond c w v × Returns (known_identifiers c) gives (Some x)) B
 value_tells true token gives x a c w k h e f = record { by = f fault.Jump (inl (refl, e)) }
-value_tells false token gives x a c w k h e f = weaker (unless_tells (not (assignable gives a)) fault.Operands token c w k
-    (λ n. f fault.Operands (inr (refl, e, (a, (h, λ p. false≢true (sym (not-true (assignable gives a) n) ∙ accepts_back gives a p)))))))
-    (λ j at b. b) (λ d v p. (p.0, (e, (a, (h, accepts gives a (not-false (assignable gives a) p.1))))))
+value_tells false token gives x a c w k h e f = weaker (unless_tells (not (is_assignable gives a)) fault.Operands token c w k
+    (λ n. f fault.Operands (inr (refl, e, (a, (h, λ p. false≢true (sym (not-true (is_assignable gives a) n) ∙ accepts_back gives a p)))))))
+    (λ j at b. b) (λ d v p. (p.0, (e, (a, (h, accepts gives a (not-false (is_assignable gives a) p.1))))))
 
 pub within_on : {c : Context} {w v u : Walk} (ps : List (List ℕ × ℕ)) → Moves ps (shown w) (shown v) → Within c v u → Within c w u
 within_on ps m i = record { scope = i.scope; knows = i.knows; names = joined i.names ps; moves = moves_then m i.moves }
@@ -215,50 +215,50 @@ module _ (gives : TypeTree) where
   mutual
     pub statement_tells : (looping : Bool) (x : StatementTree) (c : Context) (w : Walk) → Knows c (shown w)
         → Tells (walk_statement gives looping x w) (λ (d : Done) v. Beyond c w v × IsRuledStatement gives c looping x) (StatementBreaks gives c looping x)
-    statement_tells looping (s.Block token entries) c w k = and_then (entries_tell looping entries (inner c) (opened w) (entering_knows k)) (λ j at h. h)
-        (λ d v p. weaker (closing_tells {B = EntriesBreak gives (inner c) looping entries} c w v d p.0) (λ j at b. b) (λ e u q. (q, p.1)))
+    statement_tells looping (s.Block token entries) c w k = and_then (entries_tell looping entries (inner_context c) (scope_opened w) (entering_knows k)) (λ j at h. h)
+        (λ d v p. weaker (closing_tells {B = EntriesBreak gives (inner_context c) looping entries} c w v d p.0) (λ j at b. b) (λ e u q. (q, p.1)))
     statement_tells looping (s.Empty token) c w k = record { by = (beyond_here k refl, tt) }
-    statement_tells looping (s.Expr token x) c w k = and_then (whole_tells (known c) x w (agreed k)) (λ j at h. inl h) (λ a v p.
+    statement_tells looping (s.Expr token x) c w k = and_then (whole_tells (known_identifiers c) x w (agreed k)) (λ j at h. inl h) (λ a v p.
         weaker (unless_tells {B = λ j at. (at ≡ token) × (j ≡ fault.Operands) × (is_struct a.ctype ≡ true)} (is_struct a.ctype) fault.Operands token c v
         (know_on k p.1) (λ e. (refl, refl, e)))
         (λ j at h. inr (a, (p.0, h))) (λ d u q. (beyond_then (beyond_here k p.1) q.0, (a, (p.0, q.1)))))
-    statement_tells looping (s.If token condition first) c w k = and_then (expr_tells (known c) condition w (agreed k)) (λ j at h. inl h) (λ a v p.
+    statement_tells looping (s.If token condition first) c w k = and_then (expr_tells (known_identifiers c) condition w (agreed k)) (λ j at h. inl h) (λ a v p.
         and_then (statement_tells looping first c v (know_on k p.1)) (λ j at h. inr ((a, p.0), inl h)) (λ d u q.
         weaker (condition_tells token condition a c u q.0.knows p.0 (λ j h. inr ((a, p.0), inr (q.1, (refl, h))))) (λ j at h. h)
         (λ e r n. (beyond_then (beyond_here k p.1) (beyond_then q.0 n.0), (n.1, q.1)))))
-    statement_tells looping (s.IfElse token condition first second) c w k = and_then (expr_tells (known c) condition w (agreed k)) (λ j at h. inl h)
+    statement_tells looping (s.IfElse token condition first second) c w k = and_then (expr_tells (known_identifiers c) condition w (agreed k)) (λ j at h. inl h)
         (λ a v p.
         and_then (statement_tells looping first c v (know_on k p.1)) (λ j at h. inr ((a, p.0), inl h)) (λ d u q.
         and_then (statement_tells looping second c u q.0.knows) (λ j at h. inr ((a, p.0), inr (q.1, inl h))) (λ e r n.
         weaker (condition_tells token condition a c r n.0.knows p.0 (λ j h. inr ((a, p.0), inr (q.1, inr (n.1, (refl, h)))))) (λ j at h. h)
         (λ f z m. (beyond_then (beyond_here k p.1) (beyond_then q.0 (beyond_then n.0 m.0)), (m.1, q.1, n.1))))))
-    statement_tells looping (s.While token condition body) c w k = and_then (expr_tells (known c) condition w (agreed k)) (λ j at h. inl h) (λ a v p.
+    statement_tells looping (s.While token condition body) c w k = and_then (expr_tells (known_identifiers c) condition w (agreed k)) (λ j at h. inl h) (λ a v p.
         and_then (statement_tells true body c v (know_on k p.1)) (λ j at h. inr ((a, p.0), inl h)) (λ d u q.
         weaker (condition_tells token condition a c u q.0.knows p.0 (λ j h. inr ((a, p.0), inr (q.1, (refl, h))))) (λ j at h. h)
         (λ e r n. (beyond_then (beyond_here k p.1) (beyond_then q.0 n.0), (n.1, q.1)))))
     statement_tells looping (s.Do token body condition) c w k = and_then (statement_tells true body c w k) (λ j at h. inl h) (λ d v p.
-        and_then (expr_tells (known c) condition v (agreed p.0.knows)) (λ j at h. inr (p.1, inl h)) (λ a u q.
+        and_then (expr_tells (known_identifiers c) condition v (agreed p.0.knows)) (λ j at h. inr (p.1, inl h)) (λ a u q.
         weaker (condition_tells token condition a c u (know_on p.0.knows q.1) q.0 (λ j h. inr (p.1, inr ((a, q.0), (refl, h))))) (λ j at h. h)
         (λ e r n. (beyond_then p.0 (beyond_then (beyond_here p.0.knows q.1) n.0), (p.1, n.1)))))
     statement_tells looping (s.For token start condition step body) c w k =
-        and_then (start_tells start (inner c) (opened w) (entering_knows k)) (λ j at h. inl h) (λ x v p.
+        and_then (start_tells start (inner_context c) (scope_opened w) (entering_knows k)) (λ j at h. inl h) (λ x v p.
         let d : Context = p.after in
-        and_then (optional_tells (known d) condition v (agreed p.behind.knows)) (λ j at h. inr (d, (p.gives, inl h))) (λ y u q.
-        and_then (optional_tells (known d) step u (agrees_on (agreed p.behind.knows) q.1)) (λ j at h. inr (d, (p.gives, inr (part_is (known d) condition y q.0, inl h))))
+        and_then (optional_tells (known_identifiers d) condition v (agreed p.behind.knows)) (λ j at h. inr (d, (p.gives, inl h))) (λ y u q.
+        and_then (optional_tells (known_identifiers d) step u (agrees_on (agreed p.behind.knows) q.1)) (λ j at h. inr (d, (p.gives, inr (part_is (known_identifiers d) condition y q.0, inl h))))
         (λ z r n.
         and_then (statement_tells true body d r (know_on p.behind.knows (n.1 ∙ q.1)))
-        (λ j at h. inr (d, (p.gives, inr (part_is (known d) condition y q.0, inr (part_is (known d) step z n.0, inl h))))) (λ e o m.
-        and_then (looped_tells (known (inner c)) (known d) token start condition step x y z d o m.0.knows p.part q.0 n.0
-        (λ h. inr (d, (p.gives, inr (part_is (known d) condition y q.0, inr (part_is (known d) step z n.0, inr (m.1, (refl, h))))))))
+        (λ j at h. inr (d, (p.gives, inr (part_is (known_identifiers d) condition y q.0, inr (part_is (known_identifiers d) step z n.0, inl h))))) (λ e o m.
+        and_then (looped_tells (known_identifiers (inner_context c)) (known_identifiers d) token start condition step x y z d o m.0.knows p.part q.0 n.0
+        (λ h. inr (d, (p.gives, inr (part_is (known_identifiers d) condition y q.0, inr (part_is (known_identifiers d) step z n.0, inr (m.1, (refl, h))))))))
         (λ j at h. h)
         (λ f i l. weaker (closing_tells {B = StatementBreaks gives c looping (s.For token start condition step body)} c w i f
-        (within_on p.behind.names p.behind.moves (within_of (inner c) d v i p.within
+        (within_on p.behind.names p.behind.moves (within_of (inner_context c) d v i p.within
         (beyond_then (beyond_here p.behind.knows (n.1 ∙ q.1)) (beyond_then m.0 l.0)))))
         (λ j at b. b)
-        (λ g a b. (b, (d, (start_gives start (inner c) d p.gives l.1.0, l.1.1, l.1.2, m.1)))))))))
+        (λ g a b. (b, (d, (start_gives start (inner_context c) d p.gives l.1.0, l.1.1, l.1.2, m.1)))))))))
     statement_tells looping (s.Return token None) c w k = weaker (unless_tells (not (is_void gives)) fault.Jump token c w k
         (λ e. inr (tt, (refl, (refl, not-true (is_void gives) e))))) (λ j at b. b) (λ d v p. (p.0, not-false (is_void gives) p.1))
-    statement_tells looping (s.Return token (Some x)) c w k = and_then (expr_tells (known c) x w (agreed k)) (λ j at h. inl h) (λ a v p.
+    statement_tells looping (s.Return token (Some x)) c w k = and_then (expr_tells (known_identifiers c) x w (agreed k)) (λ j at h. inl h) (λ a v p.
         weaker (value_tells (is_void gives) token gives x a c v (know_on k p.1) p.0 refl (λ j h. inr ((a, p.0), (refl, h)))) (λ j at h. h)
         (λ d u q. (beyond_then (beyond_here k p.1) q.0, q.1)))
     statement_tells looping (s.Break token) c w k = weaker (unless_tells (not looping) fault.Jump token c w k (λ e. (refl, (refl, not-true looping e))))

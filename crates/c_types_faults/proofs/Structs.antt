@@ -18,13 +18,13 @@ use Rattle.c_types_expressions.specs.declared.names.ScopeEntry.TheVariants.{Open
 use Rattle.c_types_expressions.specs.declared.walk.Walk.{Walk}
 use Rattle.c_types_expressions.specs.Words.{is_here, Fine, Faulty, Done}
 use Rattle.c_types_walk.specs.Declarators.{declared_type}
-use Rattle.c_types_walk.specs.ItemWalk.{defined, typed_member, walk_declarators, walk_members, walk_struct, with_tag}
-use Rattle.c_types_faults.specs.Context.{Context, Tagged, known}
+use Rattle.c_types_walk.specs.ItemWalk.{struct_defined, typed_member, walk_declarators, walk_members, walk_struct, with_tag}
+use Rattle.c_types_faults.specs.Context.{Context, Tagged, known_identifiers}
 use Rattle.c_types_faults.specs.Declarators as law
 use Rattle.c_types_faults.specs.Declarations.{IsObject}
 use Rattle.c_types_faults.specs.Structs.{HasMember, HasTag, LineBreaks, LineGives, NewMemberBreaks, MemberGives, MembersBreak, MembersGive, StructBreaks}
 use Rattle.c_types_faults.specs.Structs.{StructGives}
-use Rattle.c_types_faults.specs.Structs.{tagging}
+use Rattle.c_types_faults.specs.Structs.{tag_declared}
 use Rattle.c_types_faults.proofs.Bounds.{declared_back, declared_is, no_type}
 use Rattle.c_types_faults.proofs.Exprs.{base_tells}
 use Rattle.c_types_faults.proofs.Least.{least_first, least_second}
@@ -128,17 +128,17 @@ module _ (c : Context) where
       weaker (line_tells base ds next v (k ∙ ap (λ (z : Walk). z.structs) (sym p.1))) (λ j at h. inr (next, (p.0, h)))
       (λ last u q. ((next, (p.0, q.0)), q.1 ∙ p.1)))
 
-  members_tell : (ms : List Members) (s : StructType) (w : Walk) → Agreed (known c) (shown w)
+  members_tell : (ms : List Members) (s : StructType) (w : Walk) → Agreed (known_identifiers c) (shown w)
       → Tells (walk_members ms s w) (λ next v. MembersGive c ms s next × (v ≡ w)) (MembersBreak c ms s)
   members_tell [] s w g = record { by = (refl, refl) }
-  members_tell (m ∷ ms) s w g = and_then (base_tells (known c) m.base w g) (λ j at h. inl h) (λ base v p.
+  members_tell (m ∷ ms) s w g = and_then (base_tells (known_identifiers c) m.base w g) (λ j at h. inl h) (λ base v p.
       and_then (line_tells base m.declarators s v (g.by.complete ∙ ap (λ (z : Walk). z.structs) (sym p.1)))
       (λ j at h. inr (base, (p.0, inl h))) (λ next u q.
       weaker (members_tell ms next u (agrees_on g (ap shown (q.1 ∙ p.1)))) (λ j at h. inr (base, (p.0, inr (next, (q.0, h)))))
       (λ last z n. ((base, (next, (p.0, q.0, n.0))), n.1 ∙ q.1 ∙ p.1))))
 
 tagging_knows : {c : Context} {s : Shown} (tag : List ℕ) → Knows c s
-    → Knows (tagging tag c) (record s { tags = Declares tag (meaning.Struct (length s.structs)) ∷ s.tags })
+    → Knows (tag_declared tag c) (record s { tags = Declares tag (meaning.Struct (length s.structs)) ∷ s.tags })
 tagging_knows tag k = record {
   names = k.names;
   tags = (refl, ap length (sym k.structs), k.tags);
@@ -159,12 +159,12 @@ abbrev StructTold : Context → List ℕ → List Members → Walk → Done → 
 StructTold c tag members w d v = (after : Context) × (StructGives c tag members after × Structured after w v)
 
 fits_by : (b : Bool) (token : ℕ) (tag : List ℕ) (members : List Members) (s : StructType) (c : Context) (w : Walk) → Knows c (shown w)
-    → MembersGive (tagging tag c) members empty_struct s → (HasTag tag c.tags → ⊥) → nat_le s.cells most_cells ≡ b
+    → MembersGive (tag_declared tag c) members empty_struct s → (HasTag tag c.tags → ⊥) → nat_le s.cells most_cells ≡ b
     → Tells (if b then Fine tt (record (with_tag tag w) { structs = w.structs ++ s ∷ [] }) else Faulty fault.Object token) (StructTold c tag members w)
     (StructBreaks c token tag members)
 fits_by true token tag members s c w k g new e = record {
   by = (
-    record (tagging tag c) { structs = c.structs ++ s ∷ [] },
+    record (tag_declared tag c) { structs = c.structs ++ s ∷ [] },
     (
       (s, (g, new, is_most s.cells most_cells e, refl)),
       record {
@@ -198,8 +198,8 @@ fits_by false token tag members s c w k g new e = record {
 }
 
 defined_tells : (b : Bool) (token : ℕ) (tag : List ℕ) (members : List Members) (s : StructType) (c : Context) (w : Walk) → Knows c (shown w)
-    → MembersGive (tagging tag c) members empty_struct s → is_here tag w.tags ≡ b
-    → Tells (defined token b s (with_tag tag w)) (StructTold c tag members w) (StructBreaks c token tag members)
+    → MembersGive (tag_declared tag c) members empty_struct s → is_here tag w.tags ≡ b
+    → Tells (struct_defined token b s (with_tag tag w)) (StructTold c tag members w) (StructBreaks c token tag members)
 defined_tells true token tag members s c w k g e = record {
   by = inr (
     s,
@@ -219,6 +219,6 @@ defined_tells false token tag members s c w k g e = fits_by (nat_le s.cells most
 pub struct_tells : (token : ℕ) (tag : List ℕ) (members : List Members) (c : Context) (w : Walk) → Knows c (shown w)
     → Tells (walk_struct token tag members w) (StructTold c tag members w) (StructBreaks c token tag members)
 struct_tells token tag members c w k =
-    and_then (members_tell (tagging tag c) members empty_struct (with_tag tag w) (agreed (tagging_knows tag k))) (λ j at h. inl h)
-    (λ s v p. subst (λ z. Tells (defined token (is_here tag w.tags) s z) (StructTold c tag members w) (StructBreaks c token tag members)) (sym p.1)
+    and_then (members_tell (tag_declared tag c) members empty_struct (with_tag tag w) (agreed (tagging_knows tag k))) (λ j at h. inl h)
+    (λ s v p. subst (λ z. Tells (struct_defined token (is_here tag w.tags) s z) (StructTold c tag members w) (StructBreaks c token tag members)) (sym p.1)
     (defined_tells (is_here tag w.tags) token tag members s c w k p.0 refl))

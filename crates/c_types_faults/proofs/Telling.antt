@@ -4,11 +4,11 @@ use Rattle.std.specs.Prelude.{Option}
 use Rattle.c_types_rules.specs.declared.fault.FaultKind.{FaultKind}
 use Rattle.c_types_rules.specs.declared.layout.StructType.{StructType}
 use Rattle.c_types_rules.specs.declared.operand.Operand.{Operand}
-use Rattle.c_types_rules.specs.Words.{Looked, TypeTree}
+use Rattle.c_types_rules.specs.Words.{OperandOrFault, TypeTree}
 use Rattle.c_types_expressions.specs.declared.names.ScopeEntry.{ScopeEntry}
 use Rattle.c_types_expressions.specs.declared.walk.FunctionEntry.{FunctionEntry}
 use Rattle.c_types_expressions.specs.declared.walk.Walk.{Walk}
-use Rattle.c_types_expressions.specs.Words.{looked, Walked, Fine, Faulty, ◌>>=◌, with_type}
+use Rattle.c_types_expressions.specs.Words.{operand_noted, Walked, Fine, Faulty, ◌>>=◌, with_type}
 use Rattle.c_types_faults.specs.Known.{Known}
 use Rattle.c_types_faults.specs.Agrees.{AgreesOn}
 
@@ -45,14 +45,14 @@ pub weaker : {A : Type 0} {P Q : A → Walk → Type 0} {B C : FaultKind → ℕ
     → ((kind : FaultKind) (at : ℕ) → C kind at → B kind at) → ((a : A) (v : Walk) → P a v → Q a v) → Tells m Q B
 weaker {P = P} {Q = Q} {B = B} {C = C} {m = m} h f g = record { by = weaker_in P Q B C m h.by f g }
 
-looked_in : (Q : Operand → Walk → Type 0) (B : FaultKind → ℕ → Type 0) (token : ℕ) (r : Looked) (w : Walk)
-    → ((x : Operand) → r ≡ Ok x → Q x (with_type token x.ctype w)) → ((k : FaultKind) → r ≡ Err k → B k token) → TellsIn Q B (looked token r w)
+looked_in : (Q : Operand → Walk → Type 0) (B : FaultKind → ℕ → Type 0) (token : ℕ) (r : OperandOrFault) (w : Walk)
+    → ((x : Operand) → r ≡ Ok x → Q x (with_type token x.ctype w)) → ((k : FaultKind) → r ≡ Err k → B k token) → TellsIn Q B (operand_noted token r w)
 looked_in Q B token (Ok x) w f g = f x refl
 looked_in Q B token (Err k) w f g = g k refl
 
 -- the last look at a construct
-pub looks : {Q : Operand → Walk → Type 0} {B : FaultKind → ℕ → Type 0} (token : ℕ) (r : Looked) (w : Walk)
-    → ((x : Operand) → r ≡ Ok x → Q x (with_type token x.ctype w)) → ((k : FaultKind) → r ≡ Err k → B k token) → Tells (looked token r w) Q B
+pub looks : {Q : Operand → Walk → Type 0} {B : FaultKind → ℕ → Type 0} (token : ℕ) (r : OperandOrFault) (w : Walk)
+    → ((x : Operand) → r ≡ Ok x → Q x (with_type token x.ctype w)) → ((k : FaultKind) → r ≡ Err k → B k token) → Tells (operand_noted token r w) Q B
 looks {Q = Q} {B = B} token r w f g = record { by = looked_in Q B token r w f g }
 
 -- what is known, apart from what is noted of expressions
@@ -89,5 +89,5 @@ pub agrees_on : {k : Known} {s r : Shown} → Agreed k s → r ≡ s → Agreed 
 agrees_on {k = k} g e = subst (Agreed k) (sym e) g
 
 -- the rule of the structs that are complete there
-pub known_rule : {k : Known} {s : Shown} (rule : List StructType → Looked) (r : Looked) → Agreed k s → rule s.structs ≡ r → rule k.structs ≡ r
+pub known_rule : {k : Known} {s : Shown} (rule : List StructType → OperandOrFault) (r : OperandOrFault) → Agreed k s → rule s.structs ≡ r → rule k.structs ≡ r
 known_rule rule r g h = ap rule g.by.complete ∙ h

@@ -1,7 +1,7 @@
 -- A text at which the walk stops breaks a rule.
 use Rattle.std.proofs.Common.{inl, inr, ⊎_elim, ◌≡◌, ℕ, suc, ◌+◌, ◌<◌, refl, ap, subst, sym, ◌∙◌, arith, List, [], ◌∷◌, Some, None, Bool, true, false, length}
 use Rattle.c_types_rules.specs.Words.{fault_number, TypeTree, Int, same_type}
-use Rattle.c_types_faults.proofs.Bounds.{none_some}
+use Rattle.base_lists.proofs.Options.{none_is_some, none_some}
 use Rattle.c_types_faults.proofs.Calling.{both_tell}
 use Rattle.c_types_faults.proofs.Defining.{calls_defined, defined_before, listed_defined}
 use Rattle.c_syntax.specs.Words.{IsShaped, SourceTree}
@@ -12,9 +12,9 @@ use Rattle.std.specs.Prelude.{Option, slice_get, if◌then◌else◌, unwrap_or,
 use Rattle.std.proofs.lemmas.Option.{same_Some}
 use Rattle.c_types_rules.specs.declared.fault.FaultKind.{FaultKind}
 use Rattle.c_types_rules.specs.declared.fault.FaultKind.TheVariants as fault
-use Rattle.c_types.specs.Answers.{noted}
+use Rattle.c_types.specs.Answers.{note_at}
 use Rattle.c_types.specs.Fault.{begins_program, ends_with, first_undefined, has_main, is_main, lacks_definition, undefined_at, walk_tree, fault_in, fault_of}
-use Rattle.c_types_expressions.specs.Words.{beginning, found, Faulty, Done, Fine, Walked}
+use Rattle.c_types_expressions.specs.Words.{empty_walk, declared_meaning, Faulty, Done, Fine, Walked}
 use Rattle.c_types_expressions.specs.declared.names.Meaning.{Meaning}
 use Rattle.c_types_expressions.specs.declared.names.Meaning.TheVariants as meaning
 use Rattle.c_types_expressions.specs.declared.names.ScopeEntry.{ScopeEntry}
@@ -39,7 +39,7 @@ use Rattle.c_types_faults.proofs.Items.{items_tell, defined_as_listed}
 use Rattle.c_types_faults.proofs.Knowing.{Matches}
 use Rattle.c_types_faults.proofs.Telling.{Tells, and_then, shown, told_fault, told_fine}
 
-pub begins : (n : ℕ) → Files empty_context (shown (beginning n))
+pub begins : (n : ℕ) → Files empty_context (shown (empty_walk n))
 begins n = record {
   knows = record { names = tt; tags = tt; structs = refl; count = refl; cells = refl };
   outer = refl;
@@ -47,11 +47,8 @@ begins n = record {
   flat = tt;
   long = refl;
   here = λ name h. h;
-  places = record { listed = λ i name h. absurd (none h); named = λ name i h. absurd h; own = tt };
+  places = record { listed = λ i name h. absurd (none_some h); named = λ name i h. absurd h; own = tt };
 }
-  where
-    none : {A : Type 0} {x : A} → None ≡ Some x → ⊥
-    none h = absurd (cc)
 
 -- no `main`
 
@@ -64,7 +61,7 @@ begins_by None h = absurd h
 begins_by (Some g) h = ap (λ t. begins_program (Some (record { name = g.name; ctype = t }))) h
 
 module _ (c : Context) (w : Walk) (k : Files c (shown w)) where
-  main_by : (m : Option Meaning) → found (codes "main") w.names ≡ m → Denotes w.declared_types w.functions m (Some (Function main_type))
+  main_by : (m : Option Meaning) → declared_meaning (codes "main") w.names ≡ m → Denotes w.declared_types w.functions m (Some (Function main_type))
       → is_listed (codes "main") c.defined ≡ true → is_main m w ≡ true
   main_by (Some (meaning.Function i)) e h l = and_from (begins_program (slice_get w.functions i)) (is_defined i w.defined_as)
       (begins_by (slice_get w.functions i) h)
@@ -72,8 +69,8 @@ module _ (c : Context) (w : Walk) (k : Files c (shown w)) where
   main_by m e h l = absurd h
 
   no_main : has_main w ≡ false → IsKnownAs (codes "main") main_type c × (is_listed (codes "main") c.defined ≡ true) → ⊥
-  no_main h m = false≢true (sym h ∙ main_by (found (codes "main") w.names) refl
-      (subst (Denotes w.declared_types w.functions (found (codes "main") w.names)) m.0
+  no_main h m = false≢true (sym h ∙ main_by (declared_meaning (codes "main") w.names) refl
+      (subst (Denotes w.declared_types w.functions (declared_meaning (codes "main") w.names)) m.0
       (text_found w.declared_types w.functions (length w.variables) (length w.functions) w.names c.scope (matches_flat c w k) (codes "main"))) m.1)
 
   program_by : (o : Option FunctionEntry) (f : FunctionType) → IsType o (λ g. g.ctype ≡ f) → begins_program o ≡ true → f ≡ main_type
@@ -89,7 +86,7 @@ module _ (c : Context) (w : Walk) (k : Files c (shown w)) where
       made : TypeTree → List TypeTree → FunctionType
       made t ts = record { gives = t; params = ts }
 
-  main_found : (m : Option Meaning) (x : Option Entity) → found (codes "main") w.names ≡ m → declared_in (codes "main") c.scope ≡ x
+  main_found : (m : Option Meaning) (x : Option Entity) → declared_meaning (codes "main") w.names ≡ m → declared_in (codes "main") c.scope ≡ x
       → Denotes w.declared_types w.functions m x → is_main m w ≡ true
       → IsKnownAs (codes "main") main_type c × (is_listed (codes "main") c.defined ≡ true)
   main_found (Some (meaning.Function i)) None e g h l = absurd h
@@ -103,7 +100,7 @@ module _ (c : Context) (w : Walk) (k : Files c (shown w)) where
   main_found m x e g h l = absurd (false≢true l)
 
   has_its_main : has_main w ≡ true → IsKnownAs (codes "main") main_type c × (is_listed (codes "main") c.defined ≡ true)
-  has_its_main h = main_found (found (codes "main") w.names) (declared_in (codes "main") c.scope) refl refl
+  has_its_main h = main_found (declared_meaning (codes "main") w.names) (declared_in (codes "main") c.scope) refl refl
       (text_found w.declared_types w.functions (length w.variables) (length w.functions) w.names c.scope (matches_flat c w k) (codes "main")) h
 
 -- a call of a function without definition
@@ -160,12 +157,12 @@ pub record Ends (t : SourceTree) (w : Walk) : Type 0 where
   pub defined : first_undefined 0 w.functions_at w.defined_as ≡ None
   pub does : ItemsDo t.items (before t) (view w)
 
-module _ (t : SourceTree) (c : Context) (w : Walk) (k : Files c (shown w)) (n : Notes (events_of t) (beginning (length t.lines)) w)
+module _ (t : SourceTree) (c : Context) (w : Walk) (k : Files c (shown w)) (n : Notes (events_of t) (empty_walk (length t.lines)) w)
     (does : ItemsDo t.items (before t) (view w)) where
-  call_at : (token index : ℕ) → ItemsGive empty_context t.items c → noted w.functions_at token ≡ Some index → is_defined index w.defined_as ≡ false
+  call_at : (token index : ℕ) → ItemsGive empty_context t.items c → note_at w.functions_at token ≡ Some index → is_defined index w.defined_as ≡ false
       → CallsUndefined t c token
   call_at token index g h d = ⊎_elim
-      (λ e. none_some (noted (beginning (length t.lines)).functions_at token) index (none_noted (length t.lines) token) e)
+      (λ e. none_is_some (note_at (empty_walk (length t.lines)).functions_at token) index (none_noted (length t.lines) token) e)
       (λ e.
       let l : Listed e.0 index w.names = k.places.listed index e.0 e.1.1 in (
         e.0,
@@ -179,7 +176,7 @@ module _ (t : SourceTree) (c : Context) (w : Walk) (k : Files c (shown w)) (n : 
   calls_undefined : (token : ℕ) → ItemsGive empty_context t.items c → first_undefined 0 w.functions_at w.defined_as ≡ Some token → CallsUndefined t c token
   calls_undefined token g h =
       let u : Undefined 0 w.functions_at w.defined_as token = undefined_by 0 w.functions_at w.defined_as token h in
-      call_at token u.1.0 g (ap (noted w.functions_at) (the_same token u.0 u.1.1.0) ∙ ap (λ o. unwrap_or o None) u.1.1.1) u.1.1.2
+      call_at token u.1.0 g (ap (note_at w.functions_at) (the_same token u.0 u.1.1.0) ∙ ap (λ o. unwrap_or o None) u.1.1.1) u.1.1.2
     where
       the_same : (i j : ℕ) → i ≡ 0 + j → i ≡ j
       the_same i j h = omega (arith, h)
@@ -203,9 +200,9 @@ module _ (t : SourceTree) (c : Context) (w : Walk) (k : Files c (shown w)) (n : 
 
 text_tells : (t : SourceTree) → Tells (walk_tree t) (λ (d : Done) v. Ends t v) (TextBreaks t)
 text_tells t = and_then (both_tell
-    (λ (d : Done) v. ((after : Context) × (ItemsGive empty_context t.items after × Files after (shown v))) × Notes (events_of t) (beginning (length t.lines)) v)
-    (λ (d : Done) v. ItemsDo t.items (before t) (view v)) (ItemsBreak empty_context t.items) (walk_items t.items (beginning (length t.lines)))
-    (items_tell t.items empty_context (beginning (length t.lines)) (begins (length t.lines))) (items_do t.items (beginning (length t.lines))))
+    (λ (d : Done) v. ((after : Context) × (ItemsGive empty_context t.items after × Files after (shown v))) × Notes (events_of t) (empty_walk (length t.lines)) v)
+    (λ (d : Done) v. ItemsDo t.items (before t) (view v)) (ItemsBreak empty_context t.items) (walk_items t.items (empty_walk (length t.lines)))
+    (items_tell t.items empty_context (empty_walk (length t.lines)) (begins (length t.lines))) (items_do t.items (empty_walk (length t.lines))))
     (λ j at h. inl h) (λ d w p. main_tells t p.0.0.0 w p.0.0.1.1 p.0.1 p.1 (has_main w) refl p.0.0.1.0)
 
 pub refused_text : (t : SourceTree) (kind : FaultKind) (token : ℕ) → walk_tree t ≡ Faulty kind token → TextBreaks t kind token

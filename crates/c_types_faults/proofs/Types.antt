@@ -4,7 +4,7 @@ use Rattle.std.proofs.lemmas.List.{length-replicate}
 use Rattle.c_types.proofs.Replaced.{noted_same}
 use Rattle.c_syntax.specs.Words.{SourceTree, IsShaped}
 use Rattle.c_types_rules.specs.TypeTree.{TypeTree}
-use Rattle.c_types.specs.Answers.{noted, type_at}
+use Rattle.c_types.specs.Answers.{note_at, type_at}
 use Rattle.c_types.specs.Fault.{walk_tree}
 use Rattle.c_types_expressions.specs.Words.{Fine, meaning_of}
 use Rattle.c_types_expressions.specs.declared.names.Meaning.{Meaning}
@@ -19,18 +19,18 @@ use Rattle.c_types_faults.proofs.NotedTexts.{before, none_noted, text_left, text
 
 -- an expression notes its type
 abbrev HasType : ℕ → View → Type 0
-HasType k b = (t : TypeTree) × (noted b.types k ≡ Some t)
+HasType k b = (t : TypeTree) × (note_at b.types k ≡ Some t)
 
 called_type : (k : ℕ) (m : Option Meaning) (a b : View) → k < length a.types → CalledAs k m a b → HasType k b
-called_type k (Some (meaning.Function index)) a b h c = (c.0, ap (λ (v : View). noted v.types k) c.1 ∙ noted_same a.types k c.0 h)
-called_type k (Some (meaning.Library function)) a b h c = (c.0, ap (λ (v : View). noted v.types k) c.1 ∙ noted_same a.types k c.0 h)
+called_type k (Some (meaning.Function index)) a b h c = (c.0, ap (λ (v : View). note_at v.types k) c.1 ∙ noted_same a.types k c.0 h)
+called_type k (Some (meaning.Library function)) a b h c = (c.0, ap (λ (v : View). note_at v.types k) c.1 ∙ noted_same a.types k c.0 h)
 called_type k m a b h c = absurd c
 
 notes_type : (c : Construct) (k : ℕ) (a b : View) → k < length a.types → Notes c k a b → HasType k b
-notes_type Other k a b h n = (n.0, ap (λ (v : View). noted v.types k) n.1 ∙ noted_same a.types k n.0 h)
+notes_type Other k a b h n = (n.0, ap (λ (v : View). note_at v.types k) n.1 ∙ noted_same a.types k n.0 h)
 notes_type (Calls name) k a b h n = called_type k (meaning_of name a.names) a b h n
 notes_type (Selects operand behind name) k a b h n =
-    (n.member.ctype, ap (λ (v : View). noted v.types k) n.to ∙ noted_same a.types k n.member.ctype h)
+    (n.member.ctype, ap (λ (v : View). note_at v.types k) n.to ∙ noted_same a.types k n.member.ctype h)
 
 type_is : (s : SourceTree) (z : Walk) → IsShaped s → walk_tree s ≡ Fine tt z → (k : ℕ) (o : Option Construct) → construct_at k (events_of s) ≡ o
     → is_some (type_at z k) ≡ is_some o

@@ -1,6 +1,5 @@
 -- A variable that the walk takes is declared behind it, and one at which it stops breaks a rule.
 use Rattle.std.proofs.Common.{◌⊎◌, inl, inr, ◌≡◌, ℕ, ◌+◌, ◌≤◌, ◌<◌, arith, refl, ap, subst, sym, ◌∙◌, List, [], ◌∷◌, Some, None, Bool, true, false, length}
-use Rattle.std.proofs.lemmas.Bool.Decides.{nat_tests}
 use Rattle.std.proofs.lemmas.Nat.{mul-le}
 use Rattle.std.specs.Prelude.{Option, nat_lt, ◌*◌, nat_le, is_some, ◌&&◌, ◌==◌, if◌then◌else◌, IsSome}
 use Rattle.std.proofs.lemmas.Bool.{and_from, and_parts, eq-eqb, eqb-true, false≢true, or_left, or_right}
@@ -15,11 +14,11 @@ use Rattle.c_types_expressions.specs.declared.names.Meaning.TheVariants as meani
 use Rattle.c_types_expressions.specs.declared.names.ScopeEntry.{ScopeEntry}
 use Rattle.c_types_expressions.specs.declared.names.ScopeEntry.TheVariants.{Opens, Declares}
 use Rattle.c_types_expressions.specs.declared.walk.Walk.{Walk}
-use Rattle.c_types_expressions.specs.Words.{closed, is_here, is_name_taken, is_reserved, Fine, Faulty, Done}
+use Rattle.c_types_expressions.specs.Words.{names_after_scope, is_here, is_name_taken, is_reserved, Fine, Faulty, Done}
 use Rattle.c_types_walk.specs.Declarators.{is_open}
-use Rattle.c_types_walk.specs.StatementWalk.{counted_cells, sized}
+use Rattle.c_types_walk.specs.StatementWalk.{counted_cells, object_type_checked}
 use Rattle.c_types_faults.specs.Known.{Object}
-use Rattle.c_types_faults.specs.Context.{Context, IsTaken, counting, declare, known, IsReserved}
+use Rattle.c_types_faults.specs.Context.{Context, IsTaken, global_cells_added, name_declared, known_identifiers, IsReserved}
 use Rattle.c_types_faults.specs.Declarations.{ElementBreaks, GlobalsHaveRoom, IsObject, IsOpen}
 use Rattle.c_types_faults.proofs.Knowing.{Knows, completed, grown, here_named, with_object, named_here}
 use Rattle.c_types_faults.proofs.Telling.{Shown, Tells, shown, weaker}
@@ -58,7 +57,7 @@ moves_then {ps = ps} {qs = qs} {s = s} {r = r} {q = q} a b = record {
   defined_as = b.defined_as ∙ a.defined_as;
 }
 
-pub closed_pushed : (ps : List (List ℕ × ℕ)) (names : List ScopeEntry) → closed (pushed ps (Opens ∷ names)) ≡ names
+pub closed_pushed : (ps : List (List ℕ × ℕ)) (names : List ScopeEntry) → names_after_scope (pushed ps (Opens ∷ names)) ≡ names
 closed_pushed [] names = refl
 closed_pushed (p ∷ ps) names = closed_pushed ps names
 
@@ -116,7 +115,7 @@ size_by true global token t c w k h = weaker (counted_tells global token (cells_
 size_by false global token t c w k h = record { by = (refl, refl, inl (no_object c.structs t (ap (λ ss. is_object ss t) k.structs ∙ h))) }
 
 pub sized_tells : (global : Bool) (token : ℕ) (t : TypeTree) (c : Context) (w : Walk) → Knows c (shown w)
-    → Tells (sized global token t w)
+    → Tells (object_type_checked global token t w)
     (λ (d : Done) v. IsObject c.structs t × (shown v ≡ grown global (cells_of c.structs t) (shown w)) × GlobalsHaveRoom global c t)
     (BadSize global c t token)
 sized_tells global token t c w k = size_by (is_object w.structs t) global token t c w k refl
@@ -191,12 +190,12 @@ not_taken name c s k h (inr r) = false≢true (sym h ∙ or_right (is_reserved n
     (named_here s.types s.functions s.count (length s.functions) s.names c.scope c.outer k.names name r))
 
 pub known_counted : (global : Bool) (n : ℕ) (name : List ℕ) (t : TypeTree) (c : Context)
-    → known (declare name (Object t) (counting global n c)) ≡ known (declare name (Object t) c)
+    → known_identifiers (name_declared name (Object t) (global_cells_added global n c)) ≡ known_identifiers (name_declared name (Object t) c)
 known_counted true n name t c = refl
 known_counted false n name t c = refl
 
 pub declare_counted : (global : Bool) (n : ℕ) (name : List ℕ) (t : TypeTree) (c : Context)
-    → declare name (Object t) (counting global n c) ≡ counting global n (declare name (Object t) c)
+    → name_declared name (Object t) (global_cells_added global n c) ≡ global_cells_added global n (name_declared name (Object t) c)
 declare_counted true n name t c = refl
 declare_counted false n name t c = refl
 

@@ -9,11 +9,11 @@ use Rattle.c_types_rules.specs.declared.fault.FaultKind.TheVariants as fault
 use Rattle.c_types_rules.specs.declared.library.Library.{Library}
 use Rattle.c_types_rules.specs.declared.library.Library.TheVariants as library
 use Rattle.c_types_rules.specs.declared.operand.Operand.{Operand}
-use Rattle.c_types_rules.specs.Words.{Int, value_of, Looked, fits_format}
+use Rattle.c_types_rules.specs.Words.{Int, value_of, OperandOrFault, fits_format}
 use Rattle.c_types_expressions.specs.declared.names.Meaning.{Meaning}
 use Rattle.c_types_expressions.specs.declared.names.Meaning.TheVariants as meaning
 use Rattle.c_types_expressions.specs.declared.walk.Walk.{Walk}
-use Rattle.c_types_expressions.specs.Words.{flat, format_of, walk_whole, whole_call, meaning_of}
+use Rattle.c_types_expressions.specs.Words.{concatenated_strings, format_of, walk_whole, whole_call, meaning_of}
 use Rattle.c_types_laws.proofs.Ruled.{Is}
 use Rattle.c_types_faults.specs.Known.{Entity, Object, Function, Standard, Known}
 use Rattle.c_types_faults.specs.Agrees.{Denotes}
@@ -25,7 +25,7 @@ use Rattle.c_types_faults.proofs.Exprs.{call_tells, expr_tells, exprs_tells}
 use Rattle.c_types_faults.proofs.Refusing.{IsErr, fault_is}
 use Rattle.c_types_faults.proofs.Telling.{Agreed, Tells, agrees_on, and_then, looks, shown, weaker}
 
-abbrev Printed : Bool → Looked
+abbrev Printed : Bool → OperandOrFault
 Printed fits = if fits then Ok (value_of Int) else Err fault.Arguments
 
 printed_is : (b : Bool) (d : Operand) → Is (Printed b) d → (b ≡ true) × (d ≡ value_of Int)
@@ -43,7 +43,7 @@ no_format : {A : Type 0} (d : Operand) → Is (Err fault.Arguments) d → A
 no_format d h = absurd (cc)
 
 format_is : (arguments : ExprList) (xs : List Operand) (d : Operand) → Is (format_of arguments xs) d → IsFormatted arguments xs × (d ≡ value_of Int)
-format_is (e.more_exprs (e.Strings token parts) rest) (x ∷ xs) d h = printed_is (fits_format (flat parts) xs) d h
+format_is (e.more_exprs (e.Strings token parts) rest) (x ∷ xs) d h = printed_is (fits_format (concatenated_strings parts) xs) d h
 format_is e.no_exprs xs d h = no_format d h
 format_is (e.more_exprs (e.Strings token parts) rest) [] d h = no_format d h
 format_is (e.more_exprs (e.Comma token operands) rest) xs d h = no_format d h
@@ -63,7 +63,7 @@ format_is (e.more_exprs (e.EndOfFile token) rest) xs d h = no_format d h
 
 format_breaks : (arguments : ExprList) (xs : List Operand) (j : FaultKind) → IsErr (format_of arguments xs) j
     → (j ≡ fault.Arguments) × (IsFormatted arguments xs → ⊥)
-format_breaks (e.more_exprs (e.Strings token parts) rest) (x ∷ xs) j h = printed_breaks (fits_format (flat parts) xs) j h
+format_breaks (e.more_exprs (e.Strings token parts) rest) (x ∷ xs) j h = printed_breaks (fits_format (concatenated_strings parts) xs) j h
 format_breaks e.no_exprs xs j h = (fault_is fault.Arguments j h, λ f. f)
 format_breaks (e.more_exprs (e.Strings token parts) rest) [] j h = (fault_is fault.Arguments j h, λ f. f)
 format_breaks (e.more_exprs (e.Comma token operands) rest) xs j h = (fault_is fault.Arguments j h, λ f. f)

@@ -7,7 +7,7 @@ use Rattle.c_types_expressions.specs.declared.names.Meaning.TheVariants as meani
 use Rattle.c_types_expressions.specs.declared.names.ScopeEntry.{ScopeEntry}
 use Rattle.c_types_expressions.specs.declared.walk.FunctionEntry.{FunctionEntry}
 use Rattle.c_types_expressions.specs.declared.walk.Walk.{Walk}
-use Rattle.c_types_expressions.specs.Names.{found, meaning_of}
+use Rattle.c_types_expressions.specs.Names.{declared_meaning, meaning_of}
 use Rattle.c_types_faults.specs.Known.{Entity, Object, Function, Standard, Known}
 
 abbrev pub IsType : Option FunctionEntry → (FunctionEntry → Type 0) → Type 0
@@ -34,7 +34,7 @@ IsTag m number = ⊥
 pub record AgreesOn (k : Known) (names tags : List ScopeEntry) (types : List TypeTree) (functions : List FunctionEntry) (structs : List StructType)
     : Type 0 where
   pub ordinary : (name : List ℕ) → Denotes types functions (meaning_of name names) (k.ordinary name)
-  pub tagged : (tag : List ℕ) → IsTag (found tag tags) (k.tags tag)
+  pub tagged : (tag : List ℕ) → IsTag (declared_meaning tag tags) (k.tags tag)
   pub complete : k.structs ≡ structs
 
 -- identifiers denote what the walk knows of them

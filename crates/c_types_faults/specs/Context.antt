@@ -36,28 +36,28 @@ declared_in name [] = None
 declared_in name (d ∷ ds) = if bytes_eq d.name name then Some d.entity else declared_in name ds
 
 -- An inner scope hides the outer ones (6.2.1p4). The functions of the library stand around the text.
-abbrev pub denoted : List ℕ → List (List Declared) → Option Entity
-denoted name [] = option_map Standard (library_named name)
-denoted name (scope ∷ outer) = or_else (declared_in name scope) (denoted name outer)
+abbrev pub denoted_entity : List ℕ → List (List Declared) → Option Entity
+denoted_entity name [] = option_map Standard (library_named name)
+denoted_entity name (scope ∷ outer) = or_else (declared_in name scope) (denoted_entity name outer)
 
 abbrev pub tag_in : List ℕ → List Tagged → Option ℕ
 tag_in tag [] = None
 tag_in tag (d ∷ ds) = if bytes_eq d.tag tag then Some d.number else tag_in tag ds
 
-abbrev pub known : Context → Known
-known c = record { ordinary = λ name. denoted name (c.scope ∷ c.outer); tags = λ tag. tag_in tag c.tags; structs = c.structs }
+abbrev pub known_identifiers : Context → Known
+known_identifiers c = record { ordinary = λ name. denoted_entity name (c.scope ∷ c.outer); tags = λ tag. tag_in tag c.tags; structs = c.structs }
 
 -- behind a declarator (6.2.1p7)
-abbrev pub declare : List ℕ → Entity → Context → Context
-declare name x c = record c { scope = record { name = name; entity = x } ∷ c.scope }
+abbrev pub name_declared : List ℕ → Entity → Context → Context
+name_declared name x c = record c { scope = record { name = name; entity = x } ∷ c.scope }
 
 -- a scope begins
-abbrev pub inner : Context → Context
-inner c = record c { scope = []; outer = c.scope ∷ c.outer }
+abbrev pub inner_context : Context → Context
+inner_context c = record c { scope = []; outer = c.scope ∷ c.outer }
 
 -- so many cells of a global more
-abbrev pub counting : Bool → ℕ → Context → Context
-counting global cells c = if global then record c { cells = c.cells + cells } else c
+abbrev pub global_cells_added : Bool → ℕ → Context → Context
+global_cells_added global cells c = if global then record c { cells = c.cells + cells } else c
 
 abbrev pub HasName : List ℕ → List Declared → Type 0
 HasName name [] = ⊥

@@ -7,7 +7,7 @@ use Rattle.c_types_rules.specs.declared.layout.StructType.{StructType}
 use Rattle.c_types_rules.specs.Words.{TypeTree, Array, cells_of, is_complete, most_cells}
 use Rattle.c_types_faults.specs.Known.{Object}
 use Rattle.c_types_faults.specs.Least.{IsLeast}
-use Rattle.c_types_faults.specs.Context.{Context, IsTaken, counting, declare, known}
+use Rattle.c_types_faults.specs.Context.{Context, IsTaken, global_cells_added, name_declared, known_identifiers}
 use Rattle.c_types_faults.specs.Types.{BaseBreaks, IsBase}
 use Rattle.c_types_faults.specs.Declarators.{DeclaresAs}
 use Rattle.c_types_faults.specs.Initialisers.{Completes, InitialBreaks}
@@ -34,12 +34,13 @@ ElementBreaks structs t = ⊥
 module _ (global : Bool) (base : TypeTree) where
   -- the initialiser stands in the scope of the name, behind its declarator (6.2.1p7)
   abbrev pub Finishes : Context → StartTree → TypeTree → TypeTree → Type 0
-  Finishes c x t u = Completes (known (declare x.declarator.name (Object t) c)) global t x.initial u
+  Finishes c x t u = Completes (known_identifiers (name_declared x.declarator.name (Object t) c)) global t x.initial u
 
   -- A variable keeps the rules, and this is declared behind it: its name is new, and its type, completed by its initialiser, is an object's.
   abbrev pub VariableGives : Context → StartTree → Context → Type 0
   VariableGives c x after = (IsTaken x.declarator.name c → ⊥) × ((t : TypeTree) × ((u : TypeTree) × (DeclaresAs x.declarator base t × Finishes c x t u
-      × IsObject c.structs u × GlobalsHaveRoom global c u × (after ≡ declare x.declarator.name (Object u) (counting global (cells_of c.structs u) c)))))
+      × IsObject c.structs u × GlobalsHaveRoom global c u
+      × (after ≡ name_declared x.declarator.name (Object u) (global_cells_added global (cells_of c.structs u) c)))))
 
   -- the type is no object's, or the globals would have too many cells with it
   abbrev pub SizeBreaks : Context → TypeTree → Type 0
@@ -61,7 +62,7 @@ module _ (global : Bool) (base : TypeTree) where
   -- The declarator breaks a rule, then the initialiser, and then the type that this completed. The first and the last stand where the declarator begins.
   abbrev pub VariableBreaks : Context → StartTree → FaultKind → ℕ → Type 0
   VariableBreaks c x kind at = ((at ≡ x.token) × IsLeast (DeclaratorRule c x) kind)
-      ⊎ ((t : TypeTree) × (DeclaratorFits c x t × (InitialBreaks (known (declare x.declarator.name (Object t) c)) global t x.initial kind at
+      ⊎ ((t : TypeTree) × (DeclaratorFits c x t × (InitialBreaks (known_identifiers (name_declared x.declarator.name (Object t) c)) global t x.initial kind at
       ⊎ ((u : TypeTree) × (Finishes c x t u × ((at ≡ x.token) × (kind ≡ fault.Object) × SizeBreaks c u))))))
 
   abbrev pub VariablesGive : Context → List StartTree → Context → Type 0
@@ -73,8 +74,8 @@ module _ (global : Bool) (base : TypeTree) where
   VariablesBreak c (x ∷ xs) kind at = VariableBreaks c x kind at ⊎ ((next : Context) × (VariableGives c x next × VariablesBreak next xs kind at))
 
 abbrev pub DeclarationGives : Bool → Context → DeclarationTree → Context → Type 0
-DeclarationGives global c d after = (base : TypeTree) × (IsBase (known c) d.base base × VariablesGive global base c d.starts after)
+DeclarationGives global c d after = (base : TypeTree) × (IsBase (known_identifiers c) d.base base × VariablesGive global base c d.starts after)
 
 abbrev pub DeclarationBreaks : Bool → Context → DeclarationTree → FaultKind → ℕ → Type 0
-DeclarationBreaks global c d kind at = BaseBreaks (known c) d.base kind at
-    ⊎ ((base : TypeTree) × (IsBase (known c) d.base base × VariablesBreak global base c d.starts kind at))
+DeclarationBreaks global c d kind at = BaseBreaks (known_identifiers c) d.base kind at
+    ⊎ ((base : TypeTree) × (IsBase (known_identifiers c) d.base base × VariablesBreak global base c d.starts kind at))

@@ -96,12 +96,12 @@ abbrev pub for_start_events : ForStartTree → List Event
 for_start_events (s.Declares declaration) = declaration_events declaration
 for_start_events (s.Computes x) = optional_events x
 
-abbrev pub scoped : List Event → List Event
-scoped events = Opens ∷ events ++ Closes ∷ []
+abbrev pub scope_events : List Event → List Event
+scope_events events = Opens ∷ events ++ Closes ∷ []
 
 abbrev mutual
   pub statement_events : StatementTree → List Event
-  statement_events (s.Block token entries) = scoped (entries_events entries)
+  statement_events (s.Block token entries) = scope_events (entries_events entries)
   statement_events (s.Empty token) = []
   statement_events (s.Expr token x) = expr_events x
   statement_events (s.If token condition first) = expr_events condition ++ statement_events first
@@ -109,7 +109,7 @@ abbrev mutual
   statement_events (s.While token condition body) = expr_events condition ++ statement_events body
   statement_events (s.Do token body condition) = statement_events body ++ expr_events condition
   statement_events (s.For token start condition step body) =
-      scoped (for_start_events start ++ (optional_events condition ++ (optional_events step ++ statement_events body)))
+      scope_events (for_start_events start ++ (optional_events condition ++ (optional_events step ++ statement_events body)))
   statement_events (s.Return token value) = optional_events value
   statement_events (s.Break token) = []
   statement_events (s.Continue token) = []
@@ -131,7 +131,7 @@ abbrev pub item_events : ItemTree → List Event
 item_events (i.Struct token tag members) = Struct ∷ []
 item_events (i.Function token b stars name ps None) = Names name ∷ []
 item_events (i.Function token b stars name ps (Some body)) =
-    Names name ∷ scoped (params_events (listed_params ps) ++ entries_events body) ++ Defines ∷ []
+    Names name ∷ scope_events (params_events (listed_params ps) ++ entries_events body) ++ Defines ∷ []
 item_events (i.Declaration declaration) = declaration_events declaration
 
 abbrev pub items_events : List ItemTree → List Event

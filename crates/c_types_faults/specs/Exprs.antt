@@ -4,7 +4,8 @@ use Rattle.std.specs.Prelude.{◌≡◌, true, List, [], ◌∷◌, Some}
 use Rattle.c_syntax.specs.ExprTree as e
 use Rattle.c_syntax.specs.ExprTree.{ExprTree, ExprList, LinkList, PostfixList}
 use Rattle.c_types_rules.specs.declared.operand.Operand.{Operand}
-use Rattle.c_types_rules.specs.Words.{TypeTree, Void, Int, Unsigned, constant_of, enclosed, null_of, place_of, string_of, value_of, value_type, is_complete}
+use Rattle.c_types_rules.specs.Words.{TypeTree, Void, Int, Unsigned, constant_of, parenthesized_operand, null_of, place_of, string_of, value_of, value_type}
+use Rattle.c_types_rules.specs.Words.{is_complete}
 use Rattle.c_types_expressions.specs.ExprWalk.{binary_of, compound_of, string_cells, with_stars}
 use Rattle.c_types_laws.specs.Operands.{Assigns, Casts, Chooses, Indexes, Joins, Selects, SelectsBehind, Steps}
 use Rattle.c_types_faults.specs.Known.{Known, Object}
@@ -31,7 +32,7 @@ module _ (k : Known) where
     IsOperand (e.Call token name arguments) d = (xs : List Operand) × (AreOperands arguments xs × AsValue (Calls (k.ordinary name) xs) d)
     IsOperand (e.Constant token kind value) d = d ≡ constant_of kind value
     IsOperand (e.Strings token parts) d = d ≡ string_of (string_cells parts)
-    IsOperand (e.Paren token inner) d = (x : Operand) × (IsOperand inner x × (d ≡ enclosed x))
+    IsOperand (e.Paren token inner) d = (x : Operand) × (IsOperand inner x × (d ≡ parenthesized_operand x))
     IsOperand (e.Null token) d = d ≡ null_of
     IsOperand (e.EndOfFile token) d = d ≡ value_of Int
 

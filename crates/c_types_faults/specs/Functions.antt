@@ -14,7 +14,7 @@ use Rattle.c_types_rules.specs.Words.{TypeTree, Pointer, is_scalar, is_struct}
 use Rattle.c_types_expressions.specs.ExprWalk.{with_stars}
 use Rattle.c_types_faults.specs.Known.{Object, Function}
 use Rattle.c_types_faults.specs.Least.{IsLeast}
-use Rattle.c_types_faults.specs.Context.{Context, HasName, IsReserved, declare, declared_in, inner, known}
+use Rattle.c_types_faults.specs.Context.{Context, HasName, IsReserved, name_declared, declared_in, inner_context, known_identifiers}
 use Rattle.c_types_faults.specs.Types.{BaseBreaks, IsBase}
 use Rattle.c_types_faults.specs.Statements.{AreRuledEntries, EntriesBreak}
 
@@ -28,13 +28,13 @@ abbrev pub formal_type : Formal → TypeTree
 formal_type f = f.of
 
 -- a parameter that is declared as an array is a pointer (6.7.5.3p7)
-abbrev pub adjusted : Option Bound → TypeTree → TypeTree
-adjusted None t = t
-adjusted (Some bound) t = Pointer t
+abbrev pub adjusted_type : Option Bound → TypeTree → TypeTree
+adjusted_type None t = t
+adjusted_type (Some bound) t = Pointer t
 
-abbrev pub formal : Option ParamName → TypeTree → Formal
-formal None t = record { name = None; of = t }
-formal (Some n) t = record { name = Some n.name; of = adjusted n.bound t }
+abbrev pub formal_parameter : Option ParamName → TypeTree → Formal
+formal_parameter None t = record { name = None; of = t }
+formal_parameter (Some n) t = record { name = Some n.name; of = adjusted_type n.bound t }
 
 abbrev pub IsFormal : List ℕ → List Formal → Type 0
 IsFormal name [] = ⊥
@@ -54,22 +54,23 @@ HasLength (Some bound) = IsPositiveLength bound.length
 abbrev pub ParamRule : Bool → List Formal → Option ParamName → TypeTree → FaultKind → Type 0
 ParamRule body before None t kind = ((kind ≡ fault.Unknown) × (body ≡ true)) ⊎ ((kind ≡ fault.Object) × (is_scalar t ≡ true → ⊥))
 ParamRule body before (Some n) t kind = ((kind ≡ fault.Redeclared) × (IsReserved n.name ⊎ IsFormal n.name before))
-    ⊎ ((kind ≡ fault.Object) × (((is_scalar (adjusted n.bound t) ≡ true) × HasLength n.bound) → ⊥))
+    ⊎ ((kind ≡ fault.Object) × (((is_scalar (adjusted_type n.bound t) ≡ true) × HasLength n.bound) → ⊥))
 
 -- one that keeps these rules
 abbrev pub IsRuledParam : Bool → List Formal → Option ParamName → TypeTree → Type 0
 IsRuledParam body before None t = (body ≡ false) × (is_scalar t ≡ true)
-IsRuledParam body before (Some n) t = (IsReserved n.name ⊎ IsFormal n.name before → ⊥) × (is_scalar (adjusted n.bound t) ≡ true) × HasLength n.bound
+IsRuledParam body before (Some n) t = (IsReserved n.name ⊎ IsFormal n.name before → ⊥) × (is_scalar (adjusted_type n.bound t) ≡ true) × HasLength n.bound
 
 -- behind the parameters before it, in a context, of a function with a body or without one
 module _ (c : Context) (body : Bool) where
   abbrev pub ParamGives : List Formal → Param → Formal → Type 0
-  ParamGives before p f = (base : TypeTree) × (IsBase (known c) p.base base × IsRuledParam body before p.name (with_stars p.stars base)
-      × (f ≡ formal p.name (with_stars p.stars base)))
+  ParamGives before p f = (base : TypeTree) × (IsBase (known_identifiers c) p.base base × IsRuledParam body before p.name (with_stars p.stars base)
+      × (f ≡ formal_parameter p.name (with_stars p.stars base)))
 
   abbrev pub ParamBreaks : List Formal → Param → FaultKind → ℕ → Type 0
-  ParamBreaks before p kind at = BaseBreaks (known c) p.base kind at
-      ⊎ ((base : TypeTree) × (IsBase (known c) p.base base × ((at ≡ p.token) × IsLeast (ParamRule body before p.name (with_stars p.stars base)) kind)))
+  ParamBreaks before p kind at = BaseBreaks (known_identifiers c) p.base kind at
+      ⊎ ((base : TypeTree) × (IsBase (known_identifiers c) p.base base
+      × ((at ≡ p.token) × IsLeast (ParamRule body before p.name (with_stars p.stars base)) kind)))
 
   abbrev pub ParamsGive : List Formal → List Param → List Formal → Type 0
   ParamsGive before [] all = all ≡ before
@@ -92,11 +93,11 @@ IsKnownAs name f c = declared_in name c.scope ≡ Some (Function f)
 
 -- behind the `)` of its parameters (6.2.1p7): it may be declared several times with one type (6.7p3)
 abbrev pub Names : List ℕ → FunctionType → Context → Context → Type 0
-Names name f c after = (IsKnownAs name f c × (after ≡ c)) ⊎ ((IsKnownAs name f c → ⊥) × (after ≡ declare name (Function f) c))
+Names name f c after = (IsKnownAs name f c × (after ≡ c)) ⊎ ((IsKnownAs name f c → ⊥) × (after ≡ name_declared name (Function f) c))
 
 abbrev pub with_formal : Option (List ℕ) → TypeTree → Context → Context
 with_formal None t c = c
-with_formal (Some name) t c = declare name (Object t) c
+with_formal (Some name) t c = name_declared name (Object t) c
 
 -- the parameters are the first declarations in the scope of the body (6.2.1p4)
 abbrev pub with_formals : List Formal → Context → Context
@@ -123,15 +124,15 @@ FunctionFits name f c = (IsReserved name → ⊥) × (HasName name c.scope → I
 abbrev pub FunctionGives : List ℕ → FunctionType → List Formal → Option EntryList → Context → Context → Type 0
 FunctionGives name f formals None c after = FunctionFits name f c × Names name f c after
 FunctionGives name f formals (Some body) c after = FunctionFits name f c × (IsKnownAs name f c → is_listed name c.defined ≡ false)
-    × ((next : Context) × (Names name f c next × AreRuledEntries f.gives (with_formals formals (inner next)) false body
+    × ((next : Context) × (Names name f c next × AreRuledEntries f.gives (with_formals formals (inner_context next)) false body
     × (after ≡ record next { defined = name ∷ next.defined })))
 
 -- A part of the body breaks a rule; or, where none does, the function, at its first token.
 abbrev pub FunctionBreaks : ℕ → List ℕ → FunctionType → List Formal → Option EntryList → Context → FaultKind → ℕ → Type 0
 FunctionBreaks token name f formals None c kind at = (at ≡ token) × IsLeast (FunctionRule (Clashes name f c) f) kind
 FunctionBreaks token name f formals (Some body) c kind at = (next : Context) × (Names name f c next
-    × (EntriesBreak f.gives (with_formals formals (inner next)) false body kind at
-    ⊎ (AreRuledEntries f.gives (with_formals formals (inner next)) false body
+    × (EntriesBreak f.gives (with_formals formals (inner_context next)) false body kind at
+    ⊎ (AreRuledEntries f.gives (with_formals formals (inner_context next)) false body
     × ((at ≡ token) × IsLeast (FunctionRule (Clashes name f c ⊎ IsDefinedBefore name f c) f) kind))))
 
 -- the type of a function with this result and these parameters
@@ -140,5 +141,5 @@ prototype gives formals = record { gives = gives; params = map formal_type forma
 
 -- from its base on
 abbrev pub PrototypeGives : Base → ℕ → Bool → List Param → Context → FunctionType → List Formal → Type 0
-PrototypeGives b stars body ps c f formals = (base : TypeTree) × (IsBase (known c) b base × ParamsGive c body [] ps formals
+PrototypeGives b stars body ps c f formals = (base : TypeTree) × (IsBase (known_identifiers c) b base × ParamsGive c body [] ps formals
     × (f ≡ prototype (with_stars stars base) formals))

@@ -7,7 +7,7 @@ use Rattle.c_types_rules.specs.declared.function.FunctionType.{FunctionType}
 use Rattle.c_types_rules.specs.TypeTree.{TypeTree}
 use Rattle.c_types_expressions.specs.ExprWalk.{with_stars}
 use Rattle.c_types_walk.specs.ItemWalk.{listed_params}
-use Rattle.c_types_faults.specs.Context.{Context, known}
+use Rattle.c_types_faults.specs.Context.{Context, known_identifiers}
 use Rattle.c_types_faults.specs.Types.{BaseBreaks, IsBase}
 use Rattle.c_types_faults.specs.Declarations.{DeclarationBreaks, DeclarationGives}
 use Rattle.c_types_faults.specs.Structs.{StructBreaks, StructGives}
@@ -21,7 +21,8 @@ ItemGives c (i.Declaration declaration) after = DeclarationGives true c declarat
 
 abbrev pub ItemBreaks : Context → ItemTree → FaultKind → ℕ → Type 0
 ItemBreaks c (i.Struct token tag members) kind at = StructBreaks c token tag members kind at
-ItemBreaks c (i.Function token b stars name ps body) kind at = BaseBreaks (known c) b kind at ⊎ ((base : TypeTree) × (IsBase (known c) b base
+ItemBreaks c (i.Function token b stars name ps body) kind at =
+    BaseBreaks (known_identifiers c) b kind at ⊎ ((base : TypeTree) × (IsBase (known_identifiers c) b base
     × (ParamsBreak c (is_some body) [] (listed_params ps) kind at ⊎ ((formals : List Formal) × (ParamsGive c (is_some body) [] (listed_params ps) formals
     × FunctionBreaks token name (prototype (with_stars stars base) formals) formals body c kind at)))))
 ItemBreaks c (i.Declaration declaration) kind at = DeclarationBreaks true c declaration kind at

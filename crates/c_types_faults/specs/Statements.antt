@@ -9,7 +9,7 @@ use Rattle.c_types_rules.specs.declared.operand.Operand.{Operand}
 use Rattle.c_types_rules.specs.Words.{TypeTree, is_struct, is_void}
 use Rattle.c_types_laws.specs.Operands.{Accepts, IsScalar}
 use Rattle.c_types_faults.specs.Known.{Known}
-use Rattle.c_types_faults.specs.Context.{Context, inner, known}
+use Rattle.c_types_faults.specs.Context.{Context, inner_context, known_identifiers}
 use Rattle.c_types_faults.specs.Exprs.{IsOperand}
 use Rattle.c_types_faults.specs.ExprBreaks.{Breaks}
 use Rattle.c_types_faults.specs.Wholes.{IsWhole, WholeBreaks}
@@ -48,24 +48,24 @@ IfPart P (Some x) = P x
 -- The first part of a `for` keeps the rules, and this is declared behind it.
 abbrev pub StartGives : Context → ForStartTree → Context → Type 0
 StartGives c (s.Declares d) after = DeclarationGives false c d after
-StartGives c (s.Computes x) after = IfPart (IsGivenUp (known c)) x × (after ≡ c)
+StartGives c (s.Computes x) after = IfPart (IsGivenUp (known_identifiers c)) x × (after ≡ c)
 
 -- No part of the first part breaks a rule, and this is declared behind it. That its value is given up is looked at last.
 abbrev pub StartLeaves : Context → ForStartTree → Context → Type 0
 StartLeaves c (s.Declares d) after = DeclarationGives false c d after
-StartLeaves c (s.Computes x) after = IfPart (IsSomeOperand (known c)) x × (after ≡ c)
+StartLeaves c (s.Computes x) after = IfPart (IsSomeOperand (known_identifiers c)) x × (after ≡ c)
 
 abbrev pub StartBreaks : Context → ForStartTree → FaultKind → ℕ → Type 0
 StartBreaks c (s.Declares d) kind at = DeclarationBreaks false c d kind at
-StartBreaks c (s.Computes x) kind at = OfPart (λ y. Breaks (known c) y kind at) x
+StartBreaks c (s.Computes x) kind at = OfPart (λ y. Breaks (known_identifiers c) y kind at) x
 
-abbrev pub computed : ForStartTree → Option ExprTree
-computed (s.Declares d) = None
-computed (s.Computes x) = x
+abbrev pub for_start_expression : ForStartTree → Option ExprTree
+for_start_expression (s.Declares d) = None
+for_start_expression (s.Computes x) = x
 
 -- the parts of a `for`, at its own token
 abbrev pub ForBreaks : Known → Known → ForStartTree → Option ExprTree → Option ExprTree → FaultKind → Type 0
-ForBreaks before k start condition step kind = OfPart (λ x. GivesUpStruct before x kind) (computed start)
+ForBreaks before k start condition step kind = OfPart (λ x. GivesUpStruct before x kind) (for_start_expression start)
     ⊎ (OfPart (λ x. NoCondition k x kind) condition ⊎ OfPart (λ x. GivesUpStruct k x kind) step)
 
 -- `return` (6.8.6.4): a value where the function gives none, one that can't be assigned to what the function gives, or none where the function gives one
@@ -87,17 +87,17 @@ JumpBreaks looping kind = (kind ≡ fault.Jump) × (looping ≡ false)
 module _ (gives : TypeTree) where
   abbrev mutual
     pub IsRuledStatement : Context → Bool → StatementTree → Type 0
-    IsRuledStatement c looping (s.Block token entries) = AreRuledEntries (inner c) looping entries
+    IsRuledStatement c looping (s.Block token entries) = AreRuledEntries (inner_context c) looping entries
     IsRuledStatement c looping (s.Empty token) = Unit {0}
-    IsRuledStatement c looping (s.Expr token x) = (a : Operand) × (IsWhole (known c) x a × (is_struct a.ctype ≡ false))
-    IsRuledStatement c looping (s.If token condition first) = IsCondition (known c) condition × IsRuledStatement c looping first
+    IsRuledStatement c looping (s.Expr token x) = (a : Operand) × (IsWhole (known_identifiers c) x a × (is_struct a.ctype ≡ false))
+    IsRuledStatement c looping (s.If token condition first) = IsCondition (known_identifiers c) condition × IsRuledStatement c looping first
     IsRuledStatement c looping (s.IfElse token condition first second) =
-        IsCondition (known c) condition × IsRuledStatement c looping first × IsRuledStatement c looping second
-    IsRuledStatement c looping (s.While token condition body) = IsCondition (known c) condition × IsRuledStatement c true body
-    IsRuledStatement c looping (s.Do token body condition) = IsRuledStatement c true body × IsCondition (known c) condition
-    IsRuledStatement c looping (s.For token start condition step body) = (d : Context) × (StartGives (inner c) start d
-        × IfPart (IsCondition (known d)) condition × IfPart (IsGivenUp (known d)) step × IsRuledStatement d true body)
-    IsRuledStatement c looping (s.Return token value) = Returns (known c) gives value
+        IsCondition (known_identifiers c) condition × IsRuledStatement c looping first × IsRuledStatement c looping second
+    IsRuledStatement c looping (s.While token condition body) = IsCondition (known_identifiers c) condition × IsRuledStatement c true body
+    IsRuledStatement c looping (s.Do token body condition) = IsRuledStatement c true body × IsCondition (known_identifiers c) condition
+    IsRuledStatement c looping (s.For token start condition step body) = (d : Context) × (StartGives (inner_context c) start d
+        × IfPart (IsCondition (known_identifiers d)) condition × IfPart (IsGivenUp (known_identifiers d)) step × IsRuledStatement d true body)
+    IsRuledStatement c looping (s.Return token value) = Returns (known_identifiers c) gives value
     IsRuledStatement c looping (s.Break token) = looping ≡ true
     IsRuledStatement c looping (s.Continue token) = looping ≡ true
 
@@ -109,31 +109,32 @@ module _ (gives : TypeTree) where
 
   abbrev mutual
     pub StatementBreaks : Context → Bool → StatementTree → FaultKind → ℕ → Type 0
-    StatementBreaks c looping (s.Block token entries) kind at = EntriesBreak (inner c) looping entries kind at
+    StatementBreaks c looping (s.Block token entries) kind at = EntriesBreak (inner_context c) looping entries kind at
     StatementBreaks c looping (s.Empty token) kind at = ⊥
-    StatementBreaks c looping (s.Expr token x) kind at = WholeBreaks (known c) x kind at
-        ⊎ ((a : Operand) × (IsWhole (known c) x a × ((at ≡ token) × (kind ≡ fault.Operands) × (is_struct a.ctype ≡ true))))
-    StatementBreaks c looping (s.If token condition first) kind at = Breaks (known c) condition kind at
-        ⊎ (IsSomeOperand (known c) condition × (StatementBreaks c looping first kind at
-        ⊎ (IsRuledStatement c looping first × ((at ≡ token) × NoCondition (known c) condition kind))))
-    StatementBreaks c looping (s.IfElse token condition first second) kind at = Breaks (known c) condition kind at
-        ⊎ (IsSomeOperand (known c) condition × (StatementBreaks c looping first kind at
+    StatementBreaks c looping (s.Expr token x) kind at = WholeBreaks (known_identifiers c) x kind at
+        ⊎ ((a : Operand) × (IsWhole (known_identifiers c) x a × ((at ≡ token) × (kind ≡ fault.Operands) × (is_struct a.ctype ≡ true))))
+    StatementBreaks c looping (s.If token condition first) kind at = Breaks (known_identifiers c) condition kind at
+        ⊎ (IsSomeOperand (known_identifiers c) condition × (StatementBreaks c looping first kind at
+        ⊎ (IsRuledStatement c looping first × ((at ≡ token) × NoCondition (known_identifiers c) condition kind))))
+    StatementBreaks c looping (s.IfElse token condition first second) kind at = Breaks (known_identifiers c) condition kind at
+        ⊎ (IsSomeOperand (known_identifiers c) condition × (StatementBreaks c looping first kind at
         ⊎ (IsRuledStatement c looping first × (StatementBreaks c looping second kind at
-        ⊎ (IsRuledStatement c looping second × ((at ≡ token) × NoCondition (known c) condition kind))))))
-    StatementBreaks c looping (s.While token condition body) kind at = Breaks (known c) condition kind at
-        ⊎ (IsSomeOperand (known c) condition × (StatementBreaks c true body kind at
-        ⊎ (IsRuledStatement c true body × ((at ≡ token) × NoCondition (known c) condition kind))))
+        ⊎ (IsRuledStatement c looping second × ((at ≡ token) × NoCondition (known_identifiers c) condition kind))))))
+    StatementBreaks c looping (s.While token condition body) kind at = Breaks (known_identifiers c) condition kind at
+        ⊎ (IsSomeOperand (known_identifiers c) condition × (StatementBreaks c true body kind at
+        ⊎ (IsRuledStatement c true body × ((at ≡ token) × NoCondition (known_identifiers c) condition kind))))
     StatementBreaks c looping (s.Do token body condition) kind at = StatementBreaks c true body kind at
-        ⊎ (IsRuledStatement c true body × (Breaks (known c) condition kind at
-        ⊎ (IsSomeOperand (known c) condition × ((at ≡ token) × NoCondition (known c) condition kind))))
+        ⊎ (IsRuledStatement c true body × (Breaks (known_identifiers c) condition kind at
+        ⊎ (IsSomeOperand (known_identifiers c) condition × ((at ≡ token) × NoCondition (known_identifiers c) condition kind))))
     -- a `for` is a scope (6.8.5p5)
-    StatementBreaks c looping (s.For token start condition step body) kind at = StartBreaks (inner c) start kind at
-        ⊎ ((d : Context) × (StartLeaves (inner c) start d × (OfPart (λ x. Breaks (known d) x kind at) condition
-        ⊎ (IfPart (IsSomeOperand (known d)) condition × (OfPart (λ x. Breaks (known d) x kind at) step
-        ⊎ (IfPart (IsSomeOperand (known d)) step × (StatementBreaks d true body kind at
-        ⊎ (IsRuledStatement d true body × ((at ≡ token) × ForBreaks (known (inner c)) (known d) start condition step kind)))))))))
-    StatementBreaks c looping (s.Return token value) kind at = OfPart (λ x. Breaks (known c) x kind at) value
-        ⊎ (IfPart (IsSomeOperand (known c)) value × ((at ≡ token) × ReturnBreaks (known c) gives value kind))
+    StatementBreaks c looping (s.For token start condition step body) kind at = StartBreaks (inner_context c) start kind at
+        ⊎ ((d : Context) × (StartLeaves (inner_context c) start d × (OfPart (λ x. Breaks (known_identifiers d) x kind at) condition
+        ⊎ (IfPart (IsSomeOperand (known_identifiers d)) condition × (OfPart (λ x. Breaks (known_identifiers d) x kind at) step
+        ⊎ (IfPart (IsSomeOperand (known_identifiers d)) step × (StatementBreaks d true body kind at
+        ⊎ (IsRuledStatement d true body × ((at ≡ token)
+        × ForBreaks (known_identifiers (inner_context c)) (known_identifiers d) start condition step kind)))))))))
+    StatementBreaks c looping (s.Return token value) kind at = OfPart (λ x. Breaks (known_identifiers c) x kind at) value
+        ⊎ (IfPart (IsSomeOperand (known_identifiers c)) value × ((at ≡ token) × ReturnBreaks (known_identifiers c) gives value kind))
     StatementBreaks c looping (s.Break token) kind at = (at ≡ token) × JumpBreaks looping kind
     StatementBreaks c looping (s.Continue token) kind at = (at ≡ token) × JumpBreaks looping kind
 

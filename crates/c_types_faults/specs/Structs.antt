@@ -8,14 +8,14 @@ use Rattle.c_types_rules.specs.declared.layout.Member.{Member}
 use Rattle.c_types_rules.specs.declared.layout.StructType.{StructType}
 use Rattle.c_types_rules.specs.Words.{TypeTree, empty_struct, most_cells, with_member}
 use Rattle.c_types_faults.specs.Least.{IsLeast}
-use Rattle.c_types_faults.specs.Context.{Context, Tagged, known}
+use Rattle.c_types_faults.specs.Context.{Context, Tagged, known_identifiers}
 use Rattle.c_types_faults.specs.Types.{BaseBreaks, IsBase}
 use Rattle.c_types_faults.specs.Declarators.{DeclaresAs}
 use Rattle.c_types_faults.specs.Declarations.{IsObject}
 
 -- A tag is in scope from its own token on (6.2.1p7); its struct isn't complete before the end of the definition (6.7.2.3p4).
-abbrev pub tagging : List ℕ → Context → Context
-tagging tag c = record c { tags = record { tag = tag; number = length c.structs } ∷ c.tags }
+abbrev pub tag_declared : List ℕ → Context → Context
+tag_declared tag c = record c { tags = record { tag = tag; number = length c.structs } ∷ c.tags }
 
 abbrev pub HasTag : List ℕ → List Tagged → Type 0
 HasTag tag [] = ⊥
@@ -46,21 +46,21 @@ module _ (c : Context) where
 
   abbrev pub MembersGive : List Members → StructType → StructType → Type 0
   MembersGive [] s after = after ≡ s
-  MembersGive (m ∷ ms) s after = (base : TypeTree) × ((next : StructType) × (IsBase (known c) m.base base × LineGives base m.declarators s next
+  MembersGive (m ∷ ms) s after = (base : TypeTree) × ((next : StructType) × (IsBase (known_identifiers c) m.base base × LineGives base m.declarators s next
       × MembersGive ms next after))
 
   abbrev pub MembersBreak : List Members → StructType → FaultKind → ℕ → Type 0
   MembersBreak [] s kind at = ⊥
-  MembersBreak (m ∷ ms) s kind at = BaseBreaks (known c) m.base kind at ⊎ ((base : TypeTree) × (IsBase (known c) m.base base
+  MembersBreak (m ∷ ms) s kind at = BaseBreaks (known_identifiers c) m.base kind at ⊎ ((base : TypeTree) × (IsBase (known_identifiers c) m.base base
       × (LineBreaks base m.declarators s kind at ⊎ ((next : StructType) × (LineGives base m.declarators s next × MembersBreak ms next kind at)))))
 
 -- A struct keeps the rules, and this is known behind it: its tag is new, and it has no more cells than an object may have.
 abbrev pub StructGives : Context → List ℕ → List Members → Context → Type 0
-StructGives c tag members after = (s : StructType) × (MembersGive (tagging tag c) members empty_struct s × (HasTag tag c.tags → ⊥)
-    × (s.cells ≤ most_cells) × (after ≡ record (tagging tag c) { structs = c.structs ++ s ∷ [] }))
+StructGives c tag members after = (s : StructType) × (MembersGive (tag_declared tag c) members empty_struct s × (HasTag tag c.tags → ⊥)
+    × (s.cells ≤ most_cells) × (after ≡ record (tag_declared tag c) { structs = c.structs ++ s ∷ [] }))
 
 -- A member breaks a rule; or, where none does, the tag is one already (6.7.2.3p1) or the struct has too many cells, at its first token.
 abbrev pub StructBreaks : Context → ℕ → List ℕ → List Members → FaultKind → ℕ → Type 0
-StructBreaks c token tag members kind at = MembersBreak (tagging tag c) members empty_struct kind at
-    ⊎ ((s : StructType) × (MembersGive (tagging tag c) members empty_struct s × ((at ≡ token)
+StructBreaks c token tag members kind at = MembersBreak (tag_declared tag c) members empty_struct kind at
+    ⊎ ((s : StructType) × (MembersGive (tag_declared tag c) members empty_struct s × ((at ≡ token)
     × IsLeast (λ j. ((j ≡ fault.Redeclared) × HasTag tag c.tags) ⊎ ((j ≡ fault.Object) × (s.cells ≤ most_cells → ⊥))) kind)))

@@ -7,7 +7,7 @@ use Rattle.c_types_rules.specs.declared.fault.FaultKind.TheVariants as fault
 use Rattle.c_types_rules.specs.declared.library.Library.TheVariants as library
 use Rattle.c_types_rules.specs.declared.operand.Operand.{Operand}
 use Rattle.c_types_rules.specs.Words.{Int, value_of, fits_format}
-use Rattle.c_types_expressions.specs.ExprWalk.{flat}
+use Rattle.c_types_expressions.specs.ExprWalk.{concatenated_strings}
 use Rattle.c_types_faults.specs.Known.{Entity, Standard, Known}
 use Rattle.c_types_faults.specs.Exprs.{AreOperands, IsOperand}
 use Rattle.c_types_faults.specs.ExprRules.{CallBreaks}
@@ -15,7 +15,7 @@ use Rattle.c_types_faults.specs.ExprBreaks.{Breaks, ListBreaks}
 
 -- a string, and behind it one argument for each of its conversions, of a type that it takes
 abbrev pub IsFormatted : ExprList → List Operand → Type 0
-IsFormatted (e.more_exprs (e.Strings token parts) rest) (x ∷ xs) = fits_format (flat parts) xs ≡ true
+IsFormatted (e.more_exprs (e.Strings token parts) rest) (x ∷ xs) = fits_format (concatenated_strings parts) xs ≡ true
 IsFormatted arguments xs = ⊥
 
 abbrev pub WholeCallBreaks : Option Entity → ExprList → List Operand → FaultKind → Type 0

@@ -1,5 +1,5 @@
 -- A variable that is declared, and a scope that ends.
-use Rattle.std.proofs.Common.{◌⊎◌, inl, inr, ⊎_elim, ◌≡◌, ℕ, zero, suc, ◌≤◌, ◌<◌, refl, ap, subst, sym, ◌∙◌, arith, List, [], ◌∷◌, ◌++◌, Some, None, Bool}
+use Rattle.std.proofs.Common.{◌⊎◌, inl, inr, ⊎_elim, ◌≡◌, ℕ, ◌≤◌, ◌<◌, refl, ap, subst, sym, ◌∙◌, arith, List, [], ◌∷◌, ◌++◌, Some, None, Bool}
 use Rattle.std.proofs.Common.{true, false, length, length-append}
 use Rattle.std.specs.Prelude.{slice_get, MatchOption}
 use Rattle.std.proofs.lemmas.Bool.{cases_lt}
@@ -9,13 +9,12 @@ use Rattle.c_types.proofs.Noted.{length_replaced}
 use Rattle.base_lists.proofs.Lists.{get_before, get_either, get_last, Stays}
 use Rattle.c_types_rules.specs.TypeTree.{TypeTree}
 use Rattle.c_types_expressions.specs.declared.names.Meaning.TheVariants as meaning
-use Rattle.c_types_expressions.specs.declared.names.ScopeEntry.TheVariants.{Opens}
 use Rattle.c_types_expressions.specs.declared.names.ScopeEntry.TheVariants as entry
 use Rattle.c_types_expressions.specs.declared.walk.Variable.{Variable}
 use Rattle.c_types_expressions.specs.declared.walk.VariableEntry.{VariableEntry}
 use Rattle.c_types_expressions.specs.declared.walk.Walk.{Walk}
-use Rattle.c_types.specs.Answers.{noted}
-use Rattle.c_types_expressions.specs.Words.{closed, ended_scopes, numbered, opened, replaced, with_variable}
+use Rattle.c_types.specs.Answers.{note_at}
+use Rattle.c_types_expressions.specs.Words.{names_after_scope, ended_scopes, next_variable, scope_opened, item_replaced, with_variable}
 use Rattle.c_types_laws.specs.Naming.{BeginsAt, DeclaresVariable, IsNamed}
 use Rattle.c_types_laws.proofs.Scenes.{EndsOn, IsBefore, Scene, Sound, closes_ended, ended_long, ends_ended, ends_here, opens_ended}
 use Rattle.c_types_laws.proofs.Scenes.{scene, some_none, stack_ended, stack_same}
@@ -70,7 +69,7 @@ more_later at token l name number s low long =
 
 -- what is known where the latest scope has ended
 abbrev pub left : Walk → Walk
-left w = record w { names = closed w.names; ends = ended_scopes w.latest w.names w.ends }
+left w = record w { names = names_after_scope w.names; ends = ended_scopes w.latest w.names w.ends }
 
 left_later : (at : ℕ) (w : Walk) → Sound at w.latest (scene w) → (lo : ℕ) → Later lo (scene w) w.latest (scene (left w)) w.latest
 left_later at w s lo = record {
@@ -92,7 +91,7 @@ left_sound at w s = record {
 }
 
 -- before the parts of a scope
-pub ready_opened : {lo hi : ℕ} {w : Walk} → Ready lo hi w → Ready lo hi (opened w)
+pub ready_opened : {lo hi : ℕ} {w : Walk} → Ready lo hi w → Ready lo hi (scope_opened w)
 ready_opened r = record {
   types = r.types;
   variables_at = r.variables_at;
@@ -103,7 +102,7 @@ ready_opened r = record {
 module _ {z : Walk} where
   -- a variable's declaration
   declared_by : (lo hi token : ℕ) (name : List ℕ) (number : Variable) (w v : Walk) → Ready lo hi w → lo ≤ token → token < hi
-      → v.types ≡ w.types → v.functions_at ≡ w.functions_at → v.variables_at ≡ replaced w.variables_at token (Some (length w.variables))
+      → v.types ≡ w.types → v.functions_at ≡ w.functions_at → v.variables_at ≡ item_replaced w.variables_at token (Some (length w.variables))
       → scene v ≡ more token name number (scene w) → v.latest ≡ w.latest → Part z lo hi w v (DeclaresVariable z token name)
   declared_by lo hi token name number w v r low high t f n s l =
       let entry : VariableEntry = record { name = name; variable = number; from = token } in
@@ -113,7 +112,7 @@ module _ {z : Walk} where
         functions_at = ap (λ xs. length xs) f;
         below = λ q h. same q (λ e. omega (arith, e, low, h));
         above = λ q h. same q (λ e. omega (arith, e, high, h));
-        scope = ap (λ (x : Scene). closed x.names) s;
+        scope = ap (λ (x : Scene). names_after_scope x.names) s;
         flat = λ h. subst (λ (x : Scene). IsFlat x.names) (sym s) h;
         later = subst (λ x. Later lo (scene w) w.latest x v.latest) (sym s)
             (subst (λ m. Later lo (scene w) w.latest (more token name number (scene w)) m) (sym l)
@@ -121,7 +120,7 @@ module _ {z : Walk} where
         sound = subst (λ x. Sound hi v.latest x) (sym s) (subst (λ m. Sound hi m (more token name number (scene w))) (sym l)
             (more_sound hi token w.latest name number (scene w) high (sound_later (omega (arith, low, high)) r.sound)));
         holds = λ g. subst (λ o. MatchOption o ⊥ (λ place. BeginsAt token name (slice_get z.variables place)))
-            (sym ((g.notes token low high).variables ∙ ap (λ xs. noted xs token) n
+            (sym ((g.notes token low high).variables ∙ ap (λ xs. note_at xs token) n
             ∙ noted_same w.variables_at token (length w.variables) (omega (arith, high, r.variables_at))))
             (subst (BeginsAt token name) (sym
             (g.later.variables (length w.variables) entry (ap (λ (x : Scene). slice_get x.variables (length w.variables)) s ∙ get_last w.variables entry)))
@@ -130,27 +129,27 @@ module _ {z : Walk} where
     where
       same : (q : ℕ) → (token ≡ q → ⊥) → Same w v q
       same q h = record {
-        types = ap (λ xs. noted xs q) t;
-        variables = ap (λ xs. noted xs q) n ∙ noted_other w.variables_at token q (Some (length w.variables)) h;
-        functions = ap (λ xs. noted xs q) f;
+        types = ap (λ xs. note_at xs q) t;
+        variables = ap (λ xs. note_at xs q) n ∙ noted_other w.variables_at token q (Some (length w.variables)) h;
+        functions = ap (λ xs. note_at xs q) f;
       }
 
   pub declared : (lo hi : ℕ) (global : Bool) (token : ℕ) (name : List ℕ) (t : TypeTree) (w : Walk) → Ready lo hi w → lo ≤ token → token < hi
       → Part z lo hi w (with_variable global token name t w) (DeclaresVariable z token name)
   declared lo hi true token name t w r low high =
-      declared_by lo hi token name (numbered true w) w (with_variable true token name t w) r low high refl refl refl refl refl
+      declared_by lo hi token name (next_variable true w) w (with_variable true token name t w) r low high refl refl refl refl refl
   declared lo hi false token name t w r low high =
-      declared_by lo hi token name (numbered false w) w (with_variable false token name t w) r low high refl refl refl refl refl
+      declared_by lo hi token name (next_variable false w) w (with_variable false token name t w) r low high refl refl refl refl refl
 
   -- the parts of a scope, which ends behind them
-  pub enclosed : {lo hi : ℕ} {w u : Walk} {P : Type 0} → Part z lo hi (opened w) u P → Part z lo hi w (left u) P
+  pub enclosed : {lo hi : ℕ} {w u : Walk} {P : Type 0} → Part z lo hi (scope_opened w) u P → Part z lo hi w (left u) P
   enclosed {lo = lo} {hi = hi} {w = w} {u = u} a = record {
     types = a.types;
     variables_at = a.variables_at;
     functions_at = a.functions_at;
     below = λ token h. same (a.below token h);
     above = λ token h. same (a.above token h);
-    scope = ap closed a.scope;
+    scope = ap names_after_scope a.scope;
     flat = λ h. subst IsFlat (sym a.scope) h;
     later = later_then (opens_later a.later) (left_later hi u a.sound lo) (omega arith);
     sound = left_sound hi u a.sound;
@@ -160,8 +159,8 @@ module _ {z : Walk} where
     });
   }
     where
-      same : {token : ℕ} → Same (opened w) u token → Same w (left u) token
+      same : {token : ℕ} → Same (scope_opened w) u token → Same w (left u) token
       same s = record { types = s.types; variables = s.variables; functions = s.functions }
 
-      opens_later : Later lo (scene (opened w)) w.latest (scene u) u.latest → Later lo (scene w) w.latest (scene u) u.latest
+      opens_later : Later lo (scene (scope_opened w)) w.latest (scene u) u.latest → Later lo (scene w) w.latest (scene u) u.latest
       opens_later s = record { variables = s.variables; behind = s.behind; ends = s.ends; latest = s.latest; structs = s.structs; functions = s.functions }

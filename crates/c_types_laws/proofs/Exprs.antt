@@ -1,5 +1,5 @@
 -- An expression that the walk accepts is as C99 asks.
-use Rattle.std.proofs.Common.{append_assoc, inl, inr, ◌≡◌, ℕ, ◌≤◌, ◌<◌, refl, ap, subst, sym, ◌∙◌, arith, List, [], ◌∷◌, ◌++◌, Some, None, ◌+◌, Ok}
+use Rattle.std.proofs.Common.{append_assoc, inl, inr, ◌≡◌, ℕ, ◌≤◌, ◌<◌, refl, ap, subst, sym, ◌∙◌, arith, List, [], ◌∷◌, ◌++◌, Some, ◌+◌, Ok}
 use Rattle.std.proofs.Common.{Err, Bool, true, false, length, length-append}
 use Rattle.std.specs.Prelude.{Option, if◌then◌else◌}
 use Rattle.std.proofs.lemmas.List.{append-nil}
@@ -8,20 +8,20 @@ use Rattle.base_lists.proofs.Lists.{Stays}
 use Rattle.c_syntax.specs.declared.token.Sign.TheVariants as sign
 use Rattle.c_syntax.specs.ExprTree as e
 use Rattle.c_syntax.specs.Words.{ExprTree, ExprList, LinkList, PostfixList, ExprAt, ExprsAt, LinksAt, PostfixAt, ShapedExpr, ShapedExprs, ShapedLinks}
-use Rattle.c_syntax.specs.Words.{ShapedPostfix, a_sign, expr_kinds, exprs_kinds, link_kinds, more_exprs_kinds, parenthesized, postfix_kinds, type_kinds}
+use Rattle.c_syntax.specs.Words.{ShapedPostfix, a_sign, expr_kinds, exprs_kinds, link_kinds, more_exprs_kinds, parenthesized_kinds, postfix_kinds, type_kinds}
 use Rattle.c_types_rules.specs.declared.fault.FaultKind.TheVariants as fault
 use Rattle.c_types_rules.specs.declared.library.Library.TheVariants as library
 use Rattle.c_meaning.specs.Trees.{token_of}
 use Rattle.c_types_rules.specs.declared.operand.Operand.{Operand}
 use Rattle.c_types_rules.specs.TypeTree as t
-use Rattle.c_types_rules.specs.Words.{TypeTree, constant_of, enclosed, is_struct, null_of, place_of, string_of, value_of, fits_format, library_named, cast_to}
-use Rattle.c_types_rules.specs.Words.{measured, stepped, chosen, indexed, member_behind, member_of, sequenced}
+use Rattle.c_types_rules.specs.Words.{TypeTree, constant_of, parenthesized_operand, null_of, string_of, value_of, fits_format, library_named, cast_to}
+use Rattle.c_types_rules.specs.Words.{typed_sizeof, typed_increment, typed_conditional, typed_subscript, member_behind, member_of, typed_comma}
 use Rattle.c_types_rules.specs.Conversions as rule
 use Rattle.c_types_expressions.specs.declared.names.Meaning.{Meaning}
 use Rattle.c_types_expressions.specs.declared.names.Meaning.TheVariants as meaning
 use Rattle.c_types_expressions.specs.declared.walk.Walk.{Walk}
-use Rattle.c_types.specs.Answers.{noted}
-use Rattle.c_types_expressions.specs.Words.{assigning, binary_of, called_name, chained, compound_of, flat, format_of, looked, prefixed, string_cells, walk_expr}
+use Rattle.c_types.specs.Answers.{note_at}
+use Rattle.c_types_expressions.specs.Words.{typed_assignment, binary_of, called_name, typed_chain_operation, compound_of, concatenated_strings, format_of, operand_noted, typed_prefix_operation, string_cells, walk_expr}
 use Rattle.c_types_expressions.specs.Words.{walk_exprs, walk_links, walk_postfix, walk_whole, whole_call, with_stars, meaning_of}
 use Rattle.c_types_laws.specs.Fits.{FormatFits, Operands}
 use Rattle.c_types_laws.specs.Fits.{WholeFits, operand}
@@ -44,12 +44,12 @@ module _ (z : Walk) where
         let long : length (expr_kinds (e.Comma token (e.more_exprs x (e.more_exprs y ys))))
         ≡ length (expr_kinds x) + 1 + length (exprs_kinds (e.more_exprs y ys)) =
         omega (arith, length-append (expr_kinds x) (more_exprs_kinds (e.more_exprs y ys))) in
-        together (walk_expr x w) (λ a v. walk_exprs (e.more_exprs y ys) (a ∷ []) v) (λ xs u. looked token (sequenced t.Void xs) u)
+        together (walk_expr x w) (λ a v. walk_exprs (e.more_exprs y ys) (a ∷ []) v) (λ xs u. operand_noted token (typed_comma t.Void xs) u)
         (seq {Q = λ a d. (xs : List Operand)
-        × (GoodList z (e.more_exprs y ys) (a ∷ []) xs × (Is (sequenced t.Void xs) d × (noted z.types token ≡ Some d.ctype)))}
+        × (GoodList z (e.more_exprs y ys) (a ∷ []) xs × (Is (typed_comma t.Void xs) d × (note_at z.types token ≡ Some d.ctype)))}
         (at + length (expr_kinds x)) r (omega arith) (omega (arith, long))
         (expr_leads x at w s.1.1 p.1.0 (ready_in r at (at + length (expr_kinds x)) (omega arith) (omega (arith, long))))
-        (λ a v r2. look (at + length (expr_kinds x)) token (λ xs u. sequenced t.Void xs) r2 (omega (arith, p.0)) (omega (arith, p.0)) (omega (arith, long))
+        (λ a v r2. look (at + length (expr_kinds x)) token (λ xs u. typed_comma t.Void xs) r2 (omega (arith, p.0)) (omega (arith, p.0)) (omega (arith, long))
         (widely (at + length (expr_kinds x) + 1) (at + length (expr_kinds (e.Comma token (e.more_exprs x (e.more_exprs y ys)))))
         (exprs_leads (e.more_exprs y ys) (at + length (expr_kinds x) + 1) (a ∷ []) v s.1.2 p.1.1
         (ready_in r2 (at + length (expr_kinds x) + 1) (at + length (expr_kinds x) + 1 + length (exprs_kinds (e.more_exprs y ys))) (omega arith)
@@ -63,10 +63,10 @@ module _ (z : Walk) where
         infix_long (expr_kinds target) (expr_kinds value) sign in
         seq {Q = λ a d. (b : Operand) ×
         ((u : Walk) × (Stays u.structs z.structs
-        × (Is (assigning u.structs (compound_of sign) a b) d × (Good z value b × (noted z.types token ≡ Some d.ctype)))))}
+        × (Is (typed_assignment u.structs (compound_of sign) a b) d × (Good z value b × (note_at z.types token ≡ Some d.ctype)))))}
         (at + length (expr_kinds target)) r (omega arith) (omega (arith, long))
         (expr_leads target at w s.2 p.1 (ready_in r at (at + length (expr_kinds target)) (omega arith) (omega (arith, long))))
-        (λ a v r2. look (at + length (expr_kinds target)) token (λ b u. assigning u.structs (compound_of sign) a b) r2 (omega (arith, p.0)) (omega arith)
+        (λ a v r2. look (at + length (expr_kinds target)) token (λ b u. typed_assignment u.structs (compound_of sign) a b) r2 (omega (arith, p.0)) (omega arith)
         (omega (arith, p.0, long))
         (widely (token + 1) (at + length (expr_kinds (e.Assign token sign target value)))
         (expr_leads value (token + 1) v s.4 p.2
@@ -77,10 +77,10 @@ module _ (z : Walk) where
     expr_leads (e.Conditional token condition first second) at w s p r =
         let long : length (expr_kinds (e.Conditional token condition first second))
         ≡ length (expr_kinds condition) + 1 + length (expr_kinds first) + 1 + length (expr_kinds second) = conditional_long condition first second in
-        seq {Q = λ c d. (a : Operand) × ((b : Operand) × (Is (chosen c a b) d × (Good z first a × (Good z second b × (noted z.types token ≡ Some d.ctype)))))}
+        seq {Q = λ c d. (a : Operand) × ((b : Operand) × (Is (typed_conditional c a b) d × (Good z first a × (Good z second b × (note_at z.types token ≡ Some d.ctype)))))}
         (at + length (expr_kinds condition)) r (omega arith) (omega (arith, long))
         (expr_leads condition at w s.1 p.1 (ready_in r at (at + length (expr_kinds condition)) (omega arith) (omega (arith, long))))
-        (λ c v r2. look_both (at + length (expr_kinds condition)) token (λ a b u. chosen c a b) r2 (omega (arith, p.0)) (omega arith) (omega arith)
+        (λ c v r2. look_both (at + length (expr_kinds condition)) token (λ a b u. typed_conditional c a b) r2 (omega (arith, p.0)) (omega arith) (omega arith)
         (omega (arith, p.0, long))
         (widely (token + 1) (token + 1 + length (expr_kinds first) + 1)
         (expr_leads first (token + 1) v s.2 p.2
@@ -105,7 +105,7 @@ module _ (z : Walk) where
         (λ a b f g. chain_good z level first links a b s.4 f g)
     expr_leads (e.Cast token b stars operand) at w s p r =
         let long : length (expr_kinds (e.Cast token b stars operand)) ≡ length (type_kinds b stars) + 2 + length (expr_kinds operand) =
-        omega (arith, length-append (parenthesized (type_kinds b stars)) (expr_kinds operand), around (type_kinds b stars)) in
+        omega (arith, length-append (parenthesized_kinds (type_kinds b stars)) (expr_kinds operand), around (type_kinds b stars)) in
         seq {Q = λ of d. Good z (e.Cast token b stars operand) d} at r (omega arith) (omega arith)
         (base_leads z b at (at + length (expr_kinds (e.Cast token b stars operand))) w r)
         (λ of v r2. look at token (λ a u. cast_to (with_stars stars of) a) r2 (omega (arith, p.0)) (omega (arith, p.0)) (omega (arith, long))
@@ -116,7 +116,7 @@ module _ (z : Walk) where
         (omega arith) (omega (arith, long)))
         (λ a u d g h k q. cast_good z token b stars operand (with_stars stars of) a d h k q)) (λ a d f g. g)
     expr_leads (e.Prefix token operator operand) at w s p r =
-        look at token (λ a u. prefixed u.structs operator a) r (omega (arith, p.0)) (omega (arith, p.0)) (omega arith)
+        look at token (λ a u. typed_prefix_operation u.structs operator a) r (omega (arith, p.0)) (omega (arith, p.0)) (omega arith)
         (widely (at + 1) (at + length (expr_kinds (e.Prefix token operator operand)))
         (expr_leads operand (at + 1) w s.1 p.1 (ready_in r (at + 1) (at + 1 + length (expr_kinds operand)) (omega arith) (omega arith))) (omega arith)
         (omega arith))
@@ -124,7 +124,7 @@ module _ (z : Walk) where
     expr_leads (e.SizeOfType token b stars) at w s p r =
         seq {Q = λ of d. Good z (e.SizeOfType token b stars) d} at r (omega arith) (omega arith)
         (base_leads z b at (at + length (expr_kinds (e.SizeOfType token b stars))) w r)
-        (λ of v r2. leaf token (measured v.structs (with_stars stars of)) r2 (omega (arith, p.0)) (omega (arith, p.0))
+        (λ of v r2. leaf token (typed_sizeof v.structs (with_stars stars of)) r2 (omega (arith, p.0)) (omega (arith, p.0))
         (λ d g h q. size_good z token b stars (with_stars stars of) d v g h q)) (λ a d f g. g)
     expr_leads (e.Postfix primary operators) at w s p r =
         let long : length (expr_kinds (e.Postfix primary operators)) ≡ length (expr_kinds primary) + length (postfix_kinds operators) =
@@ -151,7 +151,7 @@ module _ (z : Walk) where
         (λ d g h q. leaf_good z (e.Strings token parts) (string_of (string_cells parts)) d refl refl (λ k. k) h q)
     expr_leads (e.Paren token inner) at w s p r =
         let long : length (expr_kinds (e.Paren token inner)) ≡ length (expr_kinds inner) + 2 = around (expr_kinds inner) in
-        look at token (λ a u. Ok (enclosed a)) r (omega (arith, p.0)) (omega (arith, p.0)) (omega (arith, long))
+        look at token (λ a u. Ok (parenthesized_operand a)) r (omega (arith, p.0)) (omega (arith, p.0)) (omega (arith, long))
         (widely (at + 1) (at + length (expr_kinds (e.Paren token inner)))
         (expr_leads inner (at + 1) w s p.1 (ready_in r (at + 1) (at + 1 + length (expr_kinds inner)) (omega arith) (omega (arith, long)))) (omega arith)
         (omega (arith, long)))
@@ -189,11 +189,11 @@ module _ (z : Walk) where
     links_leads (e.more_links token sign x rest) level at first a w s p r =
         let long : length (link_kinds (e.more_links token sign x rest)) ≡ 1 + length (expr_kinds x) + length (link_kinds rest) =
         omega (arith, length-append (expr_kinds x) (link_kinds rest)) in
-        onwards (walk_expr x w) (λ b v. looked token (chained v.structs (binary_of sign) a b) v) (λ d u. walk_links rest d u)
+        onwards (walk_expr x w) (λ b v. operand_noted token (typed_chain_operation v.structs (binary_of sign) a b) v) (λ d u. walk_links rest d u)
         (seq {P = λ d. (b : Operand) × ((v : Walk)
-        × (Stays v.structs z.structs × (Is (chained v.structs (binary_of sign) a b) d × (Good z x b × (noted z.types token ≡ Some d.ctype)))))}
+        × (Stays v.structs z.structs × (Is (typed_chain_operation v.structs (binary_of sign) a b) d × (Good z x b × (note_at z.types token ≡ Some d.ctype)))))}
         (at + 1 + length (expr_kinds x)) r (omega arith) (omega (arith, long))
-        (look at token (λ b v. chained v.structs (binary_of sign) a b)
+        (look at token (λ b v. typed_chain_operation v.structs (binary_of sign) a b)
         (ready_in r at (at + 1 + length (expr_kinds x)) (omega arith) (omega (arith, long))) (omega (arith, p.0)) (omega (arith, p.0)) (omega arith)
         (expr_leads x (at + 1) w s.2 p.1 (ready_in r (at + 1) (at + 1 + length (expr_kinds x)) (omega arith) (omega (arith, long))))
         (λ b v d g h k q. (b, (v, (g, (h, (k, q)))))))
@@ -210,11 +210,11 @@ module _ (z : Walk) where
     postfix_leads (e.index token x rest) at first a w s p r =
         let long : length (postfix_kinds (e.index token x rest)) ≡ 2 + length (expr_kinds x) + length (postfix_kinds rest) =
         omega (arith, length-append (expr_kinds x ++ a_sign sign.RightBracket) (postfix_kinds rest), length-append (expr_kinds x) (a_sign sign.RightBracket)) in
-        onwards (walk_expr x w) (λ b v. looked token (indexed v.structs a b) v) (λ d u. walk_postfix rest d u)
+        onwards (walk_expr x w) (λ b v. operand_noted token (typed_subscript v.structs a b) v) (λ d u. walk_postfix rest d u)
         (seq {P = λ d. (b : Operand) × ((v : Walk)
-        × (Stays v.structs z.structs × (Is (indexed v.structs a b) d × (Good z x b × (noted z.types token ≡ Some d.ctype)))))}
+        × (Stays v.structs z.structs × (Is (typed_subscript v.structs a b) d × (Good z x b × (note_at z.types token ≡ Some d.ctype)))))}
         (at + 1 + length (expr_kinds x) + 1) r (omega arith) (omega (arith, long))
-        (widely at (at + 1 + length (expr_kinds x) + 1) (look at token (λ b v. indexed v.structs a b)
+        (widely at (at + 1 + length (expr_kinds x) + 1) (look at token (λ b v. typed_subscript v.structs a b)
         (ready_in r at (at + 1 + length (expr_kinds x)) (omega arith) (omega (arith, long))) (omega (arith, p.0)) (omega (arith, p.0)) (omega arith)
         (expr_leads x (at + 1) w s.0 p.1 (ready_in r (at + 1) (at + 1 + length (expr_kinds x)) (omega arith) (omega (arith, long))))
         (λ b v d g h k q. (b, (v, (g, (h, (k, q))))))) (omega arith) (omega arith))
@@ -239,7 +239,7 @@ module _ (z : Walk) where
         (λ d b f g. arrow_good z token first name rest a d b w f g)
     postfix_leads (e.increment token rest) at first a w s p r =
         seq (at + 1) r (omega arith) (omega arith)
-        (leaf {R = λ d. Steps z.structs a d.ctype × (d.place ≡ false) × (d.null ≡ false) × (noted z.types token ≡ Some d.ctype)} token (stepped w.structs a)
+        (leaf {R = λ d. Steps z.structs a d.ctype × (d.place ≡ false) × (d.null ≡ false) × (note_at z.types token ≡ Some d.ctype)} token (typed_increment w.structs a)
         (ready_in r at (at + 1) (omega arith) (omega arith)) (omega (arith, p.0)) (omega (arith, p.0))
         (λ d g h q. let i = stepped_is w.structs z.structs g a d h in (i.0, i.1, i.2, q)))
         (λ d u r2. widely (at + 1) (at + length (postfix_kinds (e.increment token rest))) (postfix_leads rest (at + 1) token d u s p.1
@@ -247,7 +247,7 @@ module _ (z : Walk) where
         (λ d b f g. step_good z token first rest a d b f g)
     postfix_leads (e.decrement token rest) at first a w s p r =
         seq (at + 1) r (omega arith) (omega arith)
-        (leaf {R = λ d. Steps z.structs a d.ctype × (d.place ≡ false) × (d.null ≡ false) × (noted z.types token ≡ Some d.ctype)} token (stepped w.structs a)
+        (leaf {R = λ d. Steps z.structs a d.ctype × (d.place ≡ false) × (d.null ≡ false) × (note_at z.types token ≡ Some d.ctype)} token (typed_increment w.structs a)
         (ready_in r at (at + 1) (omega arith) (omega arith)) (omega (arith, p.0)) (omega (arith, p.0))
         (λ d g h q. let i = stepped_is w.structs z.structs g a d h in (i.0, i.1, i.2, q)))
         (λ d u r2. widely (at + 1) (at + length (postfix_kinds (e.decrement token rest))) (postfix_leads rest (at + 1) token d u s p.1
@@ -269,7 +269,7 @@ module _ (z : Walk) where
       → FormatFits z (e.more_exprs (e.Strings token parts) rest) × (value_of t.Int ≡ d)
   string_format token parts rest [] d h k = absurd h
   string_format token parts rest (a ∷ more) d h k =
-      let i = is_int (fits_format (flat parts) more) d k in ((more, (h.1, i.0)), i.1)
+      let i = is_int (fits_format (concatenated_strings parts) more) d k in ((more, (h.1, i.0)), i.1)
 
   formatted_is : (arguments : ExprList) (own : List Operand) (d : Operand) → Operands z arguments own → Is (format_of arguments own) d
       → FormatFits z arguments × (value_of t.Int ≡ d)

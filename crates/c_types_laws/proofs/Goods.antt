@@ -14,14 +14,14 @@ use Rattle.c_syntax.specs.declared.parts.Base.TheVariants as base
 use Rattle.c_syntax.specs.declared.expr.PrefixOperator.{PrefixOperator}
 use Rattle.c_syntax.specs.declared.expr.PrefixOperator.TheVariants as prefix
 use Rattle.c_syntax.specs.ExprTree as e
-use Rattle.c_syntax.specs.Words.{ExprTree, ExprList, LinkList, PostfixList, HasLink, HasOne, HasPostfix, Kinds, a_sign, expr_kinds, exprs_kinds, parenthesized}
+use Rattle.c_syntax.specs.Words.{ExprTree, ExprList, LinkList, PostfixList, HasLink, HasOne, HasPostfix, Kinds, a_sign, expr_kinds, exprs_kinds, parenthesized_kinds}
 use Rattle.c_syntax.specs.Words.{text_kinds}
 use Rattle.c_types_rules.specs.declared.fault.FaultKind.{FaultKind}
 use Rattle.c_types_rules.specs.declared.fault.FaultKind.TheVariants as fault
 use Rattle.c_types_rules.specs.declared.library.Library.{Library}
 use Rattle.c_types_rules.specs.declared.library.Library.TheVariants as library
-use Rattle.c_types_rules.specs.Words.{assignable, fits_parameters, TypeTree, constant_of, enclosed, is_struct, null_of, place_of, string_of, value_of, Looked}
-use Rattle.c_types_rules.specs.Words.{library_called, library_named, one_scalar, cast_to, measured, chosen, indexed, member_behind, member_of, sequenced}
+use Rattle.c_types_rules.specs.Words.{is_assignable, fits_parameters, TypeTree, parenthesized_operand, is_struct, place_of, value_of, OperandOrFault}
+use Rattle.c_types_rules.specs.Words.{library_called, library_named, one_scalar, cast_to, typed_sizeof, typed_conditional, typed_subscript, member_behind, member_of, typed_comma}
 use Rattle.c_meaning.specs.Words.{is_null_constant, link_token, postfix_token, token_of}
 use Rattle.c_types_rules.specs.declared.layout.Member.{Member}
 use Rattle.c_types_rules.specs.declared.operand.Operand.{Operand}
@@ -32,9 +32,9 @@ use Rattle.c_types_expressions.specs.declared.names.Meaning.{Meaning}
 use Rattle.c_types_expressions.specs.declared.names.Meaning.TheVariants as meaning
 use Rattle.c_types_expressions.specs.declared.walk.FunctionEntry.{FunctionEntry}
 use Rattle.c_types_expressions.specs.declared.walk.Walk.{Walk}
-use Rattle.c_types.specs.Answers.{noted, type_at}
-use Rattle.c_types_expressions.specs.Words.{assigning, base_type, binary_of, called_name, chained, compound_of, looked, named, of_function, of_variable}
-use Rattle.c_types_expressions.specs.Words.{prefixed, selected, tagged_type, with_call, found, meaning_of, with_type}
+use Rattle.c_types.specs.Answers.{note_at, type_at}
+use Rattle.c_types_expressions.specs.Words.{typed_assignment, base_type, binary_of, called_name, typed_chain_operation, compound_of, operand_noted, named_operand, of_function, of_variable}
+use Rattle.c_types_expressions.specs.Words.{typed_prefix_operation, selected_member, tagged_type, with_call, declared_meaning, meaning_of, with_type}
 use Rattle.c_types_laws.specs.Naming.{IsInnermost, NamesNone}
 use Rattle.c_types_laws.specs.Fits.{ArgumentsFit, CallFits, CalleeFits, ExprFits, ExprsFit, Gives as GivesType, IsSequence, LinksFit, Of, Operands}
 use Rattle.c_types_laws.specs.Fits.{PostfixFits, ends_as_lvalue, is_lvalue, lvalue_at, operand, selected_operand, value_at}
@@ -51,7 +51,7 @@ pub texts_long : (parts : List (List ℕ)) → HasOne parts → 1 ≤ length (te
 texts_long [] h = absurd h
 texts_long (p ∷ parts) h = omega arith
 
-pub around : (xs : Kinds) → length (parenthesized xs) ≡ length xs + 2
+pub around : (xs : Kinds) → length (parenthesized_kinds xs) ≡ length xs + 2
 around xs = omega (arith, length-append xs (a_sign sign.RightParen))
 
 pub infix_long : (xs ys : Kinds) (s : Sign) → length (xs ++ a_sign s ++ ys) ≡ length xs + 1 + length ys
@@ -79,11 +79,11 @@ module _ (z : Walk) where
   base_leads (base.Char token) lo hi w r = nothing t.Char r (omega arith) tt
   base_leads (base.Int token) lo hi w r = nothing t.Int r (omega arith) tt
   base_leads (base.Unsigned token int) lo hi w r = nothing t.Unsigned r (omega arith) tt
-  base_leads (base.Struct token tag) lo hi w r = tagged_leads token lo hi (found tag w.tags) w r
+  base_leads (base.Struct token tag) lo hi w r = tagged_leads token lo hi (declared_meaning tag w.tags) w r
 
   -- what is known at the end of an expression that was this operand
   pub record Known (x : ExprTree) (a : Operand) : Type 0 where
-    pub typed : noted z.types (token_of x) ≡ Some a.ctype
+    pub typed : note_at z.types (token_of x) ≡ Some a.ctype
     pub place : is_lvalue x ≡ a.place
     pub null : is_null_constant x ≡ a.null
 
@@ -101,19 +101,19 @@ module _ (z : Walk) where
   pub of_is : (P : Operand → Type 0) (o : Option Operand) (a : Operand) → o ≡ Some a → P a → Of o P
   of_is P o a h p = subst (λ o. Of o P) (sym h) p
 
-  pub gives_type : (P : TypeTree → Type 0) (token : ℕ) (t : TypeTree) → noted z.types token ≡ Some t → P t → GivesType (type_at z token) P
+  pub gives_type : (P : TypeTree → Type 0) (token : ℕ) (t : TypeTree) → note_at z.types token ≡ Some t → P t → GivesType (type_at z token) P
   gives_type P token t h p = subst (λ o. MatchOption o ⊥ P) (sym h) p
 
   -- the value behind an operator
-  pub value_known : (token : ℕ) (d : Operand) → noted z.types token ≡ Some d.ctype → d.place ≡ false → d.null ≡ false → value_at z token ≡ Some d
+  pub value_known : (token : ℕ) (d : Operand) → note_at z.types token ≡ Some d.ctype → d.place ≡ false → d.null ≡ false → value_at z token ≡ Some d
   value_known token d h p n = ap (λ o. option_map value_of o) h ∙ ap (λ b. Some (made d.ctype b false)) (sym p)
       ∙ ap (λ b. Some (made d.ctype d.place b)) (sym n)
 
-  pub lvalue_known : (token : ℕ) (d : Operand) → noted z.types token ≡ Some d.ctype → d.place ≡ true → d.null ≡ false → lvalue_at z token ≡ Some d
+  pub lvalue_known : (token : ℕ) (d : Operand) → note_at z.types token ≡ Some d.ctype → d.place ≡ true → d.null ≡ false → lvalue_at z token ≡ Some d
   lvalue_known token d h p n = ap (λ o. option_map place_of o) h ∙ ap (λ b. Some (made d.ctype b false)) (sym p)
       ∙ ap (λ b. Some (made d.ctype d.place b)) (sym n)
 
-  pub selected_known : (token : ℕ) (a d : Operand) → noted z.types token ≡ Some d.ctype → d.place ≡ a.place → d.null ≡ false
+  pub selected_known : (token : ℕ) (a d : Operand) → note_at z.types token ≡ Some d.ctype → d.place ≡ a.place → d.null ≡ false
       → selected_operand (Some a) (type_at z token) ≡ Some d
   selected_known token a d h p n = ap (λ o. selected_operand (Some a) o) h ∙ ap (λ b. Some (made d.ctype b false)) (sym p)
       ∙ ap (λ b. Some (made d.ctype d.place b)) (sym n)
@@ -127,19 +127,19 @@ module _ (z : Walk) where
   passes [] (e.more_exprs x rest) (a ∷ own) h k = absurd (omega (arith, eqb-true (suc (length own)) 0 k))
   passes (t ∷ ts) e.no_exprs [] h k = absurd (false≢true k)
   passes (t ∷ ts) (e.more_exprs x rest) (a ∷ own) h k =
-      let l = and_parts (assignable t a) (fits_parameters ts own) k in
+      let l = and_parts (is_assignable t a) (fits_parameters ts own) k in
       (of_is (Accepts t) (operand z x) a h.0 (accepts t a l.0), passes ts rest own h.1 l.1)
   passes [] e.no_exprs (a ∷ own) h k = absurd h
   passes [] (e.more_exprs x rest) [] h k = absurd h
   passes (t ∷ ts) e.no_exprs (a ∷ own) h k = absurd h
   passes (t ∷ ts) (e.more_exprs x rest) [] h k = absurd h
 
-  pub no_struct : (b : Bool) (r : Looked) (d : Operand) → Is (if b then Err fault.Operands else r) d → (b ≡ false) × Is r d
+  pub no_struct : (b : Bool) (r : OperandOrFault) (d : Operand) → Is (if b then Err fault.Operands else r) d → (b ≡ false) × Is r d
   no_struct true r d h = absurd (cc)
   no_struct false r d h = (refl, h)
 
   pub sequence_is : (of : TypeTree) (x : ExprTree) (rest : ExprList) (own : List Operand) (d : Operand) → Operands z (e.more_exprs x rest) own
-      → Is (sequenced of own) d
+      → Is (typed_comma of own) d
       → IsValue (IsSequence z (e.more_exprs x rest)) d
   sequence_is of x rest [] d h k = absurd h
   sequence_is of x e.no_exprs (a ∷ []) d h k =
@@ -148,7 +148,7 @@ module _ (z : Walk) where
       (of_is (λ b. (is_struct b.ctype ≡ false) × (rule.value_type a ≡ rule.value_type b)) (operand z x) a h.0 (l.0, refl)) l.1
   sequence_is of x e.no_exprs (a ∷ b ∷ own) d h k = absurd h.1
   sequence_is of x (e.more_exprs y ys) (a ∷ own) d h k =
-      let l = no_struct (is_struct a.ctype) (sequenced (rule.value_type a) own) d k in
+      let l = no_struct (is_struct a.ctype) (typed_comma (rule.value_type a) own) d k in
       let m : IsValue (IsSequence z (e.more_exprs y ys)) d = sequence_is (rule.value_type a) y ys own d h.1 l.1 in
       ((of_is (λ a. is_struct a.ctype ≡ false) (operand z x) a h.0 l.0, m.0), m.1, m.2)
 
@@ -174,7 +174,7 @@ module _ (z : Walk) where
   }
 
   pub name_leads : (at token : ℕ) (name : List ℕ) (m : Option Meaning) (w : Walk) → token ≡ at → Ready at (at + 1) w
-      → Means w.functions w.variables w.ends at name m w.names → Gives (named token m w) (Leads z true at (at + 1) w (Good (e.Name token name)))
+      → Means w.functions w.variables w.ends at name m w.names → Gives (named_operand token m w) (Leads z true at (at + 1) w (Good (e.Name token name)))
   name_leads at token name (Some (meaning.Variable index)) w p r h = variable_leads at token index name (slice_get w.declared_types index) w p r h
   name_leads at token name m w p r h = record { by = tt }
 
@@ -187,15 +187,15 @@ module _ (z : Walk) where
       (subst (λ n. NoneOn v.functions v.variables v.ends n name v.names) (sym p) h))
 
   -- what is known of a call of the library, behind its arguments
-  abbrev pub Looks : ℕ → List ℕ → Looked → (List Operand → Type 0) → List Operand → Operand → Type 0
-  Looks token name l P xs d = P xs × NamesNone z token name × (noted z.types token ≡ Some d.ctype) × Is l d
+  abbrev pub Looks : ℕ → List ℕ → OperandOrFault → (List Operand → Type 0) → List Operand → Operand → Type 0
+  Looks token name l P xs d = P xs × NamesNone z token name × (note_at z.types token ≡ Some d.ctype) × Is l d
 
-  pub library_leads : {P : List Operand → Type 0} {mid hi : ℕ} (at token : ℕ) (name : List ℕ) (w v : Walk) (xs : List Operand) (l : Looked) → token ≡ at
+  pub library_leads : {P : List Operand → Type 0} {mid hi : ℕ} (at token : ℕ) (name : List ℕ) (w v : Walk) (xs : List Operand) (l : OperandOrFault) → token ≡ at
       → at < mid → mid ≤ hi
       → Ready at hi w → Leads z true mid hi w P xs v → NoneOn v.functions v.variables v.ends at name v.names
-      → Gives (looked token l v) (Leads z true at hi w (Looks token name l P xs))
+      → Gives (operand_noted token l v) (Leads z true at hi w (Looks token name l P xs))
   library_leads {hi = hi} at token name w v xs l p less high r g h = looks token l v (λ d i. record {
-    part = so (marked {Q = NamesNone z token name × (noted z.types token ≡ Some d.ctype)} at g.part (type_marks token d.ctype v) (omega (arith, p))
+    part = so (marked {Q = NamesNone z token name × (note_at z.types token ≡ Some d.ctype)} at g.part (type_marks token d.ctype v) (omega (arith, p))
         (omega (arith, p, less)) high
         (λ c. (
           none_named at hi token name w v (with_type token d.ctype v) p (omega (arith, less, high)) r g.kept refl (le-max_right v.latest token) c h,
@@ -207,16 +207,16 @@ module _ (z : Walk) where
 
   -- what is known of a call of a function of the text
   abbrev pub LooksUp : ℕ → List ℕ → ℕ → FunctionEntry → (List Operand → Type 0) → List Operand → Operand → Type 0
-  LooksUp token name index f P xs d = P xs × NamesNone z token name × (noted z.types token ≡ Some d.ctype) × (noted z.functions_at token ≡ Some index)
-      × (slice_get z.functions index ≡ Some f) × Is (functions.called f.ctype xs) d
+  LooksUp token name index f P xs d = P xs × NamesNone z token name × (note_at z.types token ≡ Some d.ctype) × (note_at z.functions_at token ≡ Some index)
+      × (slice_get z.functions index ≡ Some f) × Is (functions.typed_call f.ctype xs) d
 
   pub function_leads : {P : List Operand → Type 0} {mid : ℕ} (at token hi index : ℕ) (name : List ℕ) (w v : Walk) (xs : List Operand) (f : FunctionEntry)
       → token ≡ at
       → at < mid → mid ≤ hi → Ready at hi w → Leads z true mid hi w P xs v → NoneOn v.functions v.variables v.ends at name v.names
       → slice_get v.functions index ≡ Some f
       → Gives (of_function token index (Some f) xs v) (Leads z true at hi w (LooksUp token name index f P xs))
-  function_leads at token hi index name w v xs f p less high r g h k = looks token (functions.called f.ctype xs) (with_call token index v) (λ d i. record {
-    part = so (marked {Q = NamesNone z token name × (noted z.types token ≡ Some d.ctype) × (noted z.functions_at token ≡ Some index)
+  function_leads at token hi index name w v xs f p less high r g h k = looks token (functions.typed_call f.ctype xs) (with_call token index v) (λ d i. record {
+    part = so (marked {Q = NamesNone z token name × (note_at z.types token ≡ Some d.ctype) × (note_at z.functions_at token ≡ Some index)
         × (slice_get z.functions index ≡ Some f)}
         at g.part (call_marks token index d.ctype v) (omega (arith, p)) (omega (arith, p, less)) high
         (λ c. (
@@ -314,10 +314,10 @@ module _ (z : Walk) where
   -- a member that `.` or `->` at the token names
   abbrev pub Selected : ℕ → Bool → Result Member FaultKind → Walk → Operand → Type 0
   Selected token place r w d = (m : Member) × ((r ≡ Ok m) × ((d.ctype ≡ m.ctype) × ((d.place ≡ place) × ((d.null ≡ false)
-      × ((noted z.types token ≡ Some d.ctype) × Stays w.structs z.structs)))))
+      × ((note_at z.types token ≡ Some d.ctype) × Stays w.structs z.structs)))))
 
   pub selected_leads : (at token hi : ℕ) (place : Bool) (m : Result Member FaultKind) (w : Walk) → token ≡ at → at < hi → Ready at hi w
-      → Gives (selected token place m w) (Leads z true at hi w (Selected token place m w))
+      → Gives (selected_member token place m w) (Leads z true at hi w (Selected token place m w))
   selected_leads at token hi place (Err kind) w p less r = record { by = tt }
   selected_leads at token hi place (Ok m) w p less r = record {
     by = record {
@@ -350,7 +350,7 @@ module _ (z : Walk) where
   EndsLinks (e.more_links token s x rest) b = (b.place ≡ false) × (b.null ≡ false)
 
   abbrev pub GoodLinks : ℕ → LinkList → Operand → Operand → Type 0
-  GoodLinks first links a b = LinksFit z (Some a) links × (noted z.types first ≡ Some a.ctype → noted z.types (link_token first links) ≡ Some b.ctype)
+  GoodLinks first links a b = LinksFit z (Some a) links × (note_at z.types first ≡ Some a.ctype → note_at z.types (link_token first links) ≡ Some b.ctype)
       × ((a.place ≡ false) × (a.null ≡ false) → (b.place ≡ false) × (b.null ≡ false)) × EndsLinks links b
 
   pub chain_ends : (links : LinkList) (b : Operand) → HasLink links → EndsLinks links b → (b.place ≡ false) × (b.null ≡ false)
@@ -358,7 +358,7 @@ module _ (z : Walk) where
   chain_ends (e.more_links token s x rest) b h k = k
 
   abbrev pub GoodPostfix : ℕ → PostfixList → Operand → Operand → Type 0
-  GoodPostfix first rest a b = PostfixFits z (Some a) rest × (noted z.types first ≡ Some a.ctype → noted z.types (postfix_token first rest) ≡ Some b.ctype)
+  GoodPostfix first rest a b = PostfixFits z (Some a) rest × (note_at z.types first ≡ Some a.ctype → note_at z.types (postfix_token first rest) ≡ Some b.ctype)
       × (ends_as_lvalue a.place rest ≡ b.place) × (a.null ≡ false → b.null ≡ false) × (HasPostfix rest → b.null ≡ false)
 
   pub prefix_lvalue : (token : ℕ) (o : PrefixOperator) (x : ExprTree) → is_lvalue (e.Prefix token o x) ≡ leads_to_place o
@@ -378,8 +378,8 @@ module _ (z : Walk) where
   ok_operand x y h = cc
 
   pub assign_good : (token : ℕ) (s : Sign) (x y : ExprTree) (a b d : Operand) (w : Walk) → Stays w.structs z.structs
-      → Is (assigning w.structs (compound_of s) a b) d
-      → Good x a → Good y b → noted z.types token ≡ Some d.ctype → Good (e.Assign token s x y) d
+      → Is (typed_assignment w.structs (compound_of s) a b) d
+      → Good x a → Good y b → note_at z.types token ≡ Some d.ctype → Good (e.Assign token s x y) d
   assign_good token s x y a b d w f h j k q =
       let i : IsValue (Assigns z.structs (compound_of s) a b) d = assigning_is w.structs z.structs f (compound_of s) a b d h in (
         (
@@ -392,8 +392,8 @@ module _ (z : Walk) where
         record { typed = q; place = sym i.1; null = sym i.2 },
       )
 
-  pub choose_good : (token : ℕ) (o x y : ExprTree) (c a b d : Operand) → Is (chosen c a b) d → Good o c → Good x a → Good y b
-      → noted z.types token ≡ Some d.ctype
+  pub choose_good : (token : ℕ) (o x y : ExprTree) (c a b d : Operand) → Is (typed_conditional c a b) d → Good o c → Good x a → Good y b
+      → note_at z.types token ≡ Some d.ctype
       → Good (e.Conditional token o x y) d
   choose_good token o x y c a b d h l j k q =
       let i : IsValue (Chooses c a b) d = chosen_is [] [] (λ i x h. h) c a b d h in (
@@ -409,7 +409,7 @@ module _ (z : Walk) where
       )
 
   pub cast_good : (token : ℕ) (b : Base) (stars : ℕ) (x : ExprTree) (of : TypeTree) (a d : Operand) → Is (cast_to of a) d → Good x a
-      → noted z.types token ≡ Some d.ctype
+      → note_at z.types token ≡ Some d.ctype
       → Good (e.Cast token b stars x) d
   cast_good token b stars x of a d h j q =
       let i : IsValue (Casts of a) d = cast_is [] [] (λ i x h. h) of a d h in (
@@ -421,9 +421,9 @@ module _ (z : Walk) where
         record { typed = q; place = sym i.1; null = sym i.2 },
       )
 
-  pub prefix_good : (token : ℕ) (o : PrefixOperator) (x : ExprTree) (a d : Operand) (w : Walk) → Stays w.structs z.structs → Is (prefixed w.structs o a) d
+  pub prefix_good : (token : ℕ) (o : PrefixOperator) (x : ExprTree) (a d : Operand) (w : Walk) → Stays w.structs z.structs → Is (typed_prefix_operation w.structs o a) d
       → Good x a
-      → noted z.types token ≡ Some d.ctype → Good (e.Prefix token o x) d
+      → note_at z.types token ≡ Some d.ctype → Good (e.Prefix token o x) d
   prefix_good token o x a d w f h j q =
       let i = prefixed_is w.structs z.structs f o a d h in (
         (
@@ -434,32 +434,32 @@ module _ (z : Walk) where
         record { typed = q; place = prefix_lvalue token o x ∙ sym i.1; null = sym i.2 },
       )
 
-  pub size_good : (token : ℕ) (b : Base) (stars : ℕ) (of : TypeTree) (d : Operand) (w : Walk) → Stays w.structs z.structs → Is (measured w.structs of) d
-      → noted z.types token ≡ Some d.ctype → Good (e.SizeOfType token b stars) d
+  pub size_good : (token : ℕ) (b : Base) (stars : ℕ) (of : TypeTree) (d : Operand) (w : Walk) → Stays w.structs z.structs → Is (typed_sizeof w.structs of) d
+      → note_at z.types token ≡ Some d.ctype → Good (e.SizeOfType token b stars) d
   size_good token b stars of d w f h q =
       let i = measured_is w.structs z.structs f of d h in (q ∙ ap Some i.0.1, record { typed = q; place = sym i.1; null = sym i.2 })
 
-  pub paren_good : (token : ℕ) (x : ExprTree) (a d : Operand) → Is (Ok (enclosed a)) d → Good x a → noted z.types token ≡ Some d.ctype
+  pub paren_good : (token : ℕ) (x : ExprTree) (a d : Operand) → Is (Ok (parenthesized_operand a)) d → Good x a → note_at z.types token ≡ Some d.ctype
       → Good (e.Paren token x) d
   paren_good token x a d h j q =
-      let i : enclosed a ≡ d = ok_operand (enclosed a) d h in (
+      let i : parenthesized_operand a ≡ d = ok_operand (parenthesized_operand a) d h in (
         (j.0, q ∙ ap (λ (o : Operand). Some o.ctype) (sym i) ∙ sym j.1.typed),
         record { typed = q; place = j.1.place ∙ ap (λ (o : Operand). o.place) i; null = ap (λ (o : Operand). o.null) i },
       )
 
   pub leaf_good : (x : ExprTree) (a d : Operand) → is_lvalue x ≡ a.place → is_null_constant x ≡ a.null
-      → (noted z.types (token_of x) ≡ Some a.ctype → ExprFits z x)
-      → Is (Ok a) d → noted z.types (token_of x) ≡ Some d.ctype → Good x d
+      → (note_at z.types (token_of x) ≡ Some a.ctype → ExprFits z x)
+      → Is (Ok a) d → note_at z.types (token_of x) ≡ Some d.ctype → Good x d
   leaf_good x a d p n f h q =
       let i : a ≡ d = ok_operand a d h in
-      subst (Good x) i (let k : noted z.types (token_of x) ≡ Some a.ctype = q ∙ ap (λ (o : Operand). Some o.ctype) (sym i) in
+      subst (Good x) i (let k : note_at z.types (token_of x) ≡ Some a.ctype = q ∙ ap (λ (o : Operand). Some o.ctype) (sym i) in
       (f k, record { typed = k; place = p; null = n }))
 
-  pub comma_good : (token : ℕ) (x y : ExprTree) (ys : ExprList) (a : Operand) (xs : List Operand) (d : Operand) → Is (sequenced t.Void xs) d → Good x a
-      → GoodList (e.more_exprs y ys) (a ∷ []) xs → noted z.types token ≡ Some d.ctype → Good (e.Comma token (e.more_exprs x (e.more_exprs y ys))) d
+  pub comma_good : (token : ℕ) (x y : ExprTree) (ys : ExprList) (a : Operand) (xs : List Operand) (d : Operand) → Is (typed_comma t.Void xs) d → Good x a
+      → GoodList (e.more_exprs y ys) (a ∷ []) xs → note_at z.types token ≡ Some d.ctype → Good (e.Comma token (e.more_exprs x (e.more_exprs y ys))) d
   comma_good token x y ys a xs d h j k q =
       let i : IsValue (IsSequence z (e.more_exprs x (e.more_exprs y ys))) d =
-      sequence_is t.Void x (e.more_exprs y ys) (a ∷ k.0) d (operand_is x a j.1, k.1.1.1) (subst (λ all. Is (sequenced t.Void all) d) k.1.0 h) in (
+      sequence_is t.Void x (e.more_exprs y ys) (a ∷ k.0) d (operand_is x a j.1, k.1.1.1) (subst (λ all. Is (typed_comma t.Void all) d) k.1.0 h) in (
         ((j.0, k.1.1.0), gives_type (IsSequence z (e.more_exprs x (e.more_exprs y ys))) token d.ctype q i.0),
         record { typed = q; place = sym i.1; null = sym i.2 },
       )
@@ -480,7 +480,7 @@ module _ (z : Walk) where
   )
 
   pub link_good : (token : ℕ) (s : Sign) (first : ℕ) (x : ExprTree) (rest : LinkList) (a c d b : Operand) (v : Walk) → Stays v.structs z.structs
-      → Is (chained v.structs (binary_of s) a c) d → Good x c → noted z.types token ≡ Some d.ctype → GoodLinks token rest d b
+      → Is (typed_chain_operation v.structs (binary_of s) a c) d → Good x c → note_at z.types token ≡ Some d.ctype → GoodLinks token rest d b
       → GoodLinks first (e.more_links token s x rest) a b
   link_good token s first x rest a c d b v f h k q g =
       let i : IsValue (Joins z.structs (binary_of s) a c) d = chained_is v.structs z.structs f (binary_of s) a c d h in
@@ -497,7 +497,7 @@ module _ (z : Walk) where
       )
 
   pub index_good : (token first : ℕ) (x : ExprTree) (rest : PostfixList) (a c d b : Operand) (v : Walk) → Stays v.structs z.structs
-      → Is (indexed v.structs a c) d → Good x c → noted z.types token ≡ Some d.ctype → GoodPostfix token rest d b → GoodPostfix first (e.index token x rest) a b
+      → Is (typed_subscript v.structs a c) d → Good x c → note_at z.types token ≡ Some d.ctype → GoodPostfix token rest d b → GoodPostfix first (e.index token x rest) a b
   index_good token first x rest a c d b v f h k q g =
       let i : IsPlace (Indexes z.structs a c) d = indexed_is v.structs z.structs f a c d h in (
         (
@@ -513,10 +513,10 @@ module _ (z : Walk) where
       )
 
   pub step_good : (token first : ℕ) (rest : PostfixList) (a d b : Operand) → Steps z.structs a d.ctype × (d.place ≡ false) × (d.null ≡ false)
-      × (noted z.types token ≡ Some d.ctype)
+      × (note_at z.types token ≡ Some d.ctype)
       → GoodPostfix token rest d b
       → (GivesType (type_at z token) (Steps z.structs a) × PostfixFits z (value_at z token) rest)
-      × (noted z.types first ≡ Some a.ctype → noted z.types (postfix_token token rest) ≡ Some b.ctype)
+      × (note_at z.types first ≡ Some a.ctype → note_at z.types (postfix_token token rest) ≡ Some b.ctype)
       × (ends_as_lvalue false rest ≡ b.place) × (a.null ≡ false → b.null ≡ false) × (Unit {0} → b.null ≡ false)
   step_good token first rest a d b i g = (
     (gives_type (Steps z.structs a) token d.ctype i.3 i.0, subst (λ o. PostfixFits z o rest) (sym (value_known token d i.3 i.1 i.2)) g.0),

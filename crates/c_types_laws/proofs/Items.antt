@@ -21,7 +21,7 @@ use Rattle.c_syntax.specs.declared.parts.ParamName.{ParamName}
 use Rattle.c_syntax.specs.declared.parts.Params.{Params}
 use Rattle.c_syntax.specs.declared.parts.Params.TheVariants as params
 use Rattle.c_syntax.specs.Words.{EntryList, ItemTree, SourceTree, EachAt, EntriesAt, ItemAt, NameAt, ParamAt, ParamsAt, ShapedEntries, ShapedItem, a_name}
-use Rattle.c_syntax.specs.Words.{a_sign, body_kinds, entry_kinds, item_kinds, optional, param_kinds, param_name_kinds, params_kinds, parenthesized, type_kinds}
+use Rattle.c_syntax.specs.Words.{a_sign, body_kinds, entry_kinds, item_kinds, optional_kinds, param_kinds, param_name_kinds, params_kinds, parenthesized_kinds, type_kinds}
 use Rattle.c_syntax.specs.Words.{with_commas, IsShaped}
 use Rattle.c_syntax.specs.ItemTree as i
 use Rattle.c_types_rules.specs.declared.fault.FaultKind.{FaultKind}
@@ -39,10 +39,10 @@ use Rattle.c_types_expressions.specs.declared.walk.FunctionEntry.{FunctionEntry}
 use Rattle.c_types_expressions.specs.declared.walk.Parameter.{Parameter}
 use Rattle.c_types_expressions.specs.declared.walk.Walk.{Walk}
 use Rattle.c_types_walk.specs.Declarators.{declared_type}
-use Rattle.c_types_expressions.specs.Words.{base_type, tagged_type, with_stars, beginning, found, is_here, is_reserved, Walked, Fine, Faulty, ◌>>=◌, Done}
-use Rattle.c_types_expressions.specs.Words.{closing, opened, with_variable}
+use Rattle.c_types_expressions.specs.Words.{base_type, tagged_type, with_stars, empty_walk, declared_meaning, is_here, is_reserved, Walked, Fine, Faulty, ◌>>=◌, Done}
+use Rattle.c_types_expressions.specs.Words.{scope_closed, scope_opened, with_variable}
 use Rattle.c_types.specs.Fault.{ends_with, last_fault, walk_tree}
-use Rattle.c_types_walk.specs.ItemWalk.{clashes, has_type, declares, defined, entered, has_length, is_among, is_defined, known_as, listed_params, looked_param}
+use Rattle.c_types_walk.specs.ItemWalk.{is_clashing_name, has_type, function_checked, struct_defined, body_scope_opened, has_length, is_among, is_defined, known_as, listed_params, looked_param}
 use Rattle.c_types_walk.specs.ItemWalk.{param_type, scalar_param, typed_function, typed_member, types_of, walk_body, walk_declarators, walk_item, walk_items}
 use Rattle.c_types_walk.specs.ItemWalk.{walk_members, walk_param, walk_params, walk_struct, with_definition, with_function, with_param, with_params, with_tag}
 use Rattle.c_types_walk.specs.StatementWalk.{walk_entries}
@@ -55,6 +55,7 @@ use Rattle.c_types_laws.proofs.Declaring.{declared, enclosed, more_stays, ready_
 use Rattle.c_types_laws.proofs.Leading.{Leads, allowed, anything, nothing, refused, seq}
 use Rattle.c_types_laws.proofs.Goods.{around}
 use Rattle.c_types_laws.proofs.Statements.{commas_long, commas_one, declaration_leads, entries_leads, quiet}
+use Rattle.base_lists.proofs.Options.{none_some}
 
 -- what leaves the walk as it is, and what holds of its value
 abbrev Keeping : {A : Type 0} → Walk → (A → Type 0) → A → Walk → Type 0
@@ -65,7 +66,7 @@ tagged_keeps token (Some (meaning.Struct index)) w = record { by = (refl, tt) }
 tagged_keeps token m w = record { by = tt }
 
 base_keeps : (b : Base) (w : Walk) → Gives (base_type b w) (Keeping w (λ t. Unit {0}))
-base_keeps (base.Struct token tag) w = tagged_keeps token (found tag w.tags) w
+base_keeps (base.Struct token tag) w = tagged_keeps token (declared_meaning tag w.tags) w
 base_keeps b w = record { by = (refl, tt) }
 
 -- parameters
@@ -131,7 +132,7 @@ param_within : (p : Param) (at : ℕ) → ParamAt at p → IfSome p.name (λ m. 
 param_within p at h = by p.name h.2
   where
     by : (o : Option ParamName) → IfSome o (NameAt (at + length (type_kinds p.base p.stars)))
-        → IfSome o (λ m. (at ≤ m.token) × (m.token < at + length (type_kinds p.base p.stars ++ optional param_name_kinds o)))
+        → IfSome o (λ m. (at ≤ m.token) × (m.token < at + length (type_kinds p.base p.stars ++ optional_kinds param_name_kinds o)))
     by None h = tt
     by (Some n) h = (omega (arith, h), omega (arith, h, length-append (type_kinds p.base p.stars) (param_name_kinds n)))
 
@@ -174,8 +175,8 @@ function_long : (token : ℕ) (b : Base) (stars : ℕ) (name : List ℕ) (ps : P
 function_long token b stars name ps body =
     omega (
       arith,
-      length-append (type_kinds b stars ++ a_name name ++ parenthesized (params_kinds ps)) (body_kinds body),
-      length-append (type_kinds b stars ++ a_name name) (parenthesized (params_kinds ps)),
+      length-append (type_kinds b stars ++ a_name name ++ parenthesized_kinds (params_kinds ps)) (body_kinds body),
+      length-append (type_kinds b stars ++ a_name name) (parenthesized_kinds (params_kinds ps)),
       length-append (type_kinds b stars) (a_name name),
       around (params_kinds ps),
     )
@@ -221,7 +222,7 @@ Has z name f = (place : ℕ) × CalleeFits (slice_get z.functions place) name (�
 
 module _ {z : Walk} where
   function_part : (lo hi : ℕ) (name : List ℕ) (f : FunctionType) (known : Option ℕ) (w : Walk) → Ready lo hi w → IsFlat w.names → Knows name f w known
-      → clashes name known w ≡ false
+      → is_clashing_name name known w ≡ false
       → Part z lo lo w (with_function name f known w) (Has z name f)
   function_part lo hi name f (Some index) w r flat k c =
       knowing (nothing_noted {P = Unit {0}} lo lo w (omega arith) r.sound tt)
@@ -301,9 +302,9 @@ module _ {z : Walk} where
   body_leads : (at pa pb hi token : ℕ) (f : FunctionType) (name : List ℕ) (ps : List Param) (xs : List Parameter) (body : EntryList) (known : Option ℕ)
       (w : Walk)
       → AreFor ps xs → EachAt ParamAt param_kinds 1 pa ps → ShapedEntries body → EntriesAt pb body → Ready at hi w → IsFlat w.names → Knows name f w known
-      → clashes name known w ≡ false
+      → is_clashing_name name known w ≡ false
       → at ≤ pa → pa + length (with_commas param_kinds ps) ≤ pb → pb + length (entry_kinds body) ≤ hi
-      → Gives (walk_entries f.gives false body (entered xs (with_function name f known w)) >>= closing)
+      → Gives (walk_entries f.gives false body (body_scope_opened xs (with_function name f known w)) >>= scope_closed)
       (Leads z false at hi w (λ d. AllByRecursion (ParamFits z) ps × BodyFits z name body))
   body_leads at pa pb hi token f name ps xs body known w h p s q r flat kn c low mid high =
       let v : Walk = with_function name f known w in
@@ -312,9 +313,9 @@ module _ {z : Walk} where
       let r1 : Ready at hi v = ready_after r a at hi (omega arith) (omega arith) in
       let b : Part z at pa v u (Unit {0}) = quiet at pa v u refl refl refl refl refl low r1.sound tt in
       let r2 : Ready pa hi u = ready_after r1 b pa hi (omega arith) (omega arith) in
-      let first : Part z pa (pa + length (with_commas param_kinds ps)) (opened u) (entered xs v) (AllByRecursion (ParamFits z) ps) =
-      params_part ps xs pa (opened u) h p (ready_opened (ready_in r2 pa (pa + length (with_commas param_kinds ps)) (omega arith) (omega (arith, mid, high)))) in
-      and_then (entries_leads z f.gives false body pb (entered xs v) s q
+      let first : Part z pa (pa + length (with_commas param_kinds ps)) (scope_opened u) (body_scope_opened xs v) (AllByRecursion (ParamFits z) ps) =
+      params_part ps xs pa (scope_opened u) h p (ready_opened (ready_in r2 pa (pa + length (with_commas param_kinds ps)) (omega arith) (omega (arith, mid, high)))) in
+      and_then (entries_leads z f.gives false body pb (body_scope_opened xs v) s q
       (ready_after (ready_opened r2) first pb (pb + length (entry_kinds body)) (omega (arith, mid)) (omega (arith, high)))) (λ d o g. record {
         by = record {
           part = so (wider at hi (rightwards a
@@ -328,14 +329,14 @@ module _ {z : Walk} where
   defined_leads : (at pa pb hi token : ℕ) (f : FunctionType) (name : List ℕ) (ps : List Param) (xs : List Parameter) (body : EntryList) (known : Option ℕ)
       (w : Walk)
       (b : Bool) → AreFor ps xs → EachAt ParamAt param_kinds 1 pa ps → ShapedEntries body → EntriesAt pb body → Ready at hi w → IsFlat w.names
-      → Knows name f w known → clashes name known w ≡ b
+      → Knows name f w known → is_clashing_name name known w ≡ b
       → at ≤ pa → pa + length (with_commas param_kinds ps) ≤ pb → pb + length (entry_kinds body) ≤ hi
-      → Gives (walk_entries f.gives false body (entered xs (with_function name f known w)) >>= closing >>= λ _ v.
-      declares token (b || is_defined (unwrap_or known (length w.functions)) w.defined_as) f.gives v >>= λ _ u.
+      → Gives (walk_entries f.gives false body (body_scope_opened xs (with_function name f known w)) >>= scope_closed >>= λ _ v.
+      function_checked token (b || is_defined (unwrap_or known (length w.functions)) w.defined_as) f.gives v >>= λ _ u.
       finished (with_definition (unwrap_or known (length w.functions)) (length w.variables) u))
       (Leads z false at hi w (λ d. AllByRecursion (ParamFits z) ps × BodyFits z name body))
   defined_leads at pa pb hi token f name ps xs body known w true h p s q r flat kn c low mid high =
-      and_then (anything (walk_entries f.gives false body (entered xs (with_function name f known w)) >>= closing)) (λ d v g. record { by = tt })
+      and_then (anything (walk_entries f.gives false body (body_scope_opened xs (with_function name f known w)) >>= scope_closed)) (λ d v g. record { by = tt })
   defined_leads at pa pb hi token f name ps xs body known w false h p s q r flat kn c low mid high =
       seq {Q = λ d k. Unit {0}} hi r (omega (arith, low, mid, high)) (omega arith)
       (body_leads at pa pb hi token f name ps xs body known w h p s q r flat kn c low mid high)
@@ -358,13 +359,13 @@ module _ {z : Walk} where
       → Gives (walk_body token f name xs body known w) (Leads z false at hi w (λ d. AllByRecursion (ParamFits z) ps × BodyFits z name body))
   unfolding walk_body
   walk_body_leads at pa pb hi token f name ps xs body known w h p s q r flat kn low mid high =
-      defined_leads at pa pb hi token f name ps xs body known w (clashes name known w) h p s q r flat kn refl low mid high
+      defined_leads at pa pb hi token f name ps xs body known w (is_clashing_name name known w) h p s q r flat kn refl low mid high
 
   declared_leads : (at hi token : ℕ) (f : FunctionType) (name : List ℕ) (known : Option ℕ) (w : Walk) → Ready at hi w → IsFlat w.names
       → Knows name f w known → at ≤ hi
-      → Gives (declares token (clashes name known w) f.gives (with_function name f known w)) (Leads z false at hi w (λ d. Unit {0}))
+      → Gives (function_checked token (is_clashing_name name known w) f.gives (with_function name f known w)) (Leads z false at hi w (λ d. Unit {0}))
   declared_leads at hi token f name known w r flat kn high =
-      refused (clashes name known w) fault.Redeclared token
+      refused (is_clashing_name name known w) fault.Redeclared token
       (if is_struct f.gives then Faulty fault.Object token else Fine tt (with_function name f known w)) (λ c.
       refused (is_struct f.gives) fault.Object token (Fine tt (with_function name f known w)) (λ k. record {
         by = record { part = so (wider at hi (function_part at hi name f known w r flat kn c) (omega arith) high) (λ x. tt); kept = tt };
@@ -398,7 +399,7 @@ module _ {z : Walk} where
   struct_leads : (lo hi token : ℕ) (tag : List ℕ) (members : List Members) (w : Walk) → Ready lo hi w → lo ≤ hi
       → Gives (walk_struct token tag members w) (Leads z false lo hi w (λ d. Unit {0}))
   struct_leads lo hi token tag members w r high = and_then (members_keep members empty_struct (with_tag tag w)) (λ s v h.
-      subst (λ x. Gives (defined token (is_here tag w.tags) s x) (Leads z false lo hi w (λ d. Unit {0}))) (sym h.0)
+      subst (λ x. Gives (struct_defined token (is_here tag w.tags) s x) (Leads z false lo hi w (λ d. Unit {0}))) (sym h.0)
       (refused (is_here tag w.tags) fault.Redeclared token _ (λ k.
       allowed (nat_le s.cells most_cells) fault.Object token (Fine tt (record (with_tag tag w) { structs = w.structs ++ s ∷ [] })) (λ l. record {
         by = record { part = struct_part lo hi tag s w r high; kept = tt };
@@ -419,8 +420,8 @@ module _ (z : Walk) where
       (typed_function token (record { gives = with_stars stars t; params = types_of xs }) name xs None x)) (sym (l.0 ∙ k.0))
       (declared_leads at (at + length (item_kinds (i.Function token b stars name ps None))) token
       (record { gives = with_stars stars t; params = types_of xs }) name
-      (known_as (record { gives = with_stars stars t; params = types_of xs }) (found name w.names) w) w r flat
-      (knows at name (record { gives = with_stars stars t; params = types_of xs }) (found name w.names) w
+      (known_as (record { gives = with_stars stars t; params = types_of xs }) (declared_meaning name w.names) w) w r flat
+      (knows at name (record { gives = with_stars stars t; params = types_of xs }) (declared_meaning name w.names) w
       (finds w.functions w.variables w.ends at name (length w.variables) w.names r.sound.stack)) (omega arith))))
   item_leads (i.Function token b stars name ps (Some body)) at w h p flat r =
       let pa : ℕ = at + length (type_kinds b stars) + 2 in
@@ -430,9 +431,9 @@ module _ (z : Walk) where
       (typed_function token (record { gives = with_stars stars t; params = types_of xs }) name xs (Some body) x)) (sym (l.0 ∙ k.0))
       (walk_body_leads at pa pb (at + length (item_kinds (i.Function token b stars name ps (Some body)))) token
       (record { gives = with_stars stars t; params = types_of xs }) name
-      (listed_params ps) xs body (known_as (record { gives = with_stars stars t; params = types_of xs }) (found name w.names) w) w
+      (listed_params ps) xs body (known_as (record { gives = with_stars stars t; params = types_of xs }) (declared_meaning name w.names) w) w
       (subst (AreFor (listed_params ps)) (sym l.1.1) l.1.2) (params_at ps pa p.2) h.1 p.3 r flat
-      (knows at name (record { gives = with_stars stars t; params = types_of xs }) (found name w.names) w
+      (knows at name (record { gives = with_stars stars t; params = types_of xs }) (declared_meaning name w.names) w
       (finds w.functions w.variables w.ends at name (length w.variables) w.names r.sound.stack)) (omega arith) (omega (arith, params_within ps))
       (omega (arith, function_long token b stars name ps (Some body), body_long body)))))
 
@@ -456,22 +457,19 @@ module _ (z : Walk) where
 
 -- whole texts
 
-begins : (n : ℕ) → Ready 0 n (beginning n)
+begins : (n : ℕ) → Ready 0 n (empty_walk n)
 begins n = record {
   types = omega (arith, length-replicate {A = Option TypeTree} n None);
   variables_at = omega (arith, length-replicate {A = Option ℕ} n None);
   functions_at = omega (arith, length-replicate {A = Option ℕ} n None);
   sound = record {
     stack = tt;
-    opens = λ q h. absurd (no_some h);
-    closes = λ q e h. absurd (no_some h);
+    opens = λ q h. absurd (none_some h);
+    closes = λ q e h. absurd (none_some h);
     long = refl;
     latest = omega arith;
   };
 }
-  where
-    no_some : {A : Type 0} {x : A} → None ≡ Some x → ⊥
-    no_some h = absurd (cc)
 
 ends_by : (z v : Walk) (f : Option (FaultKind × ℕ)) → ends_with f v ≡ finished z → finished v ≡ finished z
 ends_by z v None h = h
@@ -484,11 +482,11 @@ ends_walk n z (Faulty kind token) h = absurd (cc)
 pub text_fits : (t : SourceTree) (z : Walk) → IsShaped t → walk_tree t ≡ Fine tt z → TextFits z t
 text_fits t z s h =
     let n : ℕ = length t.lines in
-    let m : Walked Done = walk_items t.items (beginning n) in
+    let m : Walked Done = walk_items t.items (empty_walk n) in
     let long : length (flat_map item_kinds t.items) ≡ n = sym s.lines in
-    let g : Leads z false 0 (0 + length (flat_map item_kinds t.items)) (beginning n) (λ d. TextFits z t) tt z =
-    subst (GivesIn (Leads z false 0 (0 + length (flat_map item_kinds t.items)) (beginning n) (λ d. TextFits z t))) (ends_walk n z m h)
-    (items_leads z t.items 0 (beginning n) s.items s.placed tt
+    let g : Leads z false 0 (0 + length (flat_map item_kinds t.items)) (empty_walk n) (λ d. TextFits z t) tt z =
+    subst (GivesIn (Leads z false 0 (0 + length (flat_map item_kinds t.items)) (empty_walk n) (λ d. TextFits z t))) (ends_walk n z m h)
+    (items_leads z t.items 0 (empty_walk n) s.items s.placed tt
     (ready_in (begins n) 0 (0 + length (flat_map item_kinds t.items)) (omega arith) (omega (arith, long)))).by in
     g.part.holds (record {
       notes = λ token p q. same_here z token;

@@ -7,10 +7,10 @@ use Rattle.c_types.proofs.Replaced.{noted_same}
 use Rattle.base_lists.proofs.Lists.{Stays}
 use Rattle.c_types_rules.specs.declared.fault.FaultKind.{FaultKind}
 use Rattle.c_types_rules.specs.declared.operand.Operand.{Operand}
-use Rattle.c_types_rules.specs.Faults.{Looked}
+use Rattle.c_types_rules.specs.Faults.{OperandOrFault}
 use Rattle.c_types_expressions.specs.declared.walk.Walk.{Walk}
-use Rattle.c_types.specs.Answers.{noted}
-use Rattle.c_types_expressions.specs.Words.{looked, Walked, Fine, Faulty, ◌>>=◌, with_type}
+use Rattle.c_types.specs.Answers.{note_at}
+use Rattle.c_types_expressions.specs.Words.{operand_noted, Walked, Fine, Faulty, ◌>>=◌, with_type}
 use Rattle.c_types_laws.proofs.Scenes.{scene}
 use Rattle.c_types_laws.proofs.Steps.{Part, Ready, mark, marked, nothing_noted, ready_after, rightwards, so}
 use Rattle.c_types_laws.proofs.Steps.{sound_later, type_marks, wider}
@@ -59,9 +59,9 @@ module _ {z : Walk} {still : Bool} where
       }))
 
   -- what is noted at the token alone
-  pub leaf : {R : Operand → Type 0} {lo hi : ℕ} {w : Walk} (token : ℕ) (rule : Looked) → Ready lo hi w → lo ≤ token → token < hi
-      → ((d : Operand) → Stays w.structs z.structs → rule ≡ Ok d → noted z.types token ≡ Some d.ctype → R d)
-      → Gives (looked token rule w) (Leads z still lo hi w R)
+  pub leaf : {R : Operand → Type 0} {lo hi : ℕ} {w : Walk} (token : ℕ) (rule : OperandOrFault) → Ready lo hi w → lo ≤ token → token < hi
+      → ((d : Operand) → Stays w.structs z.structs → rule ≡ Ok d → note_at z.types token ≡ Some d.ctype → R d)
+      → Gives (operand_noted token rule w) (Leads z still lo hi w R)
   leaf {lo = lo} {hi = hi} {w = w} token rule r low high f = looks token rule w (λ d h. record {
     part = wider lo hi (mark (sound_later low r.sound) (type_marks token d.ctype w)
         (λ g. f d g.later.structs h ((g.notes token (omega arith) (omega arith)).types ∙ noted_same w.types token d.ctype (omega (arith, r.types, high)))))
@@ -70,13 +70,13 @@ module _ {z : Walk} {still : Bool} where
   })
 
   -- a part, and then what is noted at a token before it
-  pub look : {A : Type 0} {m : Walked A} {P : A → Type 0} {R : Operand → Type 0} {mid hi : ℕ} {w : Walk} (lo token : ℕ) (rule : A → Walk → Looked)
+  pub look : {A : Type 0} {m : Walked A} {P : A → Type 0} {R : Operand → Type 0} {mid hi : ℕ} {w : Walk} (lo token : ℕ) (rule : A → Walk → OperandOrFault)
       → Ready lo hi w → lo ≤ token → token < mid → mid ≤ hi → Gives m (Leads z still mid hi w P)
-      → ((a : A) (v : Walk) (d : Operand) → Stays v.structs z.structs → rule a v ≡ Ok d → P a → noted z.types token ≡ Some d.ctype → R d)
-      → Gives (m >>= λ a v. looked token (rule a v) v) (Leads z still lo hi w R)
+      → ((a : A) (v : Walk) (d : Operand) → Stays v.structs z.structs → rule a v ≡ Ok d → P a → note_at z.types token ≡ Some d.ctype → R d)
+      → Gives (m >>= λ a v. operand_noted token (rule a v) v) (Leads z still lo hi w R)
   look {mid = mid} {hi = hi} {w = w} lo token rule r low less high inner f = and_then inner (λ a v g.
       looks token (rule a v) v (λ d h. record {
-        part = so (marked {Q = Stays v.structs z.structs × (noted z.types token ≡ Some d.ctype)} lo g.part (type_marks token d.ctype v) low less high (λ c. (
+        part = so (marked {Q = Stays v.structs z.structs × (note_at z.types token ≡ Some d.ctype)} lo g.part (type_marks token d.ctype v) low less high (λ c. (
           c.later.structs,
           (c.notes token low (omega (arith, less, high))).types ∙ noted_same v.types token d.ctype (omega (arith, r.types, g.part.types, less, high)),
         ))) (λ c. f a v d c.1.0 h c.0 c.1.1);
@@ -86,14 +86,14 @@ module _ {z : Walk} {still : Bool} where
   -- two parts, and then what is noted at a token before them
   pub look_both : {A B : Type 0} {m : Walked A} {k : A → Walk → Walked B} {P : A → Type 0} {Q : A → B → Type 0} {R : Operand
       → Type 0} {from mid hi : ℕ} {w : Walk}
-      (lo token : ℕ) (rule : A → B → Walk → Looked) → Ready lo hi w → lo ≤ token → token < from → from ≤ mid → mid ≤ hi → Gives m (Leads z still from mid w P)
+      (lo token : ℕ) (rule : A → B → Walk → OperandOrFault) → Ready lo hi w → lo ≤ token → token < from → from ≤ mid → mid ≤ hi → Gives m (Leads z still from mid w P)
       → ((a : A) (v : Walk) → Ready mid hi v → Gives (k a v) (Leads z still mid hi v (Q a)))
-      → ((a : A) (b : B) (u : Walk) (d : Operand) → Stays u.structs z.structs → rule a b u ≡ Ok d → P a → Q a b → noted z.types token ≡ Some d.ctype → R d)
-      → Gives (m >>= λ a v. k a v >>= λ b u. looked token (rule a b u) u) (Leads z still lo hi w R)
+      → ((a : A) (b : B) (u : Walk) (d : Operand) → Stays u.structs z.structs → rule a b u ≡ Ok d → P a → Q a b → note_at z.types token ≡ Some d.ctype → R d)
+      → Gives (m >>= λ a v. k a v >>= λ b u. operand_noted token (rule a b u) u) (Leads z still lo hi w R)
   look_both {mid = mid} {hi = hi} {w = w} lo token rule r low less step high first next f = and_then first (λ a v g.
       and_then (next a v (ready_after r g.part mid hi (omega arith) (omega arith))) (λ b u h.
       looks token (rule a b u) u (λ d i. record {
-        part = so (marked {Q = Stays u.structs z.structs × (noted z.types token ≡ Some d.ctype)} lo (rightwards g.part h.part step high)
+        part = so (marked {Q = Stays u.structs z.structs × (note_at z.types token ≡ Some d.ctype)} lo (rightwards g.part h.part step high)
             (type_marks token d.ctype u) low less
             (omega (arith, step, high)) (λ c. (
               c.later.structs,

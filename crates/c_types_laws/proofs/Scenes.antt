@@ -1,5 +1,5 @@
 -- Names in scope: which of them are on the stack, and what their variables are.
-use Rattle.std.proofs.Common.{◌⊎◌, inl, inr, ⊎_elim, ◌≡◌, ℕ, zero, suc, ◌≤◌, ◌<◌, ◌-◌, refl, ap, subst, sym, ◌∙◌, arith, List, [], ◌∷◌, Some, None, Bool}
+use Rattle.std.proofs.Common.{◌⊎◌, inl, inr, ⊎_elim, ◌≡◌, ℕ, ◌≤◌, ◌<◌, ◌-◌, refl, subst, sym, ◌∙◌, arith, List, [], ◌∷◌, Some, None, Bool}
 use Rattle.std.proofs.Common.{true, false, length}
 use Rattle.std.specs.Prelude.{Option, slice_get, slice_set, nat_lt, if◌then◌else◌}
 use Rattle.std.specs.Option.{option_map}
@@ -10,8 +10,7 @@ use Rattle.std.proofs.lemmas.Slice.Eq.{bytes_eq-Decides}
 use Rattle.std.proofs.lemmas.Option.{slice_get_within, same_Some}
 use Rattle.c_types.proofs.Replaced.{replaced_other, replaced_same}
 use Rattle.c_types.proofs.Noted.{length_replaced}
-use Rattle.base_lists.proofs.Numbers.{less_is}
-use Rattle.base_lists.proofs.Lists.{same_bytes, set_here, set_long, set_other, Stays}
+use Rattle.base_lists.proofs.Lists.{same_bytes, set_here, Stays}
 use Rattle.c_types_rules.specs.declared.layout.StructType.{StructType}
 use Rattle.c_types_rules.specs.declared.library.Library.{Library}
 use Rattle.c_types_rules.specs.Library.{library_named}
@@ -22,7 +21,7 @@ use Rattle.c_types_expressions.specs.declared.names.ScopeEntry.TheVariants.{Open
 use Rattle.c_types_expressions.specs.declared.walk.FunctionEntry.{FunctionEntry}
 use Rattle.c_types_expressions.specs.declared.walk.VariableEntry.{VariableEntry}
 use Rattle.c_types_expressions.specs.declared.walk.Walk.{Walk}
-use Rattle.c_types_expressions.specs.Words.{closed, found, meaning_of, or_before, ended_scopes, replaced}
+use Rattle.c_types_expressions.specs.Words.{names_after_scope, declared_meaning, meaning_of, or_before, ended_scopes, item_replaced}
 use Rattle.c_types_laws.specs.Naming.{IsNamed}
 
 -- the parts of what is known that tell which variables names mean
@@ -205,28 +204,28 @@ module _ (fs : List FunctionEntry) (vs : List VariableEntry) (es : List (Option 
   opens_on rest (Some (meaning.Struct q)) h = h
 
   variable_first : (bound place : ℕ) (other : List ℕ) (rest : List ScopeEntry) (b : Bool) → bytes_eq other name ≡ b
-      → Stack fs vs es at bound (Declares other (meaning.Variable place) ∷ rest) → Finds (found name rest) rest
-      → Finds (or_before (if b then Some (meaning.Variable place) else None) (found name rest)) (Declares other (meaning.Variable place) ∷ rest)
+      → Stack fs vs es at bound (Declares other (meaning.Variable place) ∷ rest) → Finds (declared_meaning name rest) rest
+      → Finds (or_before (if b then Some (meaning.Variable place) else None) (declared_meaning name rest)) (Declares other (meaning.Variable place) ∷ rest)
   variable_first bound place other rest true e k h = (
     subst (λ n. IsNamed n (slice_get vs place)) (same_bytes other name e) k.1,
     k.2,
     k.3,
     λ q o i. ⊎_elim (λ s. omega (arith, s)) (λ r. omega (arith, on_stack_below fs vs es at place q rest k.4 r)) o,
   )
-  variable_first bound place other rest false e k h = behind_variable other place rest (found name rest) (other_bytes other name e) k.1 h
+  variable_first bound place other rest false e k h = behind_variable other place rest (declared_meaning name rest) (other_bytes other name e) k.1 h
 
   function_first : (bound place : ℕ) (other : List ℕ) (rest : List ScopeEntry) (b : Bool) → bytes_eq other name ≡ b
-      → Stack fs vs es at bound (Declares other (meaning.Function place) ∷ rest) → Finds (found name rest) rest
-      → Finds (or_before (if b then Some (meaning.Function place) else None) (found name rest)) (Declares other (meaning.Function place) ∷ rest)
+      → Stack fs vs es at bound (Declares other (meaning.Function place) ∷ rest) → Finds (declared_meaning name rest) rest
+      → Finds (or_before (if b then Some (meaning.Function place) else None) (declared_meaning name rest)) (Declares other (meaning.Function place) ∷ rest)
   function_first bound place other rest true e k h = (
     subst (λ n. FunctionNamed n (slice_get fs place)) (same_bytes other name e) k.0,
     none_on bound rest (subst (λ n. NoVariable n rest) (same_bytes other name e) k.1) k.2,
   )
-  function_first bound place other rest false e k h = function_on place rest (found name rest) other h
+  function_first bound place other rest false e k h = function_on place rest (declared_meaning name rest) other h
 
-  pub finds : (bound : ℕ) (names : List ScopeEntry) → Stack fs vs es at bound names → Finds (found name names) names
+  pub finds : (bound : ℕ) (names : List ScopeEntry) → Stack fs vs es at bound names → Finds (declared_meaning name names) names
   finds bound [] k = λ q h i. h
-  finds bound (Opens ∷ rest) k = opens_on rest (found name rest) (finds bound rest k)
+  finds bound (Opens ∷ rest) k = opens_on rest (declared_meaning name rest) (finds bound rest k)
   finds bound (Declares other (meaning.Variable place) ∷ rest) k = variable_first bound place other rest (bytes_eq other name) refl k (finds place rest k.4)
   finds bound (Declares other (meaning.Function place) ∷ rest) k = function_first bound place other rest (bytes_eq other name) refl k (finds bound rest k.2)
   finds bound (Declares other (meaning.Library function) ∷ rest) k = absurd k
@@ -252,18 +251,18 @@ module _ (fs : List FunctionEntry) (vs : List VariableEntry) (es : List (Option 
   means_by (Some (meaning.Struct place)) names h = absurd h
 
   pub means : (bound : ℕ) (names : List ScopeEntry) → Stack fs vs es at bound names → Means (meaning_of name names) names
-  means bound names k = means_by (found name names) names (finds bound names k)
+  means bound names k = means_by (declared_meaning name names) names (finds bound names k)
 
 -- scopes that end
 
-replaced_at : (xs : List (Option ℕ)) (i l : ℕ) → slice_get (replaced xs i (Some l)) i ≡ Some None → ⊥
+replaced_at : (xs : List (Option ℕ)) (i l : ℕ) → slice_get (item_replaced xs i (Some l)) i ≡ Some None → ⊥
 replaced_at xs i l h = by (nat_lt i (length xs)) refl h
   where
     by : (b : Bool) → nat_lt i (length xs) ≡ b → slice_get (if b then slice_set xs i (Some l) else xs) i ≡ Some None → ⊥
     by true e h = some_none l (sym (set_here xs i (Some l) (grind (arith, nat_tests, e))) ∙ h)
     by false e h = absurd (false≢true (sym e ∙ grind (arith, nat_tests, slice_get_within xs i None h)))
 
-replaced_here : (xs : List (Option ℕ)) (i l e : ℕ) → slice_get (replaced xs i (Some l)) i ≡ Some (Some e) → (e ≡ l) ⊎ (slice_get xs i ≡ Some (Some e))
+replaced_here : (xs : List (Option ℕ)) (i l e : ℕ) → slice_get (item_replaced xs i (Some l)) i ≡ Some (Some e) → (e ≡ l) ⊎ (slice_get xs i ≡ Some (Some e))
 replaced_here xs i l e h = by (nat_lt i (length xs)) refl h
   where
     by : (b : Bool) → nat_lt i (length xs) ≡ b → slice_get (if b then slice_set xs i (Some l) else xs) i ≡ Some (Some e)
@@ -274,7 +273,7 @@ replaced_here xs i l e h = by (nat_lt i (length xs)) refl h
 pub ended_long : (l : ℕ) (names : List ScopeEntry) (es : List (Option ℕ)) → length (ended_scopes l names es) ≡ length es
 ended_long l [] es = refl
 ended_long l (Opens ∷ rest) es = refl
-ended_long l (Declares name (meaning.Variable place) ∷ rest) es = ended_long l rest (replaced es place (Some l)) ∙ length_replaced es place (Some l)
+ended_long l (Declares name (meaning.Variable place) ∷ rest) es = ended_long l rest (item_replaced es place (Some l)) ∙ length_replaced es place (Some l)
 ended_long l (Declares name (meaning.Function place) ∷ rest) es = ended_long l rest es
 ended_long l (Declares name (meaning.Library function) ∷ rest) es = ended_long l rest es
 ended_long l (Declares name (meaning.Struct place) ∷ rest) es = ended_long l rest es
@@ -303,25 +302,25 @@ ends_then l m (Some (Some d)) y t n h k = subst (λ o. EndsOn m o t) h k
 
 module _ (fs : List FunctionEntry) (vs : List VariableEntry) (at l : ℕ) where
   pub stack_ended : (bound : ℕ) (names : List ScopeEntry) (es : List (Option ℕ)) → Stack fs vs es at bound names
-      → Stack fs vs (ended_scopes l names es) at bound (closed names)
+      → Stack fs vs (ended_scopes l names es) at bound (names_after_scope names)
   stack_ended bound [] es k = tt
   stack_ended bound (Opens ∷ rest) es k = k
   stack_ended bound (Declares name (meaning.Variable place) ∷ rest) es k =
-      stack_wider fs vs (ended_scopes l rest (replaced es place (Some l))) at place bound (closed rest) (omega (arith, k.0))
-      (stack_ended place rest (replaced es place (Some l))
-      (stack_same fs fs vs vs es (replaced es place (Some l)) at place rest (λ i x h. h) (λ q h. refl)
+      stack_wider fs vs (ended_scopes l rest (item_replaced es place (Some l))) at place bound (names_after_scope rest) (omega (arith, k.0))
+      (stack_ended place rest (item_replaced es place (Some l))
+      (stack_same fs fs vs vs es (item_replaced es place (Some l)) at place rest (λ i x h. h) (λ q h. refl)
       (λ q h. replaced_other es place q (Some l) (λ e. omega (arith, e, h))) k.4))
   stack_ended bound (Declares name (meaning.Function place) ∷ rest) es k = stack_ended bound rest es k.2
   stack_ended bound (Declares name (meaning.Library function) ∷ rest) es k = absurd k
   stack_ended bound (Declares name (meaning.Struct place) ∷ rest) es k = absurd k
 
   pub opens_ended : (names : List ScopeEntry) (es : List (Option ℕ)) → ((q : ℕ) → slice_get es q ≡ Some None → OnStack q names)
-      → (q : ℕ) → slice_get (ended_scopes l names es) q ≡ Some None → OnStack q (closed names)
+      → (q : ℕ) → slice_get (ended_scopes l names es) q ≡ Some None → OnStack q (names_after_scope names)
   opens_ended [] es h q e = h q e
   opens_ended (Opens ∷ rest) es h q e = h q e
   opens_ended (Declares name (meaning.Variable place) ∷ rest) es h q e =
-      opens_ended rest (replaced es place (Some l)) (λ p d. ⊎_elim
-      (λ s. absurd (replaced_at es place l (subst (λ n. slice_get (replaced es place (Some l)) n ≡ Some None) s d)))
+      opens_ended rest (item_replaced es place (Some l)) (λ p d. ⊎_elim
+      (λ s. absurd (replaced_at es place l (subst (λ n. slice_get (item_replaced es place (Some l)) n ≡ Some None) s d)))
       (λ s. ⊎_elim (λ t. absurd (s t)) (λ o. o) (h p (sym (replaced_other es place p (Some l) (λ t. s (sym t))) ∙ d)))
       (cases_eq p place)) q e
   opens_ended (Declares name (meaning.Function place) ∷ rest) es h q e = opens_ended rest es h q e
@@ -333,9 +332,9 @@ module _ (fs : List FunctionEntry) (vs : List VariableEntry) (at l : ℕ) where
   closes_ended [] es n h q e k = h q e k
   closes_ended (Opens ∷ rest) es n h q e k = h q e k
   closes_ended (Declares name (meaning.Variable place) ∷ rest) es n h q e k =
-      closes_ended rest (replaced es place (Some l)) n (λ p d i. ⊎_elim
+      closes_ended rest (item_replaced es place (Some l)) n (λ p d i. ⊎_elim
       (λ s. ⊎_elim (λ t. omega (arith, t, n)) (λ t. h place d t)
-      (replaced_here es place l d (subst (λ m. slice_get (replaced es place (Some l)) m ≡ Some (Some d)) s i)))
+      (replaced_here es place l d (subst (λ m. slice_get (item_replaced es place (Some l)) m ≡ Some (Some d)) s i)))
       (λ s. h p d (sym (replaced_other es place p (Some l) (λ t. s (sym t))) ∙ i))
       (cases_eq p place)) q e k
   closes_ended (Declares name (meaning.Function place) ∷ rest) es n h q e k = closes_ended rest es n h q e k
@@ -348,15 +347,15 @@ module _ (fs : List FunctionEntry) (vs : List VariableEntry) (at l : ℕ) where
   ends_ended bound [] es k q = ends_here l (slice_get es q)
   ends_ended bound (Opens ∷ rest) es k q = ends_here l (slice_get es q)
   ends_ended bound (Declares name (meaning.Variable place) ∷ rest) es k q =
-      ends_then l l (slice_get es q) (slice_get (replaced es place (Some l)) q) (slice_get (ended_scopes l rest (replaced es place (Some l))) q) (omega arith)
+      ends_then l l (slice_get es q) (slice_get (item_replaced es place (Some l)) q) (slice_get (ended_scopes l rest (item_replaced es place (Some l))) q) (omega arith)
       (⊎_elim
-      (λ s. subst (λ p. EndsOn l (slice_get es p) (slice_get (replaced es place (Some l)) p)) (sym s)
-      (subst (λ o. EndsOn l o (slice_get (replaced es place (Some l)) place)) (sym k.3)
+      (λ s. subst (λ p. EndsOn l (slice_get es p) (slice_get (item_replaced es place (Some l)) p)) (sym s)
+      (subst (λ o. EndsOn l o (slice_get (item_replaced es place (Some l)) place)) (sym k.3)
       (subst (λ o. EndsOn l (Some None) o) (sym (replaced_same es place (Some l) (slice_get_within es place None k.3))) (omega arith))))
       (λ s. subst (λ o. EndsOn l (slice_get es q) o) (sym (replaced_other es place q (Some l) (λ t. s (sym t)))) (ends_here l (slice_get es q)))
       (cases_eq q place))
-      (ends_ended place rest (replaced es place (Some l))
-      (stack_same fs fs vs vs es (replaced es place (Some l)) at place rest (λ i x h. h) (λ p h. refl)
+      (ends_ended place rest (item_replaced es place (Some l))
+      (stack_same fs fs vs vs es (item_replaced es place (Some l)) at place rest (λ i x h. h) (λ p h. refl)
       (λ p h. replaced_other es place p (Some l) (λ e. omega (arith, e, h))) k.4) q)
   ends_ended bound (Declares name (meaning.Function place) ∷ rest) es k q = ends_ended bound rest es k.2 q
   ends_ended bound (Declares name (meaning.Library function) ∷ rest) es k q = absurd k

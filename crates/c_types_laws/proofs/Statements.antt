@@ -14,19 +14,19 @@ use Rattle.c_syntax.specs.declared.parts.Declarator.{Declarator}
 use Rattle.c_syntax.specs.Words.{first_token, ExprTree, InitialTree, StartTree, DeclarationTree, ForStartTree, StatementTree, EntryList, DeclarationAt, EachAt}
 use Rattle.c_syntax.specs.Words.{EntriesAt, ExprAt, ForStartAt, InitialAt, StartAt, StatementAt, ShapedDeclaration, ShapedEntries, ShapedExpr, ShapedForStart}
 use Rattle.c_syntax.specs.Words.{ShapedInitial, ShapedStart, ShapedStatement, Kinds, a_name, a_sign, a_word, after_commas, base_kinds, bound_kinds, comma_kinds}
-use Rattle.c_syntax.specs.Words.{declaration_kinds, declarator_kinds, entry_kinds, expr_kinds, exprs_kinds, for_start_kinds, initial_kinds, optional}
-use Rattle.c_syntax.specs.Words.{parenthesized, star_kinds, start_kinds, statement_kinds, with_commas}
+use Rattle.c_syntax.specs.Words.{declaration_kinds, declarator_kinds, entry_kinds, expr_kinds, exprs_kinds, for_start_kinds, initial_kinds, optional_kinds}
+use Rattle.c_syntax.specs.Words.{parenthesized_kinds, star_kinds, start_kinds, statement_kinds, with_commas}
 use Rattle.c_syntax.specs.StatementTree as s
 use Rattle.c_types_rules.specs.declared.fault.FaultKind.{FaultKind}
 use Rattle.c_types_rules.specs.declared.fault.FaultKind.TheVariants as fault
 use Rattle.c_types_rules.specs.declared.operand.Operand.{Operand}
-use Rattle.c_types_rules.specs.Words.{TypeTree, assignable, is_struct, is_void, is_scalar_value, cells_of, is_object, most_cells}
+use Rattle.c_types_rules.specs.Words.{TypeTree, is_assignable, is_struct, is_void, is_scalar_value, cells_of, is_object, most_cells}
 use Rattle.c_types_expressions.specs.declared.walk.Walk.{Walk}
 use Rattle.c_types_walk.specs.Declarators.{declared_type, is_open}
-use Rattle.c_types_walk.specs.Initialisers.{cells_of_string, completes, listed_type, valued, walk_initial}
-use Rattle.c_types.specs.Answers.{noted}
-use Rattle.c_types_expressions.specs.Words.{closed, is_name_taken, Walked, Fine, Done, opened, unless, with_variable}
-use Rattle.c_types_walk.specs.StatementWalk.{counted_cells, is_condition_part, is_struct_part, sized, walk_closed, walk_declaration, walk_entries, walk_for_start}
+use Rattle.c_types_walk.specs.Initialisers.{cells_of_string, type_or_fault, listed_type, type_by_expression, walk_initial}
+use Rattle.c_types.specs.Answers.{note_at}
+use Rattle.c_types_expressions.specs.Words.{names_after_scope, is_name_taken, Walked, Fine, Done, scope_opened, fault_if_wrong, with_variable}
+use Rattle.c_types_walk.specs.StatementWalk.{counted_cells, is_condition_part, is_struct_part, object_type_checked, walk_closed, walk_declaration, walk_entries, walk_for_start}
 use Rattle.c_types_walk.specs.StatementWalk.{walk_open, walk_optional, walk_start, walk_starts, walk_statement, walk_typed, with_declared_type}
 use Rattle.c_types_laws.specs.Naming.{DeclaresVariable}
 use Rattle.c_types_laws.specs.Fits.{DeclarationFits, EntriesFit, ExprFits, ConditionFits, ForStartFits, InitialFits, ConditionIsScalar, PartFits, StartFits}
@@ -66,7 +66,7 @@ module _ {z : Walk} where
     functions_at = ap (λ xs. length xs) f;
     below = λ token h. same token;
     above = λ token h. same token;
-    scope = ap (λ (x : Scene). closed x.names) s;
+    scope = ap (λ (x : Scene). names_after_scope x.names) s;
     flat = λ h. subst (λ (x : Scene). IsFlat x.names) (sym s) h;
     later = subst (λ x. Later lo (scene w) w.latest x v.latest) (sym s) (later_here lo (scene w) w.latest v.latest (omega (arith, l)));
     sound = subst (λ x. Sound hi v.latest x) (sym s) (subst (λ m. Sound hi m (scene w)) (sym l) (sound_later high k));
@@ -74,16 +74,53 @@ module _ {z : Walk} where
   }
     where
       same : (token : ℕ) → Same w v token
-      same token = record { types = ap (λ xs. noted xs token) t; variables = ap (λ xs. noted xs token) n; functions = ap (λ xs. noted xs token) f }
+      same token = record { types = ap (λ xs. note_at xs token) t; variables = ap (λ xs. note_at xs token) n; functions = ap (λ xs. note_at xs token) f }
+
+-- how many tokens a part has
+
+pub if_long : (c : ExprTree) (x : StatementTree) → length (statement_kinds (s.If 0 c x)) ≡ 3 + length (expr_kinds c) + length (statement_kinds x)
+if_long c x = omega (arith, length-append (a_word word.If ++ parenthesized_kinds (expr_kinds c)) (statement_kinds x), around (expr_kinds c))
+
+pub else_long : (c : ExprTree) (x y : StatementTree)
+    → length (statement_kinds (s.IfElse 0 c x y)) ≡ 4 + length (expr_kinds c) + length (statement_kinds x) + length (statement_kinds y)
+else_long c x y = omega (
+  arith,
+  length-append (a_word word.If ++ parenthesized_kinds (expr_kinds c) ++ statement_kinds x ++ a_word word.Else) (statement_kinds y),
+  length-append (a_word word.If ++ parenthesized_kinds (expr_kinds c) ++ statement_kinds x) (a_word word.Else),
+  length-append (a_word word.If ++ parenthesized_kinds (expr_kinds c)) (statement_kinds x),
+  around (expr_kinds c),
+)
+
+pub do_long : (c : ExprTree) (x : StatementTree) → length (statement_kinds (s.Do 0 x c)) ≡ 5 + length (expr_kinds c) + length (statement_kinds x)
+do_long c x = omega (
+  arith,
+  length-append (a_word word.Do ++ statement_kinds x ++ a_word word.While ++ parenthesized_kinds (expr_kinds c)) (a_sign sign.Semicolon),
+  length-append (a_word word.Do ++ statement_kinds x ++ a_word word.While) (parenthesized_kinds (expr_kinds c)),
+  length-append (a_word word.Do ++ statement_kinds x) (a_word word.While),
+  around (expr_kinds c),
+)
+
+pub for_long : (b : ForStartTree) (c d : Option ExprTree) (x : StatementTree) → length (statement_kinds (s.For 0 b c d x))
+    ≡ 4 + length (for_start_kinds b) + length (optional_kinds expr_kinds c) + length (optional_kinds expr_kinds d) + length (statement_kinds x)
+for_long b c d x =
+    let inner : Kinds = for_start_kinds b ++ optional_kinds expr_kinds c ++ a_sign sign.Semicolon ++ optional_kinds expr_kinds d in
+    omega (
+      arith,
+      length-append (a_word word.For ++ parenthesized_kinds inner) (statement_kinds x),
+      around inner,
+      length-append (for_start_kinds b ++ optional_kinds expr_kinds c ++ a_sign sign.Semicolon) (optional_kinds expr_kinds d),
+      length-append (for_start_kinds b ++ optional_kinds expr_kinds c) (a_sign sign.Semicolon),
+      length-append (for_start_kinds b) (optional_kinds expr_kinds c),
+    )
 
 module _ (z : Walk) where
   unless_leads : (lo hi : ℕ) (wrong : Bool) (kind : FaultKind) (token : ℕ) (w : Walk) → Ready lo hi w
-      → Gives (unless wrong kind token w) (Leads z false lo lo w (λ d. Unit {0}))
+      → Gives (fault_if_wrong wrong kind token w) (Leads z false lo lo w (λ d. Unit {0}))
   unless_leads lo hi wrong kind token w r = refused wrong kind token (Fine tt w) (λ h. nothing tt r (omega arith) tt)
 
   -- the cells of a variable
   sized_leads : (lo hi : ℕ) (global : Bool) (token : ℕ) (t : TypeTree) (w : Walk) → Ready lo hi w
-      → Gives (sized global token t w) (Leads z false lo lo w (λ d. Unit {0}))
+      → Gives (object_type_checked global token t w) (Leads z false lo lo w (λ d. Unit {0}))
   sized_leads lo hi global token t w r =
       allowed (is_object w.structs t) fault.Object token (counted_cells global token (cells_of w.structs t) w) (λ h.
       either (not global) (Fine tt w) _ (nothing tt r (omega arith) tt)
@@ -96,7 +133,7 @@ module _ (z : Walk) where
       })))
 
   completes_leads : {P : Type 0} (lo hi token : ℕ) (t : Option TypeTree) (w : Walk) → Ready lo hi w → lo ≤ hi → P
-      → Gives (completes token t w) (Leads z false lo hi w (λ d. P))
+      → Gives (type_or_fault token t w) (Leads z false lo hi w (λ d. P))
   completes_leads lo hi token None w r high p = record { by = tt }
   completes_leads lo hi token (Some t) w r high p = nothing t r high p
 
@@ -107,7 +144,7 @@ module _ (z : Walk) where
   initial_leads global t (s.Value value) at w h p r =
       seq {Q = λ a u. Unit {0}} (at + length (expr_kinds value)) r (omega arith) (omega arith) (at_large (expr_leads z value at w h.1 p r))
       (λ a v r2. completes_leads (at + length (expr_kinds value)) (at + length (expr_kinds value)) (first_token value)
-      (valued global t value a (cells_of_string value)) v r2 (omega arith) tt)
+      (type_by_expression global t value a (cells_of_string value)) v r2 (omega arith) tt)
       (λ a u f g. f.0)
   initial_leads global t (s.Braced token items comma) at w h p r =
       let long : length (initial_kinds (s.Braced token items comma)) ≡ 2 + length (exprs_kinds items) + length (comma_kinds comma) =
@@ -120,19 +157,19 @@ module _ (z : Walk) where
       (λ a u f g. f.1.1.0)
 
   some_initial_leads : (global : Bool) (t : TypeTree) (o : Option InitialTree) (at : ℕ) (w : Walk) → IfSome o ShapedInitial → IfSome o (InitialAt (at + 1))
-      → Ready at (at + length (optional (λ y. a_sign sign.Equal ++ initial_kinds y) o)) w
-      → Gives (walk_initial global t o w) (Leads z false at (at + length (optional (λ y. a_sign sign.Equal ++ initial_kinds y) o)) w (λ u. InitialFits z o))
+      → Ready at (at + length (optional_kinds (λ y. a_sign sign.Equal ++ initial_kinds y) o)) w
+      → Gives (walk_initial global t o w) (Leads z false at (at + length (optional_kinds (λ y. a_sign sign.Equal ++ initial_kinds y) o)) w (λ u. InitialFits z o))
   some_initial_leads global t None at w s p r = nothing t r (omega arith) tt
   some_initial_leads global t (Some x) at w s p r =
-      widely at (at + length (optional (λ y. a_sign sign.Equal ++ initial_kinds y) (Some x))) (initial_leads global t x (at + 1) w s p
+      widely at (at + length (optional_kinds (λ y. a_sign sign.Equal ++ initial_kinds y) (Some x))) (initial_leads global t x (at + 1) w s p
       (ready_in r (at + 1) (at + 1 + length (initial_kinds x)) (omega arith) (omega arith))) (omega arith) (omega arith)
 
   abbrev StartLeads : ℕ → StartTree → Walk → Walked Done → Type 0
   StartLeads at x w m = Gives m (Leads z false at (at + length (start_kinds x)) w (λ d. StartFits z x))
 
   start_long : (x : StartTree) → length (start_kinds x)
-      ≡ length (declarator_kinds x.declarator) + length (optional (λ y. a_sign sign.Equal ++ initial_kinds y) x.initial)
-  start_long x = length-append (declarator_kinds x.declarator) (optional (λ y. a_sign sign.Equal ++ initial_kinds y) x.initial)
+      ≡ length (declarator_kinds x.declarator) + length (optional_kinds (λ y. a_sign sign.Equal ++ initial_kinds y) x.initial)
+  start_long x = length-append (declarator_kinds x.declarator) (optional_kinds (λ y. a_sign sign.Equal ++ initial_kinds y) x.initial)
 
   -- a variable, and then its initialiser
   variable_first : (global : Bool) (x : StartTree) (t : TypeTree) (at : ℕ) (w : Walk) → ShapedStart x → StartAt at x → Ready at (at + length (start_kinds x)) w
@@ -145,7 +182,7 @@ module _ (z : Walk) where
       declared at (at + ld) global x.declarator.name_token x.declarator.name t w (ready_in r at (at + ld) (omega arith) (omega (arith, start_long x)))
       (omega (arith, p.1.1)) (omega (arith, p.1.1, declarator_long x.declarator)) in
       weaker (some_initial_leads global t x.initial (at + ld) (with_variable global x.declarator.name_token x.declarator.name t w) s p.2
-      (ready_after r first (at + ld) (at + ld + length (optional (λ y. a_sign sign.Equal ++ initial_kinds y) x.initial)) (omega arith)
+      (ready_after r first (at + ld) (at + ld + length (optional_kinds (λ y. a_sign sign.Equal ++ initial_kinds y) x.initial)) (omega arith)
       (omega (arith, start_long x))))
       (λ u v g. record {
         part = wider at (at + length (start_kinds x)) (rightwards first g.part (omega arith) (omega arith)) (omega arith) (omega (arith, start_long x));
@@ -235,8 +272,8 @@ module _ (z : Walk) where
   ForStartGood (s.Declares d) a = DeclarationFits z d × (a ≡ None)
   ForStartGood (s.Computes x) a = GoodOption x a
 
-  optional_leads : (o : Option ExprTree) (at : ℕ) (w : Walk) → IfSome o ShapedExpr → IfSome o (ExprAt at) → Ready at (at + length (optional expr_kinds o)) w
-      → Gives (walk_optional o w) (Leads z false at (at + length (optional expr_kinds o)) w (GoodOption o))
+  optional_leads : (o : Option ExprTree) (at : ℕ) (w : Walk) → IfSome o ShapedExpr → IfSome o (ExprAt at) → Ready at (at + length (optional_kinds expr_kinds o)) w
+      → Gives (walk_optional o w) (Leads z false at (at + length (optional_kinds expr_kinds o)) w (GoodOption o))
   optional_leads None at w s p r = nothing None r (omega arith) refl
   optional_leads (Some x) at w s p r =
       seq {Q = λ a b. b ≡ Some a} (at + length (expr_kinds x)) r (omega arith) (omega arith) (at_large (expr_leads z x at w s p r))
@@ -248,9 +285,9 @@ module _ (z : Walk) where
       seq {Q = λ a b. b ≡ None} (at + length (declaration_kinds d)) r (omega arith) (omega arith) (declaration_leads false d at w h p r)
       (λ a v r2. nothing None r2 (omega arith) refl) (λ a b f g. (f, g))
   for_start_leads (s.Computes x) at w h p r =
-      let long : length (for_start_kinds (s.Computes x)) ≡ length (optional expr_kinds x) + 1 = length-append (optional expr_kinds x) (a_sign sign.Semicolon) in
+      let long : length (for_start_kinds (s.Computes x)) ≡ length (optional_kinds expr_kinds x) + 1 = length-append (optional_kinds expr_kinds x) (a_sign sign.Semicolon) in
       widely at (at + length (for_start_kinds (s.Computes x))) (optional_leads x at w h p
-      (ready_in r at (at + length (optional expr_kinds x)) (omega arith) (omega (arith, long)))) (omega arith) (omega (arith, long))
+      (ready_in r at (at + length (optional_kinds expr_kinds x)) (omega arith) (omega (arith, long)))) (omega arith) (omega (arith, long))
 
   part_fits : (o : Option ExprTree) (a : Option Operand) → GoodOption o a → is_struct_part a ≡ false → PartFits z o
   part_fits None a h k = tt
@@ -270,43 +307,8 @@ module _ (z : Walk) where
 
   -- what is asked of a value, behind the parts of its statement
   asked : (lo hi : ℕ) (wrong : Bool) (kind : FaultKind) (token : ℕ) (w : Walk) → Ready lo hi w → lo ≤ hi
-      → Gives (unless wrong kind token w) (Leads z false lo hi w (λ d. wrong ≡ false))
+      → Gives (fault_if_wrong wrong kind token w) (Leads z false lo hi w (λ d. wrong ≡ false))
   asked lo hi wrong kind token w r high = refused wrong kind token (Fine tt w) (λ h. nothing tt r high h)
-
-  if_long : (c : ExprTree) (x : StatementTree) → length (statement_kinds (s.If 0 c x)) ≡ 3 + length (expr_kinds c) + length (statement_kinds x)
-  if_long c x = omega (arith, length-append (a_word word.If ++ parenthesized (expr_kinds c)) (statement_kinds x), around (expr_kinds c))
-
-  else_long : (c : ExprTree) (x y : StatementTree)
-      → length (statement_kinds (s.IfElse 0 c x y)) ≡ 4 + length (expr_kinds c) + length (statement_kinds x) + length (statement_kinds y)
-  else_long c x y = omega (
-    arith,
-    length-append (a_word word.If ++ parenthesized (expr_kinds c) ++ statement_kinds x ++ a_word word.Else) (statement_kinds y),
-    length-append (a_word word.If ++ parenthesized (expr_kinds c) ++ statement_kinds x) (a_word word.Else),
-    length-append (a_word word.If ++ parenthesized (expr_kinds c)) (statement_kinds x),
-    around (expr_kinds c),
-  )
-
-  do_long : (c : ExprTree) (x : StatementTree) → length (statement_kinds (s.Do 0 x c)) ≡ 5 + length (expr_kinds c) + length (statement_kinds x)
-  do_long c x = omega (
-    arith,
-    length-append (a_word word.Do ++ statement_kinds x ++ a_word word.While ++ parenthesized (expr_kinds c)) (a_sign sign.Semicolon),
-    length-append (a_word word.Do ++ statement_kinds x ++ a_word word.While) (parenthesized (expr_kinds c)),
-    length-append (a_word word.Do ++ statement_kinds x) (a_word word.While),
-    around (expr_kinds c),
-  )
-
-  for_long : (b : ForStartTree) (c d : Option ExprTree) (x : StatementTree) → length (statement_kinds (s.For 0 b c d x))
-      ≡ 4 + length (for_start_kinds b) + length (optional expr_kinds c) + length (optional expr_kinds d) + length (statement_kinds x)
-  for_long b c d x =
-      let inner : Kinds = for_start_kinds b ++ optional expr_kinds c ++ a_sign sign.Semicolon ++ optional expr_kinds d in
-      omega (
-        arith,
-        length-append (a_word word.For ++ parenthesized inner) (statement_kinds x),
-        around inner,
-        length-append (for_start_kinds b ++ optional expr_kinds c ++ a_sign sign.Semicolon) (optional expr_kinds d),
-        length-append (for_start_kinds b ++ optional expr_kinds c) (a_sign sign.Semicolon),
-        length-append (for_start_kinds b) (optional expr_kinds c),
-      )
 
   abbrev StatementLeads : TypeTree → Bool → ℕ → StatementTree → Walk → Walked Done → Type 0
   StatementLeads gives looping at x w m = Gives m (Leads z false at (at + length (statement_kinds x)) w (λ d. StatementFits z gives looping x))
@@ -317,7 +319,7 @@ module _ (z : Walk) where
     statement_leads gives looping (s.Block token entries) at w h p r =
         let long : length (statement_kinds (s.Block token entries)) ≡ 2 + length (entry_kinds entries) =
         omega (arith, length-append (entry_kinds entries) (a_sign sign.RightBrace)) in
-        and_then (entries_leads gives looping entries (at + 1) (opened w) h p.1
+        and_then (entries_leads gives looping entries (at + 1) (scope_opened w) h p.1
         (ready_opened (ready_in r (at + 1) (at + 1 + length (entry_kinds entries)) (omega arith) (omega (arith, long)))))
         (λ d u g. record {
           by = record {
@@ -392,13 +394,13 @@ module _ (z : Walk) where
         (λ d k f g. (f, g.0, g.1))
     statement_leads gives looping (s.For token b c d x) at w h p r =
         let long : length (statement_kinds (s.For token b c d x))
-        ≡ 4 + length (for_start_kinds b) + length (optional expr_kinds c) + length (optional expr_kinds d) + length (statement_kinds x) = for_long b c d x in
+        ≡ 4 + length (for_start_kinds b) + length (optional_kinds expr_kinds c) + length (optional_kinds expr_kinds d) + length (statement_kinds x) = for_long b c d x in
         let hi : ℕ = at + length (statement_kinds (s.For token b c d x)) in
         let one : ℕ = at + 2 + length (for_start_kinds b) in
-        let two : ℕ = one + length (optional expr_kinds c) in
-        let three : ℕ = two + 1 + length (optional expr_kinds d) in
-        let r0 : Ready (at + 2) hi (opened w) = ready_opened (ready_in r (at + 2) hi (omega arith) (omega arith)) in
-        and_then (for_start_leads b (at + 2) (opened w) h.0 p.1 (ready_in r0 (at + 2) one (omega arith) (omega (arith, long)))) (λ x1 v g1.
+        let two : ℕ = one + length (optional_kinds expr_kinds c) in
+        let three : ℕ = two + 1 + length (optional_kinds expr_kinds d) in
+        let r0 : Ready (at + 2) hi (scope_opened w) = ready_opened (ready_in r (at + 2) hi (omega arith) (omega arith)) in
+        and_then (for_start_leads b (at + 2) (scope_opened w) h.0 p.1 (ready_in r0 (at + 2) one (omega arith) (omega (arith, long)))) (λ x1 v g1.
         let r1 : Ready one hi v = ready_after r0 g1.part one hi (omega arith) (omega arith) in
         and_then (optional_leads c one v h.1 p.2 (ready_in r1 one two (omega arith) (omega (arith, long)))) (λ x2 u g2.
         let r2 : Ready two hi u = ready_after r1 g2.part two hi (omega arith) (omega arith) in
@@ -425,12 +427,12 @@ module _ (z : Walk) where
         let long : length (statement_kinds (s.Return token (Some x))) ≡ length (expr_kinds x) + 2 =
         omega (arith, length-append (a_word word.Return ++ expr_kinds x) (a_sign sign.Semicolon)) in
         let hi : ℕ = at + length (statement_kinds (s.Return token (Some x))) in
-        seq {Q = λ a d. (is_void gives ≡ false) × (not (assignable gives a) ≡ false)} hi r (omega arith) (omega arith)
+        seq {Q = λ a d. (is_void gives ≡ false) × (not (is_assignable gives a) ≡ false)} hi r (omega arith) (omega arith)
         (widely at hi (at_large (expr_leads z x (at + 1) w h p.1
         (ready_in r (at + 1) (at + 1 + length (expr_kinds x)) (omega arith) (omega (arith, long))))) (omega arith) (omega (arith, long)))
-        (λ a v r2. refused (is_void gives) fault.Jump token (unless (not (assignable gives a)) fault.Operands token v)
-        (λ k. leads_so (asked hi hi (not (assignable gives a)) fault.Operands token v r2 (omega arith)) (λ d h. (k, h))))
-        (λ a d f g. (f.0, g.0, of_is z (Accepts gives) (operand z x) a (operand_is z x a f.1) (accepts gives a (not-false (assignable gives a) g.1))))
+        (λ a v r2. refused (is_void gives) fault.Jump token (fault_if_wrong (not (is_assignable gives a)) fault.Operands token v)
+        (λ k. leads_so (asked hi hi (not (is_assignable gives a)) fault.Operands token v r2 (omega arith)) (λ d h. (k, h))))
+        (λ a d f g. (f.0, g.0, of_is z (Accepts gives) (operand z x) a (operand_is z x a f.1) (accepts gives a (not-false (is_assignable gives a) g.1))))
     statement_leads gives looping (s.Break token) at w h p r =
         leads_so (asked at (at + length (statement_kinds (s.Break token))) (not looping) fault.Jump token w r (omega arith)) (λ d h. not-false looping h)
     statement_leads gives looping (s.Continue token) at w h p r =

@@ -1,29 +1,26 @@
 -- What a part of the walk notes, at which tokens, and what holds where nothing is noted there later.
-use Rattle.std.proofs.Common.{◌⊎◌, inl, inr, ⊎_elim, ◌≡◌, ℕ, ◌≤◌, ◌<◌, ◌-◌, refl, ap, subst, sym, ◌∙◌, arith, List, [], ◌∷◌, Some, None, Ok, Err, ◌+◌, length}
-use Rattle.std.specs.Prelude.{Option, slice_get, max}
-use Rattle.std.specs.Option.{unwrap_or}
+use Rattle.std.proofs.Common.{◌⊎◌, inl, inr, ⊎_elim, ◌≡◌, ℕ, ◌≤◌, ◌<◌, ◌-◌, refl, ap, subst, sym, ◌∙◌, arith, List, [], ◌∷◌, Some, ◌+◌, length}
+use Rattle.std.specs.Prelude.{slice_get, max}
 use Rattle.std.proofs.Math.Nat.{le-max_left}
-use Rattle.std.proofs.lemmas.Bool.Decides.{nat_tests}
 use Rattle.c_types.proofs.Replaced.{noted_other}
 use Rattle.base_lists.proofs.Lists.{Stays}
 use Rattle.c_types.proofs.Noted.{length_replaced}
 use Rattle.base_lists.proofs.Numbers.{max_most}
-use Rattle.c_types_rules.specs.declared.operand.Operand.{Operand}
-use Rattle.c_types_rules.specs.Words.{Looked, TypeTree}
+use Rattle.c_types_rules.specs.Words.{TypeTree}
 use Rattle.c_types_expressions.specs.declared.names.ScopeEntry.{ScopeEntry}
 use Rattle.c_types_expressions.specs.declared.names.ScopeEntry.TheVariants.{Opens}
 use Rattle.c_types_expressions.specs.declared.names.ScopeEntry.TheVariants as entry
 use Rattle.c_types_expressions.specs.declared.walk.VariableEntry.{VariableEntry}
 use Rattle.c_types_expressions.specs.declared.walk.Walk.{Walk}
-use Rattle.c_types.specs.Answers.{noted}
-use Rattle.c_types_expressions.specs.Words.{looked, with_call, with_offset, with_use, closed, Walked, Fine, Faulty, ◌>>=◌, replaced, with_type}
+use Rattle.c_types.specs.Answers.{note_at}
+use Rattle.c_types_expressions.specs.Words.{with_call, with_offset, with_use, names_after_scope, ◌>>=◌, with_type}
 use Rattle.c_types_laws.proofs.Scenes.{EndsOn, Scene, Sound, ends_here, ends_then, scene, stack_later}
 
 -- the notes at a token are the same
 pub record Same (w v : Walk) (token : ℕ) : Type 0 where
-  pub types : noted v.types token ≡ noted w.types token
-  pub variables : noted v.variables_at token ≡ noted w.variables_at token
-  pub functions : noted v.functions_at token ≡ noted w.functions_at token
+  pub types : note_at v.types token ≡ note_at w.types token
+  pub variables : note_at v.variables_at token ≡ note_at w.variables_at token
+  pub functions : note_at v.functions_at token ≡ note_at w.functions_at token
 
 pub same_here : (w : Walk) (token : ℕ) → Same w w token
 same_here w token = record { types = refl; variables = refl; functions = refl }
@@ -175,7 +172,7 @@ module _ (z : Walk) where
     pub functions_at : length v.functions_at ≡ length w.functions_at
     pub below : (token : ℕ) → token < lo → Same w v token
     pub above : (token : ℕ) → hi ≤ token → Same w v token
-    pub scope : closed v.names ≡ closed w.names
+    pub scope : names_after_scope v.names ≡ names_after_scope w.names
     pub flat : IsFlat w.names → IsFlat v.names
     pub later : Later lo (scene w) w.latest (scene v) v.latest
     pub sound : Sound hi v.latest (scene v)
@@ -228,7 +225,7 @@ module _ {z : Walk} where
     functions_at = k.functions_at ∙ a.functions_at;
     below = λ q h. same_then (a.below q (omega (arith, low, mid, h))) (k.apart q (λ e. omega (arith, e, low, h)));
     above = λ q h. same_then (a.above q h) (k.apart q (λ e. omega (arith, e, mid, high, h)));
-    scope = ap (λ (s : Scene). closed s.names) k.scene ∙ a.scope;
+    scope = ap (λ (s : Scene). names_after_scope s.names) k.scene ∙ a.scope;
     flat = λ h. subst (λ (s : Scene). IsFlat s.names) (sym k.scene) (a.flat h);
     later = later_then (later_from a.later (omega (arith, low, mid))) (marks_later k lo) (omega arith);
     sound = marks_sound k (omega (arith, mid, high)) a.sound;
@@ -297,7 +294,7 @@ module _ {z : Walk} where
     functions_at = k.functions_at;
     below = λ q h. k.apart q (λ e. omega (arith, e, h));
     above = λ q h. k.apart q (λ e. omega (arith, e, h));
-    scope = ap (λ (s : Scene). closed s.names) k.scene;
+    scope = ap (λ (s : Scene). names_after_scope s.names) k.scene;
     flat = λ h. subst (λ (s : Scene). IsFlat s.names) (sym k.scene) h;
     later = marks_later k token;
     sound = marks_sound k (omega arith) (sound_later (omega arith) s);

@@ -1,10 +1,11 @@
 -- What a name means where it is used, said of what is known at the end.
-use Rattle.std.proofs.Common.{⊎_elim, ◌≡◌, ℕ, zero, suc, ◌≤◌, ◌<◌, ◌-◌, refl, subst, sym, ◌∙◌, arith, List, [], ◌∷◌, Some, None, ◌+◌, true, length}
+use Rattle.std.proofs.Common.{⊎_elim, ◌≡◌, ℕ, ◌≤◌, ◌<◌, ◌-◌, refl, subst, sym, ◌∙◌, arith, List, [], ◌∷◌, Some, None, ◌+◌, true, length}
 use Rattle.std.specs.Prelude.{Option, slice_get}
 use Rattle.std.proofs.lemmas.Bool.{false≢true}
 use Rattle.std.proofs.lemmas.Bool.Decides.{nat_tests}
 use Rattle.std.proofs.lemmas.Option.{slice_get_within}
-use Rattle.base_lists.proofs.Lists.{Stays}
+use Rattle.base_lists.proofs.Lists.{item_there, Stays}
+use Rattle.base_lists.proofs.Options.{none_some}
 use Rattle.c_types_expressions.specs.declared.walk.VariableEntry.{VariableEntry}
 use Rattle.c_types_expressions.specs.declared.walk.Walk.{Walk}
 use Rattle.c_types.specs.Answers.{scope_holds, span_holds}
@@ -52,18 +53,7 @@ module _ {token l n m : ℕ} {s r : Scene} (z : Walk) (sound : Sound token n s) 
       absurd (no_end q (omega (arith, slice_get_within s.variables q v j, sound.long)) k)
     where
       no_end : (q : ℕ) → q < length s.ends → slice_get s.ends q ≡ None → ⊥
-      no_end q less none = some_gone (slice_get_is s.ends q less) none
-        where
-          some_gone : {A : Type 0} {o : Option A} → (x : A) × (o ≡ Some x) → o ≡ None → ⊥
-          some_gone p none = absurd (gone p.0 (sym none ∙ p.1))
-            where
-              gone : {A : Type 0} (x : A) → None ≡ Some x → ⊥
-              gone x h = absurd (cc)
-
-          slice_get_is : {A : Type 0} (xs : List A) (i : ℕ) → i < length xs → (x : A) × (slice_get xs i ≡ Some x)
-          slice_get_is [] i h = absurd (omega (arith, h))
-          slice_get_is (x ∷ xs) zero h = (x, refl)
-          slice_get_is (x ∷ xs) (suc i) h = slice_get_is xs i (omega (arith, h))
+      no_end q less none = let there = item_there s.ends q less in none_some (sym none ∙ there.1)
   open_is name q v (Some None) i j k h = sound.opens q k
   open_is name q v (Some (Some e)) i j k h =
       absurd (span_past token e v

@@ -17,8 +17,8 @@ use Rattle.c_types_rules.specs.Words.{TypeTree, Void, Char, Int, Unsigned, Point
 use Rattle.c_types_rules.specs.Words.{fits_format, library_called, library_named}
 use Rattle.c_types_expressions.specs.declared.walk.FunctionEntry.{FunctionEntry}
 use Rattle.c_types_expressions.specs.declared.walk.Walk.{Walk}
-use Rattle.c_types.specs.Answers.{noted, type_at}
-use Rattle.c_types_expressions.specs.ExprWalk.{binary_of, compound_of, flat, string_cells}
+use Rattle.c_types.specs.Answers.{note_at, type_at}
+use Rattle.c_types_expressions.specs.ExprWalk.{binary_of, compound_of, concatenated_strings, string_cells}
 use Rattle.c_types_walk.specs.ItemWalk.{listed_params}
 use Rattle.c_meaning.specs.Words.{is_null_constant, token_of}
 use Rattle.c_types_laws.specs.Naming.{DeclaresVariable, NamesNone, NamesVariable}
@@ -96,7 +96,7 @@ module _ (w : Walk) where
 
   -- a call of a function that was declared, whose place is noted at the name (6.5.2.2p2)
   abbrev pub CallsFunction : ℕ → List ℕ → ExprList → TypeTree → Type 0
-  CallsFunction token name arguments t = (place : ℕ) × ((noted w.functions_at token ≡ Some place)
+  CallsFunction token name arguments t = (place : ℕ) × ((note_at w.functions_at token ≡ Some place)
       × CalleeFits (slice_get w.functions place) name (λ f. ArgumentsFit f.params arguments × (t ≡ f.gives)))
 
   abbrev pub CallFits : ℕ → List ℕ → ExprList → TypeTree → Type 0
@@ -146,7 +146,7 @@ module _ (w : Walk) where
 
   -- the arguments of a `printf`: a string, and one behind it for each conversion (7.19.6.1)
   abbrev pub FormatFits : ExprList → Type 0
-  FormatFits (e.more_exprs (e.Strings token parts) rest) = (xs : List Operand) × (Operands rest xs × (fits_format (flat parts) xs ≡ true))
+  FormatFits (e.more_exprs (e.Strings token parts) rest) = (xs : List Operand) × (Operands rest xs × (fits_format (concatenated_strings parts) xs ≡ true))
   FormatFits arguments = ⊥
 
   abbrev pub PrintFits : ℕ → List ℕ → ExprList → Type 0

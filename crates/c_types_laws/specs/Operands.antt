@@ -9,8 +9,9 @@ use Rattle.c_syntax.specs.declared.expr.PrefixOperator.TheVariants as prefix
 use Rattle.c_types_rules.specs.declared.layout.Member.{Member}
 use Rattle.c_types_rules.specs.declared.layout.StructType.{StructType}
 use Rattle.c_types_rules.specs.declared.operand.Operand.{Operand}
-use Rattle.c_types_rules.specs.Words.{TypeTree, Void, Int, Unsigned, Pointer, common, is_arithmetic, is_array, is_pointer, is_scalar, is_void, is_void_pointer}
-use Rattle.c_types_rules.specs.Words.{promoted, value_of, value_type, joined_pointer, member_of, is_complete}
+use Rattle.c_types_rules.specs.Words.{TypeTree, Void, Int, Unsigned, Pointer, common_type, is_arithmetic, is_array, is_pointer, is_scalar, is_void}
+use Rattle.c_types_rules.specs.Words.{is_void_pointer}
+use Rattle.c_types_rules.specs.Words.{promoted_type, value_of, value_type, joined_pointer, member_of, is_complete}
 
 abbrev pub IsArithmetic : TypeTree → Type 0
 IsArithmetic t = is_arithmetic t ≡ true
@@ -31,7 +32,7 @@ PointsToObject structs t = ⊥
 
 -- both operands arithmetic, brought to a common type (6.3.1.8): multiplicative and bitwise operators (6.5.5p2, 6.5.10p2, 6.5.11p2, 6.5.12p2)
 abbrev pub Calculates : TypeTree → TypeTree → TypeTree → Type 0
-Calculates a b t = AreArithmetic a b × (t ≡ common a b)
+Calculates a b t = AreArithmetic a b × (t ≡ common_type a b)
 
 -- both arithmetic, or one a pointer to an object and the other an integer (6.5.6p2)
 abbrev pub Adds : List StructType → TypeTree → TypeTree → TypeTree → Type 0
@@ -45,7 +46,7 @@ Subtracts structs a b t =
 
 -- both of integer type; the result has the promoted left operand's (6.5.7p2, p3)
 abbrev pub Shifts : TypeTree → TypeTree → TypeTree → Type 0
-Shifts a b t = AreArithmetic a b × (t ≡ promoted a)
+Shifts a b t = AreArithmetic a b × (t ≡ promoted_type a)
 
 -- both arithmetic, or pointers of one type (6.5.8p2)
 abbrev pub Orders : TypeTree → TypeTree → TypeTree → Type 0
@@ -117,9 +118,9 @@ Prefixes structs prefix.Decrement x t = Steps structs x t
 Prefixes structs prefix.SizeOf x t = (is_complete structs x.ctype ≡ true) × (t ≡ Unsigned)
 Prefixes structs prefix.Address x t = (x.place ≡ true) × (t ≡ Pointer x.ctype)
 Prefixes structs prefix.Indirection x t = LeadsToObject (value_type x) t
-Prefixes structs prefix.Plus x t = IsArithmetic (value_type x) × (t ≡ promoted (value_type x))
-Prefixes structs prefix.Minus x t = IsArithmetic (value_type x) × (t ≡ promoted (value_type x))
-Prefixes structs prefix.Complement x t = IsArithmetic (value_type x) × (t ≡ promoted (value_type x))
+Prefixes structs prefix.Plus x t = IsArithmetic (value_type x) × (t ≡ promoted_type (value_type x))
+Prefixes structs prefix.Minus x t = IsArithmetic (value_type x) × (t ≡ promoted_type (value_type x))
+Prefixes structs prefix.Complement x t = IsArithmetic (value_type x) × (t ≡ promoted_type (value_type x))
 Prefixes structs prefix.Not x t = IsScalar x × (t ≡ Int)
 
 -- a cast to void takes anything, another one what could be assigned to its type (6.5.4p2, narrower)

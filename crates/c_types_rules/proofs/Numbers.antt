@@ -7,10 +7,10 @@ use Rattle.cbi_base.specs.declared.scalar.Kind.TheVariants as kind
 use Rattle.c_types_rules.specs.declared.layout.StructType.{StructType}
 use Rattle.c_types_rules.specs.Conversions.{of_kind, value_of}
 use Rattle.c_types_rules.specs.Laws.{result_kind}
-use Rattle.c_types_rules.specs.Operators.{combined}
+use Rattle.c_types_rules.specs.Operators.{typed_binary_operation}
 
 abbrev pub Holds : List StructType → Kind → Kind → Binary → Type 0
-Holds structs k l o = combined structs o (value_of (of_kind k)) (value_of (of_kind l)) ≡ Ok (value_of (of_kind (result_kind o k l)))
+Holds structs k l o = typed_binary_operation structs o (value_of (of_kind k)) (value_of (of_kind l)) ≡ Ok (value_of (of_kind (result_kind o k l)))
 
 char_char : (structs : List StructType) (o : Binary) → Holds structs kind.Char kind.Char o
 char_char structs op.Add = refl

@@ -42,18 +42,18 @@ abbrev pub is_scalar : TypeTree → Bool
 is_scalar t = is_arithmetic t || is_pointer t
 
 -- An array becomes a pointer to its first element (C99 6.3.2.1p3).
-abbrev pub decayed : TypeTree → TypeTree
-decayed (Array element length) = Pointer element
-decayed t = t
+abbrev pub decayed_type : TypeTree → TypeTree
+decayed_type (Array element length) = Pointer element
+decayed_type t = t
 
 -- `char` is promoted to `int` (C99 6.3.1.1p2)
-abbrev pub promoted : TypeTree → TypeTree
-promoted Char = Int
-promoted t = t
+abbrev pub promoted_type : TypeTree → TypeTree
+promoted_type Char = Int
+promoted_type t = t
 
 -- the usual arithmetic conversions (C99 6.3.1.8): `unsigned` where one of the two is, else `int`
-abbrev pub common : TypeTree → TypeTree → TypeTree
-common a b = if is_unsigned a || is_unsigned b then Unsigned else Int
+abbrev pub common_type : TypeTree → TypeTree → TypeTree
+common_type a b = if is_unsigned a || is_unsigned b then Unsigned else Int
 
 -- the type of a value of this kind
 abbrev pub of_kind : Kind → TypeTree
@@ -80,9 +80,9 @@ abbrev pub string_of : ℕ → Operand
 string_of size = value_of (Array Char size)
 
 -- an operand in parentheses: the same, but no null constant
-abbrev pub enclosed : Operand → Operand
-enclosed x = record { ctype = x.ctype; place = x.place; null = false }
+abbrev pub parenthesized_operand : Operand → Operand
+parenthesized_operand x = record { ctype = x.ctype; place = x.place; null = false }
 
 -- the type of the operand's value
 abbrev pub value_type : Operand → TypeTree
-value_type x = decayed x.ctype
+value_type x = decayed_type x.ctype

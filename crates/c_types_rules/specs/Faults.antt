@@ -16,10 +16,10 @@ fault_number fault.Jump = 8
 fault_number fault.NoMain = 9
 fault_number fault.NoDefinition = 10
 
-abbrev pub Looked : Type 0
-Looked = Result Operand FaultKind
+abbrev pub OperandOrFault : Type 0
+OperandOrFault = Result Operand FaultKind
 
 infixl 10 ◌>>=◌
-abbrev pub ◌>>=◌ : Looked → (Operand → Looked) → Looked
+abbrev pub ◌>>=◌ : OperandOrFault → (Operand → OperandOrFault) → OperandOrFault
 (Ok x) >>= next = next x
 (Err kind) >>= next = Err kind

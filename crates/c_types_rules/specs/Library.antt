@@ -8,9 +8,9 @@ use Rattle.c_types_rules.specs.declared.operand.Operand.{Operand}
 use Rattle.c_types_rules.specs.declared.fault.FaultKind.TheVariants as fault
 use Rattle.c_types_rules.specs.TypeTree.{Void, Char, Int, Unsigned, Pointer, same_type}
 use Rattle.c_types_rules.specs.Conversions.{is_arithmetic, value_of, value_type}
-use Rattle.c_types_rules.specs.Faults.{Looked}
+use Rattle.c_types_rules.specs.Faults.{OperandOrFault}
 use Rattle.c_types_rules.specs.Operators.{is_scalar_value}
-use Rattle.c_types_rules.specs.Functions.{called}
+use Rattle.c_types_rules.specs.Functions.{typed_call}
 
 abbrev pub library_named : List ℕ → Option Library
 library_named name =
@@ -32,14 +32,14 @@ one_scalar (x ∷ []) = is_scalar_value x
 one_scalar (x ∷ y ∷ rest) = false
 
 -- A call of a function of the library as an operand. `printf` is none.
-abbrev pub library_called : Library → List Operand → Looked
-library_called library.Getchar xs = called (record { gives = Int; params = [] }) xs
-library_called library.Putchar xs = called (record { gives = Int; params = Int ∷ [] }) xs
-library_called library.Puts xs = called (record { gives = Int; params = Pointer Char ∷ [] }) xs
-library_called library.Malloc xs = called (record { gives = Pointer Void; params = Unsigned ∷ [] }) xs
-library_called library.Free xs = called (record { gives = Void; params = Pointer Void ∷ [] }) xs
-library_called library.Exit xs = called (record { gives = Void; params = Int ∷ [] }) xs
-library_called library.Abort xs = called (record { gives = Void; params = [] }) xs
+abbrev pub library_called : Library → List Operand → OperandOrFault
+library_called library.Getchar xs = typed_call (record { gives = Int; params = [] }) xs
+library_called library.Putchar xs = typed_call (record { gives = Int; params = Int ∷ [] }) xs
+library_called library.Puts xs = typed_call (record { gives = Int; params = Pointer Char ∷ [] }) xs
+library_called library.Malloc xs = typed_call (record { gives = Pointer Void; params = Unsigned ∷ [] }) xs
+library_called library.Free xs = typed_call (record { gives = Void; params = Pointer Void ∷ [] }) xs
+library_called library.Exit xs = typed_call (record { gives = Void; params = Int ∷ [] }) xs
+library_called library.Abort xs = typed_call (record { gives = Void; params = [] }) xs
 library_called library.Assert xs = if one_scalar xs then Ok (value_of Void) else Err fault.Arguments
 library_called library.Printf xs = Err fault.Arguments
 
@@ -72,5 +72,5 @@ abbrev mutual
       if is_percent b then fits_format rest xs else is_conversion b && first_converts b xs && fits_format rest (after_first xs)
 
 -- a whole `printf`: the arguments behind its format fit
-abbrev pub printed : List ℕ → List Operand → Looked
-printed format xs = if fits_format format xs then Ok (value_of Int) else Err fault.Arguments
+abbrev pub typed_printf : List ℕ → List Operand → OperandOrFault
+typed_printf format xs = if fits_format format xs then Ok (value_of Int) else Err fault.Arguments

@@ -7,10 +7,10 @@ use Rattle.c_types_rules.specs.declared.operand.Operand.{Operand}
 use Rattle.c_types_rules.specs.declared.fault.FaultKind.{FaultKind}
 use Rattle.c_types_rules.specs.declared.fault.FaultKind.TheVariants as fault
 use Rattle.c_types_rules.specs.TypeTree.{TypeTree, Void, Pointer, Struct}
-use Rattle.c_types_rules.specs.Conversions.{is_void, is_pointer, is_void_pointer, is_struct, common, value_of, place_of, value_type}
-use Rattle.c_types_rules.specs.Faults.{Looked, ◌>>=◌}
+use Rattle.c_types_rules.specs.Conversions.{is_void, is_pointer, is_void_pointer, is_struct, common_type, value_of, place_of, value_type}
+use Rattle.c_types_rules.specs.Faults.{OperandOrFault, ◌>>=◌}
 use Rattle.c_types_rules.specs.Assigning.{pointers_join}
-use Rattle.c_types_rules.specs.Operators.{added, both_arithmetic, gives, is_scalar_value}
+use Rattle.c_types_rules.specs.Operators.{typed_sum, both_arithmetic, value_if_operands_fit, is_scalar_value}
 
 -- the pointer that `? :` gives: the other one's type where one is a null constant, else `void *` where one has that type, else their one type
 abbrev pub joined_pointer : Operand → Operand → TypeTree
@@ -20,35 +20,35 @@ joined_pointer x y =
     else value_type y
 
 -- Both are arithmetic, or both void, or pointers that join (C99 6.5.15).
-abbrev pub either : Operand → Operand → Looked
-either x y =
-    if both_arithmetic (value_type x) (value_type y) then Ok (value_of (common (value_type x) (value_type y)))
+abbrev pub typed_alternatives : Operand → Operand → OperandOrFault
+typed_alternatives x y =
+    if both_arithmetic (value_type x) (value_type y) then Ok (value_of (common_type (value_type x) (value_type y)))
     else if is_void (value_type x) && is_void (value_type y) then Ok (value_of Void)
-    else gives (pointers_join x y) (joined_pointer x y)
+    else value_if_operands_fit (pointers_join x y) (joined_pointer x y)
 
-abbrev pub chosen : Operand → Operand → Operand → Looked
-chosen condition x y = if is_scalar_value condition then either x y else Err fault.Operands
+abbrev pub typed_conditional : Operand → Operand → Operand → OperandOrFault
+typed_conditional condition x y = if is_scalar_value condition then typed_alternatives x y else Err fault.Operands
 
 -- A comma expression has the value of its last operand (C99 6.5.17). A struct is used only by `.`, `&` and `sizeof`, so none is an operand.
-abbrev pub sequenced : TypeTree → List Operand → Looked
-sequenced t [] = Ok (value_of t)
-sequenced t (x ∷ xs) = if is_struct x.ctype then Err fault.Operands else sequenced (value_type x) xs
+abbrev pub typed_comma : TypeTree → List Operand → OperandOrFault
+typed_comma t [] = Ok (value_of t)
+typed_comma t (x ∷ xs) = if is_struct x.ctype then Err fault.Operands else typed_comma (value_type x) xs
 
 -- what a pointer to other than void points to is a place
-abbrev pub pointed_type : TypeTree → Looked
+abbrev pub pointed_type : TypeTree → OperandOrFault
 pointed_type (Pointer to) = if is_void to then Err fault.Operands else Ok (place_of to)
 pointed_type t = Err fault.Operands
 
-abbrev pub pointed : Operand → Looked
-pointed x = pointed_type (value_type x)
+abbrev pub typed_indirection : Operand → OperandOrFault
+typed_indirection x = pointed_type (value_type x)
 
 -- the address of a place
-abbrev pub addressed : Operand → Looked
-addressed x = if x.place then Ok (value_of (Pointer x.ctype)) else Err fault.NoPlace
+abbrev pub typed_address : Operand → OperandOrFault
+typed_address x = if x.place then Ok (value_of (Pointer x.ctype)) else Err fault.NoPlace
 
 -- `e[i]` is `*(e + i)` (C99 6.5.2.1p2)
-abbrev pub indexed : List StructType → Operand → Operand → Looked
-indexed structs x y = added structs (value_type x) (value_type y) >>= pointed
+abbrev pub typed_subscript : List StructType → Operand → Operand → OperandOrFault
+typed_subscript structs x y = typed_sum structs (value_type x) (value_type y) >>= typed_indirection
 
 abbrev pub member_named : List ℕ → List Member → Option Member
 member_named name [] = None

@@ -27,8 +27,8 @@ cells_of structs (Struct tag) = struct_cells (slice_get structs tag)
 cells_of structs t = 1
 
 -- A number of cells, where all over the limit are one: what has so many is refused.
-abbrev pub capped : ℕ → ℕ
-capped n = min n (most_cells + 1)
+abbrev pub capped_cells : ℕ → ℕ
+capped_cells n = min n (most_cells + 1)
 
 -- whether an object may have the type: it is complete, and its size within the limit
 abbrev pub is_object : List StructType → TypeTree → Bool
@@ -42,5 +42,5 @@ empty_struct = record { members = []; cells = 0 }
 abbrev pub with_member : List StructType → List ℕ → TypeTree → StructType → StructType
 with_member structs name t s = record {
   members = s.members ++ record { name = name; ctype = t; offset = s.cells } ∷ [];
-  cells = capped (s.cells + cells_of structs t);
+  cells = capped_cells (s.cells + cells_of structs t);
 }

@@ -38,20 +38,20 @@ type_pairs (Pointer to) = (4, 0) ∷ type_pairs to
 type_pairs (Array element length) = (5, length) ∷ type_pairs element
 type_pairs (Struct tag) = (6, tag) ∷ []
 
-abbrev pub built : ℕ → ℕ → TypeTree → TypeTree
-built zero n t = Void
-built (suc zero) n t = Char
-built (suc (suc zero)) n t = Int
-built (suc (suc (suc zero))) n t = Unsigned
-built (suc (suc (suc (suc zero)))) n t = Pointer t
-built (suc (suc (suc (suc (suc zero))))) n t = Array t n
-built (suc (suc (suc (suc (suc (suc k)))))) n t = Struct n
+abbrev pub numbered_type : ℕ → ℕ → TypeTree → TypeTree
+numbered_type zero n t = Void
+numbered_type (suc zero) n t = Char
+numbered_type (suc (suc zero)) n t = Int
+numbered_type (suc (suc (suc zero))) n t = Unsigned
+numbered_type (suc (suc (suc (suc zero)))) n t = Pointer t
+numbered_type (suc (suc (suc (suc (suc zero))))) n t = Array t n
+numbered_type (suc (suc (suc (suc (suc (suc k)))))) n t = Struct n
 
-abbrev pub read : List (ℕ × ℕ) → TypeTree
-read [] = Void
-read (p ∷ rest) = built p.0 p.1 (read rest)
+abbrev pub type_of_pairs : List (ℕ × ℕ) → TypeTree
+type_of_pairs [] = Void
+type_of_pairs (p ∷ rest) = numbered_type p.0 p.1 (type_of_pairs rest)
 
-pub read-written : (t : TypeTree) → read (type_pairs t) ≡ t
+pub read-written : (t : TypeTree) → type_of_pairs (type_pairs t) ≡ t
 read-written Void = refl
 read-written Char = refl
 read-written Int = refl
@@ -61,4 +61,4 @@ read-written (Array element length) = ap (λ t. Array t length) (read-written el
 read-written (Struct tag) = refl
 
 abbrev pub coded_type : Coded TypeTree
-coded_type = code_by (List (ℕ × ℕ)) (coded_list (coded× coded_ℕ coded_ℕ)) type_pairs read read-written
+coded_type = code_by (List (ℕ × ℕ)) (coded_list (coded× coded_ℕ coded_ℕ)) type_pairs type_of_pairs read-written

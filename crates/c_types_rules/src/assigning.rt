@@ -1,6 +1,6 @@
 ghost use Rattle.std.specs.Prelude.{◌≡◌};
-ghost use Rattle.c_types_rules.specs.Assigning.{pointers_meet, pointers_join, assignable, is_left_side, assigned, fits_parameters};
-ghost use Rattle.c_types_rules.specs.Conversions.{decayed, value_type};
+ghost use Rattle.c_types_rules.specs.Assigning.{pointers_meet, is_assignable, is_left_side, typed_simple_assignment, fits_parameters};
+ghost use Rattle.c_types_rules.specs.Conversions.{decayed_type};
 ghost use Rattle.c_types_rules.specs.Plain.{plain_type};
 ghost use Rattle.c_types_rules.specs.TypeTree.{Pointer};
 
@@ -21,7 +21,7 @@ pub fn pointers_meet(left: &CType, right: &CType) -> bool
 
 /// Whether a pointer to the first type meets the value of an object of the second type.
 fn meets_value(to: &CType, from: &CType) -> bool
-    ensures { result ≡ pointers_meet (Pointer (plain_type to.now)) (decayed (plain_type from.now)) }
+    ensures { result ≡ pointers_meet (Pointer (plain_type to.now)) (decayed_type (plain_type from.now)) }
 {
     match from {
         CType::Pointer { to: from } => same_type(to, from) || is_void(to) || is_void(from),
@@ -33,7 +33,7 @@ fn meets_value(to: &CType, from: &CType) -> bool
 
 /// Whether a value may be assigned to a place of the type, passed or returned as one, or initialise one.
 pub fn assignable(target: &CType, x: &Operand) -> bool
-    ensures { result ≡ assignable (plain_type target.now) x.now }
+    ensures { result ≡ is_assignable (plain_type target.now) x.now }
 {
     if is_arithmetic(target) && is_arithmetic(x.ctype.shape()) {
         return true;
@@ -54,7 +54,7 @@ pub fn is_left_side(x: &Operand) -> bool
 
 /// An assignment of a value, by its left side.
 pub fn assigned(target: Operand, x: &Operand) -> Looked
-    ensures { result ≡ assigned target x.now }
+    ensures { result ≡ typed_simple_assignment target x.now }
 {
     let left_side = is_left_side(&target);
     let shape = decayed(target.ctype);

@@ -1,6 +1,7 @@
 ghost use Rattle.std.specs.Prelude.{◌≡◌, IfOk};
 ghost use Rattle.c_types_rules.specs.Conversions.{is_void, is_unsigned, is_arithmetic, is_pointer, is_void_pointer, is_array, is_struct, is_scalar};
-ghost use Rattle.c_types_rules.specs.Conversions.{decayed, promoted, common, value_of, place_of, constant_of, null_of, string_of, enclosed, value_type};
+ghost use Rattle.c_types_rules.specs.Conversions.{decayed_type, promoted_type, common_type, value_of, place_of, constant_of, null_of, string_of};
+ghost use Rattle.c_types_rules.specs.Conversions.{parenthesized_operand};
 ghost use Rattle.c_types_rules.specs.Operators.{is_scalar_value};
 ghost use Rattle.c_types_rules.specs.Plain.{plain_type};
 
@@ -34,7 +35,7 @@ fn is_unsigned(ctype: &CType) -> bool
 /// Whether it is an arithmetic type.
 pub fn is_arithmetic(ctype: &CType) -> bool
     ensures value { result ≡ is_arithmetic (plain_type ctype.now) }
-    ensures decayed { result ≡ is_arithmetic (decayed (plain_type ctype.now)) }
+    ensures decayed { result ≡ is_arithmetic (decayed_type (plain_type ctype.now)) }
 {
     match ctype {
         CType::Char | CType::Int | CType::Unsigned => true,
@@ -110,7 +111,7 @@ pub fn is_scalar_value(x: &Operand) -> bool
 
 /// An array becomes a pointer to its first element.
 pub fn decayed(ctype: Type) -> CType
-    ensures { plain_type result ≡ decayed ctype }
+    ensures { plain_type result ≡ decayed_type ctype }
 {
     match ctype.into_shape() {
         CType::Void => CType::Void,
@@ -125,7 +126,7 @@ pub fn decayed(ctype: Type) -> CType
 
 /// `char` is promoted to `int`.
 pub fn promoted(shape: CType) -> CType
-    ensures { plain_type result ≡ promoted (plain_type shape) }
+    ensures { plain_type result ≡ promoted_type (plain_type shape) }
 {
     match shape {
         CType::Void => CType::Void,
@@ -139,7 +140,7 @@ pub fn promoted(shape: CType) -> CType
 
 /// The common type of two arithmetic types.
 pub fn common(left: &CType, right: &CType) -> CType
-    ensures { plain_type result ≡ common (plain_type left.now) (plain_type right.now) }
+    ensures { plain_type result ≡ common_type (plain_type left.now) (plain_type right.now) }
 {
     if is_unsigned(left) || is_unsigned(right) {
         CType::Unsigned
@@ -208,7 +209,7 @@ pub fn string_of(alloc: Global, size: u32) -> Result<Operand, Memory>
 
 /// An operand in parentheses.
 pub fn enclosed(x: Operand) -> Operand
-    ensures { result ≡ enclosed x }
+    ensures { result ≡ parenthesized_operand x }
 {
     let mut x = x;
     x.null = false;

@@ -1,5 +1,5 @@
 ghost use Rattle.std.specs.Prelude.{◌≡◌, IfOk};
-ghost use Rattle.c_types_rules.specs.Functions.{called, same_function};
+ghost use Rattle.c_types_rules.specs.Functions.{typed_call, same_function};
 
 use crate::assigning::fits_parameters;
 use crate::conversions::value_of;
@@ -30,7 +30,7 @@ pub fn called(
     function: &FunctionType,
     arguments: &[Operand],
 ) -> Result<Looked, Memory>
-    ensures { IfOk result (λ r. r ≡ called function.now arguments.now) }
+    ensures { IfOk result (λ r. r ≡ typed_call function.now arguments.now) }
 {
     if !fits_parameters(function.params.as_slice(), arguments) {
         return Ok(Err(FaultKind::Arguments));

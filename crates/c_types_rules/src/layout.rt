@@ -1,7 +1,7 @@
 ghost use Rattle.std.specs.Prelude.{◌≡◌, OnOk};
 ghost use Rattle.c_types_rules.specs.Plain.{plain_type};
 ghost use Rattle.c_types_rules.specs.TypeTree.{Struct};
-ghost use Rattle.c_types_rules.specs.Sizes.{is_complete, is_object, capped, cells_of, struct_cells, with_member, empty_struct};
+ghost use Rattle.c_types_rules.specs.Sizes.{is_complete, is_object, capped_cells, cells_of, struct_cells, with_member, empty_struct};
 
 use crate::ctype::{CType, Type};
 use cbi_base::{Memory, Name, Seq};
@@ -39,7 +39,7 @@ pub fn is_complete(structs: &[StructType], ctype: &CType) -> bool
 
 /// The number, or one past the limit where it is over it.
 fn capped(cells: u64) -> u32
-    ensures { result ≡ capped cells }
+    ensures { result ≡ capped_cells cells }
 {
     if cells <= MOST_CELLS as u64 {
         cells as u32
@@ -50,7 +50,7 @@ fn capped(cells: u64) -> u32
 
 /// The cells of the struct with this number, or 0 where there is none.
 fn struct_cells(structs: &[StructType], tag: u32) -> u32
-    ensures { result ≡ capped (cells_of structs.now (Struct tag)) }
+    ensures { result ≡ capped_cells (cells_of structs.now (Struct tag)) }
 {
     match structs.get(tag as usize) {
         None => 0,
@@ -61,7 +61,7 @@ fn struct_cells(structs: &[StructType], tag: u32) -> u32
 /// The cells of an object of the type. All sizes over the limit of 1,048,576 are answered as one past it.
 #[tactic(auto, using(crate::proofs::Capped::capped_product))]
 pub fn cells_of(structs: &[StructType], ctype: &CType) -> u32
-    ensures { result ≡ capped (cells_of structs.now (plain_type ctype.now)) }
+    ensures { result ≡ capped_cells (cells_of structs.now (plain_type ctype.now)) }
 {
     match ctype {
         CType::Char | CType::Int | CType::Unsigned | CType::Pointer { .. } => 1,

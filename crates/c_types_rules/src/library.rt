@@ -1,7 +1,7 @@
 ghost use Rattle.std.specs.Prelude.{◌≡◌, IfOk, [], ◌∷◌};
 ghost use Rattle.cbi_base.specs.Format.{is_conversion};
-ghost use Rattle.c_types_rules.specs.Conversions.{decayed};
-ghost use Rattle.c_types_rules.specs.Library.{library_named, library_called, one_scalar, conversion_takes, fits_format, printed};
+ghost use Rattle.c_types_rules.specs.Conversions.{decayed_type};
+ghost use Rattle.c_types_rules.specs.Library.{library_named, library_called, one_scalar, conversion_takes, fits_format, typed_printf};
 ghost use Rattle.c_types_rules.specs.Plain.{plain_type};
 ghost use Rattle.c_types_rules.specs.TypeTree.{Char, Pointer, same_type};
 ghost use Rattle.c_types_rules.specs.declared.library.Library.TheVariants as library;
@@ -123,7 +123,7 @@ pub fn library_called(
 
 /// Whether the type is `char *`, as an array's value too.
 fn is_text(ctype: &CType) -> bool
-    ensures { result ≡ same_type (decayed (plain_type ctype.now)) (Pointer Char) }
+    ensures { result ≡ same_type (decayed_type (plain_type ctype.now)) (Pointer Char) }
 {
     match ctype {
         CType::Pointer { to } => same_type(to, &CType::Char),
@@ -182,7 +182,7 @@ fn fits_format(format: &[u8], arguments: &[Operand]) -> bool
 
 /// A whole `printf`, whose format has these bytes.
 pub fn printed(format: &[u8], arguments: &[Operand]) -> Looked
-    ensures { result ≡ printed format.now arguments.now }
+    ensures { result ≡ typed_printf format.now arguments.now }
 {
     if fits_format(format, arguments) {
         return Ok(value_of(CType::Int));

@@ -1,8 +1,9 @@
 ghost use Rattle.std.specs.Prelude.{◌≡◌, ◌&&◌, ◌||◌, IfOk};
 ghost use Rattle.c_types_rules.specs.Assigning.{pointers_meet};
 ghost use Rattle.c_types_rules.specs.Conversions.{is_pointer, is_arithmetic};
-ghost use Rattle.c_types_rules.specs.Operators.{gives, both_arithmetic, is_movable, added, subtracted, ordered, equated, combined, joined_truths, signed};
-ghost use Rattle.c_types_rules.specs.Operators.{turned, stepped, compounded, measured, cast_to};
+ghost use Rattle.c_types_rules.specs.Operators.{value_if_operands_fit, both_arithmetic, is_movable, typed_sum, typed_difference, typed_relation};
+ghost use Rattle.c_types_rules.specs.Operators.{typed_equality, typed_binary_operation, joined_truths, typed_unary_arithmetic};
+ghost use Rattle.c_types_rules.specs.Operators.{typed_unary_operation, typed_increment, typed_compound_assignment, typed_sizeof, cast_to};
 ghost use Rattle.c_types_rules.specs.Plain.{plain_type};
 
 use crate::assigning::{assignable, assigned, is_left_side, pointers_meet};
@@ -18,7 +19,7 @@ use std::alloc::Global;
 
 /// A value of the type where the operands fit.
 pub fn gives(fits: bool, shape: CType) -> Looked
-    ensures { result ≡ gives fits (plain_type shape) }
+    ensures { result ≡ value_if_operands_fit fits (plain_type shape) }
 {
     if fits {
         Ok(value_of(shape))
@@ -57,7 +58,7 @@ fn is_movable(structs: &[StructType], ctype: &CType) -> bool
 
 /// A sum.
 pub fn added(structs: &[StructType], left: CType, right: CType) -> Looked
-    ensures { result ≡ added structs.now (plain_type left) (plain_type right) }
+    ensures { result ≡ typed_sum structs.now (plain_type left) (plain_type right) }
 {
     if both_arithmetic(&left, &right) {
         return Ok(value_of(common(&left, &right)));
@@ -72,7 +73,7 @@ pub fn added(structs: &[StructType], left: CType, right: CType) -> Looked
 
 /// A difference.
 fn subtracted(structs: &[StructType], left: CType, right: CType) -> Looked
-    ensures { result ≡ subtracted structs.now (plain_type left) (plain_type right) }
+    ensures { result ≡ typed_difference structs.now (plain_type left) (plain_type right) }
 {
     if both_arithmetic(&left, &right) {
         return Ok(value_of(common(&left, &right)));
@@ -87,7 +88,7 @@ fn subtracted(structs: &[StructType], left: CType, right: CType) -> Looked
 
 /// `<` and its kin.
 fn ordered(left: &CType, right: &CType) -> Looked
-    ensures { result ≡ ordered (plain_type left.now) (plain_type right.now) }
+    ensures { result ≡ typed_relation (plain_type left.now) (plain_type right.now) }
 {
     let fits = both_arithmetic(left, right) || (is_pointer(left) && same_type(left, right));
     gives(fits, CType::Int)
@@ -95,7 +96,7 @@ fn ordered(left: &CType, right: &CType) -> Looked
 
 /// `==` and `!=`.
 fn equated(x: Operand, y: Operand) -> Looked
-    ensures { result ≡ equated x y }
+    ensures { result ≡ typed_equality x y }
 {
     let left = decayed(x.ctype);
     let right = decayed(y.ctype);
@@ -105,7 +106,7 @@ fn equated(x: Operand, y: Operand) -> Looked
 
 /// An operator with its two operands.
 pub fn combined(structs: &[StructType], op: Binary, x: Operand, y: Operand) -> Looked
-    ensures { result ≡ combined structs.now op x y }
+    ensures { result ≡ typed_binary_operation structs.now op x y }
 {
     if matches!(op, Binary::Eq | Binary::Ne) {
         return equated(x, y);
@@ -137,7 +138,7 @@ pub fn joined(x: &Operand, y: &Operand) -> Looked
 
 /// Unary `+`, and what `-` and `~` give too.
 pub fn signed(x: Operand) -> Looked
-    ensures { result ≡ signed x }
+    ensures { result ≡ typed_unary_arithmetic x }
 {
     let shape = decayed(x.ctype);
     gives(is_arithmetic(&shape), promoted(shape))
@@ -145,7 +146,7 @@ pub fn signed(x: Operand) -> Looked
 
 /// `-`, `~` and `!`.
 pub fn turned(op: Unary, x: Operand) -> Looked
-    ensures { result ≡ turned op x }
+    ensures { result ≡ typed_unary_operation op x }
 {
     match op {
         Unary::Not => gives(is_scalar_value(&x), CType::Int),
@@ -155,7 +156,7 @@ pub fn turned(op: Unary, x: Operand) -> Looked
 
 /// `++` and `--`, before and behind their operand.
 pub fn stepped(structs: &[StructType], x: Operand) -> Looked
-    ensures { result ≡ stepped structs.now x }
+    ensures { result ≡ typed_increment structs.now x }
 {
     let left_side = is_left_side(&x);
     let shape = decayed(x.ctype);
@@ -176,7 +177,7 @@ pub fn compounded(
     target: Operand,
     x: Operand,
 ) -> Result<Looked, Memory>
-    ensures { IfOk result (λ r. r ≡ compounded structs.now op target x) }
+    ensures { IfOk result (λ r. r ≡ typed_compound_assignment structs.now op target x) }
 {
     let old = Operand {
         ctype: target.ctype.try_clone(alloc)?,
@@ -191,7 +192,7 @@ pub fn compounded(
 
 /// `sizeof`, of an expression or a type of this type.
 pub fn measured(structs: &[StructType], ctype: &Type) -> Looked
-    ensures { result ≡ measured structs.now ctype.now }
+    ensures { result ≡ typed_sizeof structs.now ctype.now }
 {
     gives(is_complete(structs, ctype.shape()), CType::Unsigned)
 }

@@ -1,8 +1,9 @@
 ghost use Rattle.std.specs.Prelude.{◌≡◌, IfOk, IfErr, Ok, Err, option_copied, slice_get};
-ghost use Rattle.c_types_rules.specs.Conversions.{decayed, value_type};
+ghost use Rattle.c_types_rules.specs.Conversions.{decayed_type};
 ghost use Rattle.c_types_rules.specs.Plain.{plain_type};
 ghost use Rattle.c_types_rules.specs.TypeTree.{Void};
-ghost use Rattle.c_types_rules.specs.Selecting.{either, chosen, sequenced, pointed_type, pointed, addressed, indexed, member_named, member_in, member_of};
+ghost use Rattle.c_types_rules.specs.Selecting.{typed_alternatives, typed_conditional, typed_comma, pointed_type, typed_indirection, typed_address};
+ghost use Rattle.c_types_rules.specs.Selecting.{typed_subscript, member_named, member_in, member_of};
 ghost use Rattle.c_types_rules.specs.Selecting.{member_behind};
 
 use crate::conversions::{
@@ -19,7 +20,7 @@ use std::alloc::Global;
 
 /// The second or the third operand of `? :`.
 fn either(x: Operand, y: Operand) -> Looked
-    ensures { result ≡ either x y }
+    ensures { result ≡ typed_alternatives x y }
 {
     let left = decayed(x.ctype);
     let right = decayed(y.ctype);
@@ -41,7 +42,7 @@ fn either(x: Operand, y: Operand) -> Looked
 
 /// A `? :`.
 pub fn chosen(condition: &Operand, x: Operand, y: Operand) -> Looked
-    ensures { result ≡ chosen condition.now x y }
+    ensures { result ≡ typed_conditional condition.now x y }
 {
     if is_scalar_value(condition) {
         return either(x, y);
@@ -51,7 +52,7 @@ pub fn chosen(condition: &Operand, x: Operand, y: Operand) -> Looked
 
 /// The value of a comma expression with these operands. It is `void` where there is none.
 pub fn sequenced(alloc: Global, operands: &[Operand]) -> Result<Looked, Memory>
-    ensures { IfOk result (λ r. r ≡ sequenced Void operands.now) }
+    ensures { IfOk result (λ r. r ≡ typed_comma Void operands.now) }
 {
     let mut last = CType::Void;
     for x in operands {
@@ -82,14 +83,14 @@ fn pointed_type(shape: CType) -> Looked
 
 /// `*` before its operand.
 pub fn pointed(x: Operand) -> Looked
-    ensures { result ≡ pointed x }
+    ensures { result ≡ typed_indirection x }
 {
     pointed_type(decayed(x.ctype))
 }
 
 /// `&` before its operand.
 pub fn addressed(alloc: Global, x: Operand) -> Result<Looked, Memory>
-    ensures { IfOk result (λ r. r ≡ addressed x) }
+    ensures { IfOk result (λ r. r ≡ typed_address x) }
 {
     if !x.place {
         return Ok(Err(FaultKind::NoPlace));
@@ -100,7 +101,7 @@ pub fn addressed(alloc: Global, x: Operand) -> Result<Looked, Memory>
 
 /// An index behind its operand.
 pub fn indexed(structs: &[StructType], x: Operand, y: Operand) -> Looked
-    ensures { result ≡ indexed structs.now x y }
+    ensures { result ≡ typed_subscript structs.now x y }
 {
     match added(structs, decayed(x.ctype), decayed(y.ctype)) {
         Ok(moved) => pointed(moved),
@@ -156,8 +157,8 @@ pub fn member_behind<'a>(
     name: &Name,
     ctype: &Type,
 ) -> Result<&'a Member, FaultKind>
-    ensures ok { IfOk result (λ m. member_behind structs.now name.now (decayed ctype.now) ≡ Ok m.now) }
-    ensures err { IfErr result (λ kind. member_behind structs.now name.now (decayed ctype.now) ≡ Err kind) }
+    ensures ok { IfOk result (λ m. member_behind structs.now name.now (decayed_type ctype.now) ≡ Ok m.now) }
+    ensures err { IfErr result (λ kind. member_behind structs.now name.now (decayed_type ctype.now) ≡ Err kind) }
 {
     match ctype.shape() {
         CType::Pointer { to } => member_of(structs, name, to),

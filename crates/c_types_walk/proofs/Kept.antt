@@ -5,21 +5,21 @@ use Rattle.c_syntax.specs.Words.{ExprTree, first_token, DeclarationTree, EntryLi
 use Rattle.c_syntax.specs.StatementTree as s
 use Rattle.c_types_rules.specs.declared.fault.FaultKind.{FaultKind}
 use Rattle.c_types_rules.specs.declared.fault.FaultKind.TheVariants as fault
-use Rattle.c_types_rules.specs.Words.{TypeTree, assignable, is_struct, is_void, is_scalar_value, cells_of, is_object}
+use Rattle.c_types_rules.specs.Words.{TypeTree, is_assignable, is_struct, is_void, is_scalar_value, cells_of, is_object}
 use Rattle.c_types_expressions.specs.declared.walk.Walk.{Walk}
-use Rattle.c_types_expressions.specs.Words.{base_type, walk_expr, walk_exprs, walk_whole, is_name_taken, Done, Walked, Fine, Faulty, ◌>>=◌, closing, opened}
-use Rattle.c_types_expressions.specs.Words.{unless, with_variable}
+use Rattle.c_types_expressions.specs.Words.{base_type, walk_expr, walk_exprs, walk_whole, is_name_taken, Done, Walked, Fine, Faulty, ◌>>=◌, scope_closed, scope_opened}
+use Rattle.c_types_expressions.specs.Words.{fault_if_wrong, with_variable}
 use Rattle.c_types_expressions.proofs.Kept.{IsKeptByExpressions, Keeps, base_keeps, both, either, step_before}
 use Rattle.c_types_walk.specs.Declarators.{declared_type, is_open}
-use Rattle.c_types_walk.specs.Initialisers.{cells_of_string, completes, listed_type, valued, walk_initial}
-use Rattle.c_types_walk.specs.StatementWalk.{counted_cells, looped, sized, walk_closed, walk_declaration, walk_entries, walk_for_start, walk_open, walk_optional}
+use Rattle.c_types_walk.specs.Initialisers.{cells_of_string, type_or_fault, listed_type, type_by_expression, walk_initial}
+use Rattle.c_types_walk.specs.StatementWalk.{counted_cells, for_parts_checked, object_type_checked, walk_closed, walk_declaration, walk_entries, walk_for_start, walk_open, walk_optional}
 use Rattle.c_types_walk.specs.StatementWalk.{walk_start, walk_starts, walk_statement, walk_typed, with_declared_type}
 
 -- initialisers and declarations
 
 module _ (R : Walk → Walk → Type 0) (k : IsKeptByExpressions R) where
   -- an initialiser that was looked at
-  completed_keeps : (token : ℕ) (o : Option TypeTree) (w : Walk) → Keeps R w (completes token o w)
+  completed_keeps : (token : ℕ) (o : Option TypeTree) (w : Walk) → Keeps R w (type_or_fault token o w)
   completed_keeps token None w = tt
   completed_keeps token (Some of) w = k.here w
 
@@ -27,7 +27,7 @@ module _ (R : Walk → Walk → Type 0) (k : IsKeptByExpressions R) where
   pub initial_keeps : (global : Bool) (of : TypeTree) (x : Option InitialTree) (w : Walk) → Keeps R w (walk_initial global of x w)
   initial_keeps global of None w = k.here w
   initial_keeps global of (Some (s.Value value)) w = both R k.next w (walk_expr value w) _ (k.expr value w)
-      (λ x v. completed_keeps (first_token value) (valued global of value x (cells_of_string value)) v)
+      (λ x v. completed_keeps (first_token value) (type_by_expression global of value x (cells_of_string value)) v)
   initial_keeps global of (Some (s.Braced token items comma)) w = both R k.next w (walk_exprs items [] w) _ (k.exprs items [] w)
       (λ xs v. completed_keeps token (listed_type global items xs of) v)
 
@@ -44,7 +44,7 @@ module _ (global : Bool) (R : Walk → Walk → Type 0) (k : IsKeptByVariables g
   sized_by b token w r h = either R w b r (Faulty fault.Object token) h tt
 
   -- the type of a variable
-  sized_keeps : (token : ℕ) (of : TypeTree) (w : Walk) → Keeps R w (sized global token of w)
+  sized_keeps : (token : ℕ) (of : TypeTree) (w : Walk) → Keeps R w (object_type_checked global token of w)
   sized_keeps token of w =
       sized_by (is_object w.structs of) token w (counted_cells global token (cells_of w.structs of) w) (k.counted token (cells_of w.structs of) w)
 
@@ -60,11 +60,11 @@ module _ (global : Bool) (R : Walk → Walk → Type 0) (k : IsKeptByVariables g
   -- an array whose length its initialiser gives
   open_keeps : (x : StartTree) (of : TypeTree) (w : Walk) → Keeps R w (walk_open global x of w)
   open_keeps x of w = named_keeps x of w _
-      (λ u v. both R k.expressions.next v (sized global x.token u v) _ (sized_keeps x.token u v) (λ _ r. k.retyped _ u r))
+      (λ u v. both R k.expressions.next v (object_type_checked global x.token u v) _ (sized_keeps x.token u v) (λ _ r. k.retyped _ u r))
 
   -- any other variable
   closed_keeps : (x : StartTree) (of : TypeTree) (w : Walk) → Keeps R w (walk_closed global x of w)
-  closed_keeps x of w = both R k.expressions.next w (sized global x.token of w) _ (sized_keeps x.token of w)
+  closed_keeps x of w = both R k.expressions.next w (object_type_checked global x.token of w) _ (sized_keeps x.token of w)
       (λ _ v. named_keeps x of v _ (λ _ u. k.expressions.here u))
 
   -- a variable whose type is known
@@ -99,16 +99,16 @@ pub record IsKeptByStatements (R : Walk → Walk → Type 0) : Type 0 where
   pub expr : (x : ExprTree) (w : Walk) → Keeps R w (walk_expr x w)
   pub whole : (x : ExprTree) (w : Walk) → Keeps R w (walk_whole x w)
   pub declaration : (d : DeclarationTree) (w : Walk) → Keeps R w (walk_declaration false d w)
-  pub scope : (w u : Walk) → R (opened w) u → Keeps R w (closing tt u)
+  pub scope : (w u : Walk) → R (scope_opened w) u → Keeps R w (scope_closed tt u)
 
 module _ (R : Walk → Walk → Type 0) (k : IsKeptByStatements R) where
   -- a test
-  unless_keeps : (wrong : Bool) (kind : FaultKind) (token : ℕ) (w : Walk) → Keeps R w (unless wrong kind token w)
+  unless_keeps : (wrong : Bool) (kind : FaultKind) (token : ℕ) (w : Walk) → Keeps R w (fault_if_wrong wrong kind token w)
   unless_keeps true kind token w = tt
   unless_keeps false kind token w = k.here w
 
   -- the tests of a `return`
-  returned_keeps : (b c : Bool) (token : ℕ) (w : Walk) → Keeps {A = Done} R w (if b then Faulty fault.Jump token else unless c fault.Operands token w)
+  returned_keeps : (b c : Bool) (token : ℕ) (w : Walk) → Keeps {A = Done} R w (if b then Faulty fault.Jump token else fault_if_wrong c fault.Operands token w)
   returned_keeps true c token w = tt
   returned_keeps false c token w = unless_keeps c fault.Operands token w
 
@@ -119,16 +119,16 @@ module _ (R : Walk → Walk → Type 0) (k : IsKeptByStatements R) where
 
   -- what comes to the end of a scope, of which this much was walked
   abbrev Closes : Walk → Walk → Walked Done → Type 0
-  Closes w u r = R (opened w) u → Keeps R w r
+  Closes w u r = R (scope_opened w) u → Keeps R w r
 
   -- one part within the scope, and then what comes to its end
   within : {A : Type 0} (w u : Walk) (r : Walked A) (next : A → Walk → Walked Done) → Keeps R u r → ((x : A) (v : Walk) → Closes w v (next x v))
       → Closes w u (r >>= next)
-  within w u (Fine x v) next h g a = g x v (k.next (opened w) u v a h)
+  within w u (Fine x v) next h g a = g x v (k.next (scope_opened w) u v a h)
   within w u (Faulty kind token) next h g a = tt
 
   -- the end of the scope
-  ends : (w : Walk) (x : Done) (u : Walk) → Closes w u (closing x u)
+  ends : (w : Walk) (x : Done) (u : Walk) → Closes w u (scope_closed x u)
   ends w x u = k.scope w u
 
   -- the start of a `for`
@@ -141,8 +141,8 @@ module _ (R : Walk → Walk → Type 0) (k : IsKeptByStatements R) where
     -- a statement
     pub statement_keeps : (gives : TypeTree) (looping : Bool) (x : StatementTree) (w : Walk) → Keeps R w (walk_statement gives looping x w)
     statement_keeps gives looping (s.Block token entries) w =
-        within w (opened w) (walk_entries gives looping entries (opened w)) closing (entries_keep gives looping entries (opened w)) (ends w)
-        (k.here (opened w))
+        within w (scope_opened w) (walk_entries gives looping entries (scope_opened w)) scope_closed (entries_keep gives looping entries (scope_opened w)) (ends w)
+        (k.here (scope_opened w))
     statement_keeps gives looping (s.Empty token) w = k.here w
     statement_keeps gives looping (s.Expr token x) w = both R k.next w (walk_whole x w) _ (k.whole x w)
         (λ y v. unless_keeps (is_struct y.ctype) fault.Operands token v)
@@ -160,15 +160,15 @@ module _ (R : Walk → Walk → Type 0) (k : IsKeptByStatements R) where
         (λ _ v. both R k.next v (walk_expr condition v) _ (k.expr condition v)
         (λ x u. unless_keeps (not (is_scalar_value x)) fault.Operands token u))
     statement_keeps gives looping (s.For token start condition step body) w =
-        within w (opened w) (walk_for_start start (opened w)) _ (for_start_keeps start (opened w))
+        within w (scope_opened w) (walk_for_start start (scope_opened w)) _ (for_start_keeps start (scope_opened w))
         (λ x v. within w v (walk_optional condition v) _ (optional_keeps condition v)
         (λ y u. within w u (walk_optional step u) _ (optional_keeps step u)
         (λ z r. within w r (walk_statement gives true body r) _ (statement_keeps gives true body r)
-        (λ _ q. within w q (looped token x y z q) closing (unless_keeps _ fault.Operands token q) (ends w)))))
-        (k.here (opened w))
+        (λ _ q. within w q (for_parts_checked token x y z q) scope_closed (unless_keeps _ fault.Operands token q) (ends w)))))
+        (k.here (scope_opened w))
     statement_keeps gives looping (s.Return token None) w = unless_keeps (not (is_void gives)) fault.Jump token w
     statement_keeps gives looping (s.Return token (Some value)) w = both R k.next w (walk_expr value w) _ (k.expr value w)
-        (λ x v. returned_keeps (is_void gives) (not (assignable gives x)) token v)
+        (λ x v. returned_keeps (is_void gives) (not (is_assignable gives x)) token v)
     statement_keeps gives looping (s.Break token) w = unless_keeps (not looping) fault.Jump token w
     statement_keeps gives looping (s.Continue token) w = unless_keeps (not looping) fault.Jump token w
 

@@ -7,7 +7,7 @@ use Rattle.c_syntax.specs.declared.token.Sign.TheVariants as sign
 use Rattle.c_syntax.specs.ExprTree as e
 use Rattle.c_syntax.specs.Words.{ExprTree, ExprList, InitialTree, StartTree, DeclarationTree, ForStartTree, StatementTree, EntryList, ItemTree, Kinds, a_sign}
 use Rattle.c_syntax.specs.Words.{after_commas, body_kinds, declaration_kinds, entry_kinds, expr_kinds, exprs_kinds, for_start_kinds, initial_kinds, item_kinds}
-use Rattle.c_syntax.specs.Words.{more_exprs_kinds, optional, param_kinds, params_kinds, parenthesized, start_kinds, statement_kinds, with_commas}
+use Rattle.c_syntax.specs.Words.{more_exprs_kinds, optional_kinds, param_kinds, params_kinds, parenthesized_kinds, start_kinds, statement_kinds, with_commas}
 use Rattle.c_syntax.specs.StatementTree as s
 use Rattle.c_syntax.specs.ItemTree as i
 use Rattle.c_types_expressions.specs.Room.{items_in}
@@ -26,7 +26,7 @@ exprs_long (e.more_exprs x rest) = simp length-append (omega (arith, more_long r
 
 -- the part of an initialiser behind its variable
 abbrev equals : Option InitialTree → Kinds
-equals x = optional (λ y. a_sign sign.Equal ++ initial_kinds y) x
+equals x = optional_kinds (λ y. a_sign sign.Equal ++ initial_kinds y) x
 
 initial_long : (x : Option InitialTree) → initial_needs x ≤ length (equals x)
 initial_long None = omega arith
@@ -78,7 +78,7 @@ between_commas : {A : Type 0} (f : A → Kinds) (xs : List A) → length xs ≤ 
 between_commas f [] = omega arith
 between_commas f (x ∷ xs) = omega (arith, behind_commas f xs, length-append (f x) (after_commas f xs))
 
-params_long : (ps : Params) → length (listed_params ps) ≤ length (parenthesized (params_kinds ps))
+params_long : (ps : Params) → length (listed_params ps) ≤ length (parenthesized_kinds (params_kinds ps))
 params_long params.Empty = omega arith
 params_long params.Void = omega arith
 params_long (params.List list) = simp length-append (omega (arith, between_commas param_kinds list))
@@ -99,7 +99,7 @@ items_long (x ∷ xs) = omega (arith, item_long x, items_long xs, length-append 
 
 -- the strings
 
-part_bytes : (x : Option ExprTree) → part_text x ≤ bytes_in (optional expr_kinds x)
+part_bytes : (x : Option ExprTree) → part_text x ≤ bytes_in (optional_kinds expr_kinds x)
 part_bytes None = omega arith
 part_bytes (Some x) = expr_bytes x
 

@@ -19,22 +19,22 @@ bounded_by None element = None
 bounded_by (Some c) element = option_and_then (array_of c) element
 
 -- the array with these bounds, the last one innermost; none where a bound is missing or no length
-abbrev pub bounded : List Bound → TypeTree → Option TypeTree
-bounded [] t = Some t
-bounded (b ∷ bs) t = bounded_by b.length (bounded bs t)
+abbrev pub bounded_array : List Bound → TypeTree → Option TypeTree
+bounded_array [] t = Some t
+bounded_array (b ∷ bs) t = bounded_by b.length (bounded_array bs t)
 
 -- an array of a length that isn't known yet
-abbrev pub unbounded : TypeTree → TypeTree
-unbounded element = Array element 0
+abbrev pub unbounded_array : TypeTree → TypeTree
+unbounded_array element = Array element 0
 
 abbrev pub first_bounded : Option Constant → Option TypeTree → Option TypeTree
-first_bounded None element = option_map unbounded element
+first_bounded None element = option_map unbounded_array element
 first_bounded (Some c) element = option_and_then (array_of c) element
 
 -- as before, but the first bound may be missing
 abbrev pub with_bounds : List Bound → TypeTree → Option TypeTree
 with_bounds [] t = Some t
-with_bounds (b ∷ bs) t = first_bounded b.length (bounded bs t)
+with_bounds (b ∷ bs) t = first_bounded b.length (bounded_array bs t)
 
 abbrev pub declared_type : Declarator → TypeTree → Option TypeTree
 declared_type d b = with_bounds d.bounds (with_stars d.stars b)

@@ -7,7 +7,7 @@ use Rattle.c_syntax.specs.Words.{ExprTree, ExprList, first_token, InitialTree}
 use Rattle.c_syntax.specs.StatementTree as s
 use Rattle.c_types_rules.specs.declared.fault.FaultKind.TheVariants as fault
 use Rattle.c_types_rules.specs.declared.operand.Operand.{Operand}
-use Rattle.c_types_rules.specs.Words.{TypeTree, Char, Array, assignable, is_scalar}
+use Rattle.c_types_rules.specs.Words.{TypeTree, Char, Array, is_assignable, is_scalar}
 use Rattle.c_types_expressions.specs.declared.walk.Walk.{Walk}
 use Rattle.c_types_expressions.specs.Words.{Walked, Fine, Faulty, ◌>>=◌, walk_expr, walk_exprs, string_cells}
 
@@ -28,13 +28,13 @@ is_constant (e.Null token) = true
 is_constant x = false
 
 -- whether the expression may initialise an object of the scalar type
-abbrev pub initialises : Bool → TypeTree → ExprTree → Operand → Bool
-initialises global t value x = is_scalar t && assignable t x && (not global || is_constant value)
+abbrev pub is_scalar_initialiser : Bool → TypeTree → ExprTree → Operand → Bool
+is_scalar_initialiser global t value x = is_scalar t && is_assignable t x && (not global || is_constant value)
 
 abbrev pub all_initialise : Bool → TypeTree → ExprList → List Operand → Bool
 all_initialise global t e.no_exprs xs = true
 all_initialise global t (e.more_exprs value rest) [] = false
-all_initialise global t (e.more_exprs value rest) (x ∷ xs) = initialises global t value x && all_initialise global t rest xs
+all_initialise global t (e.more_exprs value rest) (x ∷ xs) = is_scalar_initialiser global t value x && all_initialise global t rest xs
 
 -- an array of this length, or of a length that isn't known yet, takes so many items
 abbrev pub takes_items : ℕ → ℕ → Bool
@@ -69,8 +69,8 @@ is_char_array (Array element size) = is_char element
 is_char_array t = false
 
 -- The array that a string of so many cells completes. It takes a string also without its closing zero.
-abbrev pub spelled : ℕ → TypeTree → Option TypeTree
-spelled cells t =
+abbrev pub type_by_string : ℕ → TypeTree → Option TypeTree
+type_by_string cells t =
     if length_of t == 0 || nat_le cells (length_of t + 1) then Some (with_length (known_length (length_of t) cells) t) else None
 
 -- how many cells the expression has as a string, if it is one
@@ -78,22 +78,22 @@ abbrev pub cells_of_string : ExprTree → Option ℕ
 cells_of_string (e.Strings token parts) = Some (string_cells parts)
 cells_of_string x = None
 
-abbrev pub expressed : Bool → TypeTree → ExprTree → Operand → Option TypeTree
-expressed global t value x = if initialises global t value x then Some t else None
+abbrev pub type_if_initialised : Bool → TypeTree → ExprTree → Operand → Option TypeTree
+type_if_initialised global t value x = if is_scalar_initialiser global t value x then Some t else None
 
-abbrev pub valued : Bool → TypeTree → ExprTree → Operand → Option ℕ → Option TypeTree
-valued global t value x None = expressed global t value x
-valued global t value x (Some cells) = if is_char_array t then spelled cells t else expressed global t value x
+abbrev pub type_by_expression : Bool → TypeTree → ExprTree → Operand → Option ℕ → Option TypeTree
+type_by_expression global t value x None = type_if_initialised global t value x
+type_by_expression global t value x (Some cells) = if is_char_array t then type_by_string cells t else type_if_initialised global t value x
 
 -- the completed type, or a fault at the initialiser's first token
-abbrev pub completes : ℕ → Option TypeTree → Walk → Walked TypeTree
-completes token None w = Faulty fault.Initialiser token
-completes token (Some t) w = Fine t w
+abbrev pub type_or_fault : ℕ → Option TypeTree → Walk → Walked TypeTree
+type_or_fault token None w = Faulty fault.Initialiser token
+type_or_fault token (Some t) w = Fine t w
 
 -- An initialiser of an object of the type: the type as it completes it.
 abbrev pub walk_initial : Bool → TypeTree → Option InitialTree → Walk → Walked TypeTree
 walk_initial global t None w = Fine t w
 walk_initial global t (Some (s.Value value)) w =
-    walk_expr value w >>= λ x v. completes (first_token value) (valued global t value x (cells_of_string value)) v
+    walk_expr value w >>= λ x v. type_or_fault (first_token value) (type_by_expression global t value x (cells_of_string value)) v
 walk_initial global t (Some (s.Braced token items comma)) w =
-    walk_exprs items [] w >>= λ xs v. completes token (listed_type global items xs t) v
+    walk_exprs items [] w >>= λ xs v. type_or_fault token (listed_type global items xs t) v

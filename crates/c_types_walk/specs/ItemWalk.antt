@@ -22,7 +22,8 @@ use Rattle.c_types_expressions.specs.declared.names.ScopeEntry.TheVariants.{Decl
 use Rattle.c_types_expressions.specs.declared.walk.FunctionEntry.{FunctionEntry}
 use Rattle.c_types_expressions.specs.declared.walk.Parameter.{Parameter}
 use Rattle.c_types_expressions.specs.declared.walk.Walk.{Walk}
-use Rattle.c_types_expressions.specs.Words.{found, is_here, is_reserved, Walked, Fine, Faulty, ◌>>=◌, Done, replaced, with_variable, opened, closing, base_type}
+use Rattle.c_types_expressions.specs.Words.{declared_meaning, is_here, is_reserved, Walked, Fine, Faulty, ◌>>=◌, Done, item_replaced, with_variable}
+use Rattle.c_types_expressions.specs.Words.{scope_opened, scope_closed, base_type}
 use Rattle.c_types_expressions.specs.Words.{with_stars}
 use Rattle.c_types_walk.specs.Declarators.{declared_type}
 use Rattle.c_types_walk.specs.StatementWalk.{walk_declaration, walk_entries}
@@ -50,14 +51,14 @@ walk_members (m ∷ ms) s w = base_type m.base w >>= λ b v. walk_declarators b 
 abbrev pub with_tag : List ℕ → Walk → Walk
 with_tag tag w = record w { tags = Declares tag (meaning.Struct (length w.structs)) ∷ w.tags }
 
-abbrev pub defined : ℕ → Bool → StructType → Walk → Walked Done
-defined token twice s w =
+abbrev pub struct_defined : ℕ → Bool → StructType → Walk → Walked Done
+struct_defined token twice s w =
     if twice then Faulty fault.Redeclared token
     else if nat_le s.cells most_cells then Fine tt (record w { structs = w.structs ++ s ∷ [] })
     else Faulty fault.Object token
 
 abbrev pub walk_struct : ℕ → List ℕ → List Members → Walk → Walked Done
-walk_struct token tag members w = walk_members members empty_struct (with_tag tag w) >>= λ s v. defined token (is_here tag w.tags) s v
+walk_struct token tag members w = walk_members members empty_struct (with_tag tag w) >>= λ s v. struct_defined token (is_here tag w.tags) s v
 
 -- parameters
 
@@ -143,37 +144,37 @@ abbrev pub is_defined : ℕ → List (Option ℕ) → Bool
 is_defined index defined_as = is_some (unwrap_or (slice_get defined_as index) None)
 
 -- a function's own faults: declared otherwise than before, with a name of the library, or with a result of struct type
-abbrev pub declares : ℕ → Bool → TypeTree → Walk → Walked Done
-declares token taken gives w =
+abbrev pub function_checked : ℕ → Bool → TypeTree → Walk → Walked Done
+function_checked token taken gives w =
     if taken then Faulty fault.Redeclared token else if is_struct gives then Faulty fault.Object token else Fine tt w
 
 -- whether the name is one of the library, or was declared otherwise
-abbrev pub clashes : List ℕ → Option ℕ → Walk → Bool
-clashes name known w = is_reserved name || (is_here name w.names && is_none known)
+abbrev pub is_clashing_name : List ℕ → Option ℕ → Walk → Bool
+is_clashing_name name known w = is_reserved name || (is_here name w.names && is_none known)
 
 abbrev pub with_definition : ℕ → ℕ → Walk → Walk
 with_definition index first w = record w {
-  defined_as = replaced w.defined_as index (Some (length w.definitions));
+  defined_as = item_replaced w.defined_as index (Some (length w.definitions));
   definitions = w.definitions ++ record { function = index; first = first; count = w.locals } ∷ [];
 }
 
 -- the variables of a function begin with its parameters, which share the scope of its body
-abbrev pub entered : List Parameter → Walk → Walk
-entered ps w = with_params ps (opened (record w { locals = 0 }))
+abbrev pub body_scope_opened : List Parameter → Walk → Walk
+body_scope_opened ps w = with_params ps (scope_opened (record w { locals = 0 }))
 
 -- The body of a function, and then the function itself: it is defined once.
 unfoldable pub walk_body : ℕ → FunctionType → List ℕ → List Parameter → EntryList → Option ℕ → Walk → Walked Done
 walk_body token f name ps body known w =
-    walk_entries f.gives false body (entered ps (with_function name f known w)) >>= closing >>= λ _ v.
-    declares token (clashes name known w || is_defined (unwrap_or known (length w.functions)) w.defined_as) f.gives v >>= λ _ u.
+    walk_entries f.gives false body (body_scope_opened ps (with_function name f known w)) >>= scope_closed >>= λ _ v.
+    function_checked token (is_clashing_name name known w || is_defined (unwrap_or known (length w.functions)) w.defined_as) f.gives v >>= λ _ u.
     Fine tt (with_definition (unwrap_or known (length w.functions)) (length w.variables) u)
 
 abbrev pub walk_function : ℕ → FunctionType → List ℕ → List Parameter → Option EntryList → Option ℕ → Walk → Walked Done
-walk_function token f name ps None known w = declares token (clashes name known w) f.gives (with_function name f known w)
+walk_function token f name ps None known w = function_checked token (is_clashing_name name known w) f.gives (with_function name f known w)
 walk_function token f name ps (Some body) known w = walk_body token f name ps body known w
 
 abbrev pub typed_function : ℕ → FunctionType → List ℕ → List Parameter → Option EntryList → Walk → Walked Done
-typed_function token f name ps body w = walk_function token f name ps body (known_as f (found name w.names) w) w
+typed_function token f name ps body w = walk_function token f name ps body (known_as f (declared_meaning name w.names) w) w
 
 abbrev pub walk_item : ItemTree → Walk → Walked Done
 walk_item (i.Struct token tag members) w = walk_struct token tag members w

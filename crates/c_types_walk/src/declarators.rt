@@ -1,5 +1,5 @@
 ghost use Rattle.std.specs.Prelude.{◌≡◌, IfOk};
-ghost use Rattle.c_types_walk.specs.Declarators.{array_of, bounded, declared_type, is_bound, is_open, with_bounds};
+ghost use Rattle.c_types_walk.specs.Declarators.{array_of, bounded_array, declared_type, is_bound, is_open, with_bounds};
 
 use c_syntax::{Bound, Constant, Declarator};
 use c_types_expressions::with_stars;
@@ -31,7 +31,7 @@ fn array_of(alloc: Global, c: &Constant, element: Type) -> Result<Option<Type>, 
 
 /// The array with these bounds; None where a bound is missing or no length.
 fn bounded(alloc: Global, bounds: &[Bound], element: Type) -> Result<Option<Type>, Memory>
-    ensures { IfOk result (λ t. t ≡ bounded bounds.now element) }
+    ensures { IfOk result (λ t. t ≡ bounded_array bounds.now element) }
 {
     let [bound, rest @ ..] = bounds else {
         return Ok(Some(element));

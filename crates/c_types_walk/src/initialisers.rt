@@ -1,11 +1,13 @@
 ghost use Rattle.std.specs.Prelude.{◌≡◌, ◌<◌, ◌≤◌, IfOk, OnOk, option_map, length};
 ghost use Rattle.c_syntax.specs.Words.{most_bytes, most_tokens, plain_expr, plain_exprs, plain_initial};
 ghost use Rattle.c_types_rules.specs.Plain.{plain_type};
-ghost use Rattle.c_types_walk.specs.Initialisers.{all_initialise, cells_of_string, completes, expressed, initialises, is_char, is_char_array, is_constant};
-ghost use Rattle.c_types_walk.specs.Initialisers.{is_number, known_length, length_of, listed_type, spelled, takes_items, valued, walk_initial};
+ghost use Rattle.c_types_walk.specs.Initialisers.{all_initialise, cells_of_string, type_or_fault, type_if_initialised, is_scalar_initialiser, is_char};
+ghost use Rattle.c_types_walk.specs.Initialisers.{is_char_array, is_constant};
+ghost use Rattle.c_types_walk.specs.Initialisers.{is_number, known_length, length_of, listed_type, type_by_string, takes_items, type_by_expression};
+ghost use Rattle.c_types_walk.specs.Initialisers.{walk_initial};
 ghost use Rattle.c_types_walk.specs.Initialisers.{with_length};
 ghost use Rattle.c_types_walk.specs.Room.{initial_needs, initial_text};
-ghost use Rattle.c_types_expressions.specs.Words.{HasLeft, expr_text, IsWalked};
+ghost use Rattle.c_types_expressions.specs.Words.{HasRoomLeft, expr_text, IsWalked};
 
 use c_syntax::{Expr, Initial, PrefixOperator};
 use c_types_expressions::{Stop, Walk, string_cells, walk_expr, walk_exprs};
@@ -47,7 +49,7 @@ fn is_constant(expr: &Expr) -> bool
 
 /// Whether the expression may initialise an object of the scalar type.
 fn initialises(global: bool, ctype: &CType, value: &Expr, x: &Operand) -> bool
-    ensures { result ≡ initialises global (plain_type ctype.now) (plain_expr value.now) x.now }
+    ensures { result ≡ is_scalar_initialiser global (plain_type ctype.now) (plain_expr value.now) x.now }
 {
     is_scalar(ctype) && assignable(ctype, x) && (!global || is_constant(value))
 }
@@ -163,7 +165,7 @@ fn length_of(ctype: &CType) -> u32
 
 /// The type that a string of so many cells completes; None where the string doesn't fit.
 fn spelled(alloc: Global, cells: u32, ctype: &Type) -> Result<Option<Type>, Memory>
-    ensures { IfOk result (λ t. t ≡ spelled cells ctype.now) }
+    ensures { IfOk result (λ t. t ≡ type_by_string cells ctype.now) }
 {
     let length = length_of(ctype.shape());
     if length == 0 || cells as u64 <= length as u64 + 1 {
@@ -180,7 +182,7 @@ fn expressed(
     value: &Expr,
     x: &Operand,
 ) -> Result<Option<Type>, Memory>
-    ensures { IfOk result (λ t. t ≡ expressed global ctype.now (plain_expr value.now) x.now) }
+    ensures { IfOk result (λ t. t ≡ type_if_initialised global ctype.now (plain_expr value.now) x.now) }
 {
     if !initialises(global, ctype.shape(), value, x) {
         return Ok(None);
@@ -212,7 +214,7 @@ fn valued(
     x: &Operand,
 ) -> Result<Option<Type>, Memory>
     requires { expr_text (plain_expr value.now) < most_bytes }
-    ensures { IfOk result (λ t. t ≡ valued global ctype.now (plain_expr value.now) x.now (cells_of_string (plain_expr value.now))) }
+    ensures { IfOk result (λ t. t ≡ type_by_expression global ctype.now (plain_expr value.now) x.now (cells_of_string (plain_expr value.now))) }
 {
     match cells_of_string(value) {
         None => expressed(alloc, global, ctype, value, x),
@@ -227,8 +229,8 @@ fn valued(
 
 /// The completed type, or a fault at the initialiser's first token.
 fn completes(walk: &mut Walk, index: u32, ctype: Option<Type>) -> Result<Type, Stop>
-    ensures walked { IsWalked (completes index ctype walk.old) result walk.new }
-    ensures left { OnOk result (HasLeft 0 0 walk.old walk.new) }
+    ensures walked { IsWalked (type_or_fault index ctype walk.old) result walk.new }
+    ensures left { OnOk result (HasRoomLeft 0 0 walk.old walk.new) }
 {
     match ctype {
         None => Err(Stop::fault(FaultKind::Initialiser, index)),
@@ -247,7 +249,7 @@ pub fn walk_initial(
     requires few { initial_needs (option_map plain_initial initial.now) ≤ most_tokens }
     requires text { initial_text (option_map plain_initial initial.now) < most_bytes }
     ensures walked { IsWalked (walk_initial global ctype.now (option_map plain_initial initial.now) walk.old) result walk.new }
-    ensures left { OnOk result (HasLeft 0 0 walk.old walk.new) }
+    ensures left { OnOk result (HasRoomLeft 0 0 walk.old walk.new) }
 {
     match initial {
         None => Ok(ctype.try_clone(alloc)?),

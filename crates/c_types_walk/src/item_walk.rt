@@ -1,10 +1,11 @@
-ghost use Rattle.std.specs.Prelude.{◌≡◌, ◌<◌, ◌||◌, IfOk, OnOk, map, option_map, unwrap_or, length, sum_by, true};
+ghost use Rattle.std.specs.Prelude.{◌≡◌, ◌<◌, ◌||◌, IfOk, OnOk, map, option_map, length, sum_by, true};
 ghost use Rattle.std.specs.List.{flat_map};
 ghost use Rattle.c_syntax.specs.Words.{most_bytes, plain_entries, plain_item, item_kinds, kind_text_len};
-ghost use Rattle.c_types_walk.specs.ItemWalk.{clashes, declares, entered, is_defined, known_as, typed_function, types_of, walk_body, walk_function};
+ghost use Rattle.c_types_walk.specs.ItemWalk.{is_clashing_name, function_checked, body_scope_opened, is_defined, known_as, typed_function, types_of, walk_body};
+ghost use Rattle.c_types_walk.specs.ItemWalk.{walk_function};
 ghost use Rattle.c_types_walk.specs.ItemWalk.{walk_item, walk_items, with_definition, with_function};
 ghost use Rattle.c_types_walk.specs.Room.{body_text, entries_text, function_needs, item_needs, item_text};
-ghost use Rattle.c_types_expressions.specs.Words.{with_stars, found, HasLeft, HasRoom, Fine, IsWalked};
+ghost use Rattle.c_types_expressions.specs.Words.{with_stars, HasRoomLeft, HasRoom, Fine, IsWalked};
 
 use crate::params::{add_params, listed, types_of, walk_params};
 use crate::statement_walk::{walk_declaration, walk_entries};
@@ -47,7 +48,7 @@ fn known_as(walk: &Walk, meaning: Option<Meaning>, function: &FunctionType) -> O
 
 /// Whether the name is one of the library, or was declared otherwise.
 fn clashes(walk: &Walk, name: &Name, known: Option<u32>) -> bool
-    ensures { result ≡ clashes name.now known walk.now }
+    ensures { result ≡ is_clashing_name name.now known walk.now }
 {
     is_reserved(name) || (walk.names.is_here(name) && known.is_none())
 }
@@ -71,7 +72,7 @@ fn add_function(
 ) -> Result<(), Stop>
     requires { HasRoom 1 walk.old }
     ensures walked { IsWalked (Fine tt (with_function name.now function known walk.old)) result walk.new }
-    ensures left { OnOk result (HasLeft 1 0 walk.old walk.new) }
+    ensures left { OnOk result (HasRoomLeft 1 0 walk.old walk.new) }
 {
     if known.is_some() {
         return Ok(());
@@ -88,8 +89,8 @@ fn add_function(
 
 /// A function's own faults.
 fn declares(walk: &mut Walk, token: u32, taken: bool, gives: &Type) -> Result<(), Stop>
-    ensures walked { IsWalked (declares token taken gives.now walk.old) result walk.new }
-    ensures left { OnOk result (HasLeft 0 0 walk.old walk.new) }
+    ensures walked { IsWalked (function_checked token taken gives.now walk.old) result walk.new }
+    ensures left { OnOk result (HasRoomLeft 0 0 walk.old walk.new) }
 {
     if taken {
         return Err(Stop::fault(FaultKind::Redeclared, token));
@@ -104,7 +105,7 @@ fn declares(walk: &mut Walk, token: u32, taken: bool, gives: &Type) -> Result<()
 fn add_definition(walk: &mut Walk, function: u32, first: u32) -> Result<(), Stop>
     requires { HasRoom 1 walk.old }
     ensures walked { IsWalked (Fine tt (with_definition function first walk.old)) result walk.new }
-    ensures left { OnOk result (HasLeft 1 0 walk.old walk.new) }
+    ensures left { OnOk result (HasRoomLeft 1 0 walk.old walk.new) }
 {
     let number = next_number(walk.definitions.len());
     let count = walk.locals;
@@ -120,8 +121,8 @@ fn add_definition(walk: &mut Walk, function: u32, first: u32) -> Result<(), Stop
 /// The scope of a function begins with its parameters.
 fn enter(alloc: Global, walk: &mut Walk, params: &[Parameter]) -> Result<(), Stop>
     requires { HasRoom (length params.now) walk.old }
-    ensures walked { IsWalked (Fine tt (entered params.now walk.old)) result walk.new }
-    ensures left { OnOk result (HasLeft (length params.now) 0 walk.old walk.new) }
+    ensures walked { IsWalked (Fine tt (body_scope_opened params.now walk.old)) result walk.new }
+    ensures left { OnOk result (HasRoomLeft (length params.now) 0 walk.old walk.new) }
 {
     walk.locals = 0;
     open_scope(walk)?;
@@ -142,7 +143,7 @@ fn walk_body(
     requires text { entries_text (plain_entries body.now) < most_bytes }
     ensures walked { IsWalked (walk_body head.now.token function head.now.name.now head.now.params.now (plain_entries body.now) known walk.old)
         result walk.new }
-    ensures left { OnOk result (HasLeft (function_needs (length head.now.params.now) (Some (plain_entries body.now))) 0 walk.old walk.new) }
+    ensures left { OnOk result (HasRoomLeft (function_needs (length head.now.params.now) (Some (plain_entries body.now))) 0 walk.old walk.new) }
 {
     let index = match known {
         Some(index) => index,
@@ -172,7 +173,7 @@ fn walk_function(
     requires text { body_text (option_map plain_entries body.now) < most_bytes }
     ensures walked { IsWalked (typed_function head.now.token function head.now.name.now head.now.params.now
         (option_map plain_entries body.now) walk.old) result walk.new }
-    ensures left { OnOk result (HasLeft (function_needs (length head.now.params.now) (option_map plain_entries body.now)) 0 walk.old walk.new) }
+    ensures left { OnOk result (HasRoomLeft (function_needs (length head.now.params.now) (option_map plain_entries body.now)) 0 walk.old walk.new) }
 {
     let meaning = walk.names.find(head.name);
     let known = known_as(walk, meaning, &function);
@@ -207,7 +208,7 @@ fn walk_item(alloc: Global, walk: &mut Walk, item: &Item) -> Result<(), Stop>
     requires room { HasRoom (item_needs (plain_item item.now)) walk.old }
     requires text { item_text (plain_item item.now) < most_bytes }
     ensures walked { IsWalked (walk_item (plain_item item.now) walk.old) result walk.new }
-    ensures left { OnOk result (HasLeft (item_needs (plain_item item.now)) 0 walk.old walk.new) }
+    ensures left { OnOk result (HasRoomLeft (item_needs (plain_item item.now)) 0 walk.old walk.new) }
 {
     match item {
         Item::Struct {

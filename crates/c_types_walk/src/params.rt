@@ -1,7 +1,7 @@
 ghost use Rattle.std.specs.Prelude.{◌≡◌, [], IfOk, OnOk, length};
 ghost use Rattle.c_types_walk.specs.ItemWalk.{has_length, is_among, is_length, is_named, listed_params, looked_param, named_param, param_type};
 ghost use Rattle.c_types_walk.specs.ItemWalk.{scalar_param, types_of, walk_param, walk_params, with_param, with_params};
-ghost use Rattle.c_types_expressions.specs.Words.{HasLeft, HasRoom, Fine, IsWalked};
+ghost use Rattle.c_types_expressions.specs.Words.{HasRoomLeft, HasRoom, Fine, IsWalked};
 
 use c_syntax::{Bound, Constant, Param, ParamName, Params};
 use c_types_expressions::{
@@ -81,7 +81,7 @@ fn scalar_param(
     param: Parameter,
 ) -> Result<Parameter, Stop>
     ensures walked { IsWalked (scalar_param index bound.now param.ctype param walk.old) result walk.new }
-    ensures left { OnOk result (HasLeft 0 0 walk.old walk.new) }
+    ensures left { OnOk result (HasRoomLeft 0 0 walk.old walk.new) }
 {
     if is_scalar(param.ctype.shape()) && has_length(bound) {
         return Ok(param);
@@ -99,7 +99,7 @@ fn named_param(
     before: &[Parameter],
 ) -> Result<Parameter, Stop>
     ensures walked { IsWalked (named_param index known.now ctype before.now walk.old) result walk.new }
-    ensures left { OnOk result (HasLeft 0 0 walk.old walk.new) }
+    ensures left { OnOk result (HasRoomLeft 0 0 walk.old walk.new) }
 {
     if is_reserved(&known.name) || is_among(&known.name, before) {
         return Err(Stop::fault(FaultKind::Redeclared, index));
@@ -121,7 +121,7 @@ fn looked_param(
     before: &[Parameter],
 ) -> Result<Parameter, Stop>
     ensures walked { IsWalked (looked_param body param.now.token param.now.name ctype before.now walk.old) result walk.new }
-    ensures left { OnOk result (HasLeft 0 0 walk.old walk.new) }
+    ensures left { OnOk result (HasRoomLeft 0 0 walk.old walk.new) }
 {
     let token = param.token;
     match &param.name {
@@ -145,7 +145,7 @@ fn walk_param(
     before: &[Parameter],
 ) -> Result<Parameter, Stop>
     ensures walked { IsWalked (walk_param body param.now before.now walk.old) result walk.new }
-    ensures left { OnOk result (HasLeft 0 0 walk.old walk.new) }
+    ensures left { OnOk result (HasRoomLeft 0 0 walk.old walk.new) }
 {
     let base = base_type(walk, &param.base)?;
     let ctype = with_stars(alloc, param.stars, &base)?;
@@ -161,7 +161,7 @@ pub fn walk_params(
 ) -> Result<Seq<Parameter>, Stop>
     ensures walked { IsWalked (walk_params body params.now [] walk.old) result walk.new }
     ensures many { IfOk result (λ ps. length ps ≡ length params.now) }
-    ensures left { OnOk result (HasLeft 0 0 walk.old walk.new) }
+    ensures left { OnOk result (HasRoomLeft 0 0 walk.old walk.new) }
 {
     let mut done = Seq::new(alloc);
     for param in params {
@@ -186,7 +186,7 @@ pub fn types_of(alloc: Global, params: &[Parameter]) -> Result<Seq<Type>, Memory
 fn add_param(alloc: Global, walk: &mut Walk, param: &Parameter) -> Result<(), Stop>
     requires { HasRoom 1 walk.old }
     ensures walked { IsWalked (Fine tt (with_param param.now.token param.now.name param.now.ctype walk.old)) result walk.new }
-    ensures left { OnOk result (HasLeft 1 0 walk.old walk.new) }
+    ensures left { OnOk result (HasRoomLeft 1 0 walk.old walk.new) }
 {
     match &param.name {
         None => Ok(()),
@@ -201,7 +201,7 @@ fn add_param(alloc: Global, walk: &mut Walk, param: &Parameter) -> Result<(), St
 pub fn add_params(alloc: Global, walk: &mut Walk, params: &[Parameter]) -> Result<(), Stop>
     requires { HasRoom (length params.now) walk.old }
     ensures walked { IsWalked (Fine tt (with_params params.now walk.old)) result walk.new }
-    ensures left { OnOk result (HasLeft (length params.now) 0 walk.old walk.new) }
+    ensures left { OnOk result (HasRoomLeft (length params.now) 0 walk.old walk.new) }
 {
     for param in params {
         add_param(alloc, walk, param)?;

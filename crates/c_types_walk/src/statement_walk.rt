@@ -1,13 +1,14 @@
-ghost use Rattle.std.specs.Prelude.{◌≡◌, ◌<◌, map, option_map, length, true, false, OnOk};
+ghost use Rattle.std.specs.Prelude.{◌≡◌, ◌<◌, map, option_map, true, false, OnOk};
 ghost use Rattle.c_syntax.specs.Words.{most_bytes, plain_declaration, plain_entries, plain_expr, plain_for_start, plain_start, plain_statement};
 ghost use Rattle.c_syntax.specs.StatementTree as s;
-ghost use Rattle.c_types_walk.specs.StatementWalk.{counted_cells, is_condition_part, is_struct_part, returned, sized, walk_closed, walk_condition};
+ghost use Rattle.c_types_walk.specs.StatementWalk.{counted_cells, is_condition_part, is_struct_part, returned_value_checked, object_type_checked, walk_closed};
+ghost use Rattle.c_types_walk.specs.StatementWalk.{walk_condition};
 ghost use Rattle.c_types_walk.specs.StatementWalk.{walk_declaration, walk_entries, walk_for_start, walk_given_up, walk_open, walk_optional, walk_start};
-ghost use Rattle.c_types_walk.specs.StatementWalk.{walk_starts, walk_statement, walk_typed, with_declared_type};
+ghost use Rattle.c_types_walk.specs.StatementWalk.{walk_starts, walk_statement, walk_typed};
 ghost use Rattle.c_types_walk.specs.Room.{declaration_needs, declaration_text, entries_need, entries_text, for_start_needs, for_start_text, part_text};
 ghost use Rattle.c_types_walk.specs.Room.{start_needs, start_text, starts_need, starts_text, statement_needs, statement_text};
 ghost use Rattle.c_types_rules.specs.Operators.{is_scalar_value};
-ghost use Rattle.c_types_expressions.specs.Words.{walk_expr, walk_whole, HasLeft, HasRoom, expr_text, IsWalked};
+ghost use Rattle.c_types_expressions.specs.Words.{walk_expr, walk_whole, HasRoomLeft, HasRoom, expr_text, IsWalked};
 
 use crate::declarators::{declared_type, is_open};
 use crate::initialisers::walk_initial;
@@ -27,7 +28,7 @@ const MOST_CELLS: u32 = 1_048_576;
 /// Counts the cells of a global with those of the globals before it.
 fn counted(walk: &mut Walk, global: bool, token: u32, cells: u32) -> Result<(), Stop>
     ensures walked { IsWalked (counted_cells global token cells walk.old) result walk.new }
-    ensures left { OnOk result (HasLeft 0 0 walk.old walk.new) }
+    ensures left { OnOk result (HasRoomLeft 0 0 walk.old walk.new) }
 {
     if !global {
         return Ok(());
@@ -46,8 +47,8 @@ fn counted(walk: &mut Walk, global: bool, token: u32, cells: u32) -> Result<(), 
 
 /// Whether a variable may have the type, and its cells fit.
 fn sized(walk: &mut Walk, global: bool, token: u32, ctype: &Type) -> Result<(), Stop>
-    ensures walked { IsWalked (sized global token ctype.now walk.old) result walk.new }
-    ensures left { OnOk result (HasLeft 0 0 walk.old walk.new) }
+    ensures walked { IsWalked (object_type_checked global token ctype.now walk.old) result walk.new }
+    ensures left { OnOk result (HasRoomLeft 0 0 walk.old walk.new) }
 {
     if !is_object(walk.structs.as_slice(), ctype.shape()) {
         return Err(Stop::fault(FaultKind::Object, token));
@@ -67,7 +68,7 @@ fn walk_open(
     requires room { HasRoom (start_needs (plain_start start.now)) walk.old }
     requires text { start_text (plain_start start.now) < most_bytes }
     ensures walked { IsWalked (walk_open global (plain_start start.now) ctype.now walk.old) result walk.new }
-    ensures left { OnOk result (HasLeft (start_needs (plain_start start.now)) 0 walk.old walk.new) }
+    ensures left { OnOk result (HasRoomLeft (start_needs (plain_start start.now)) 0 walk.old walk.new) }
 {
     let place = next_number(walk.variables.len());
     let declarator = &start.declarator;
@@ -90,7 +91,7 @@ fn walk_closed(
     requires room { HasRoom (start_needs (plain_start start.now)) walk.old }
     requires text { start_text (plain_start start.now) < most_bytes }
     ensures walked { IsWalked (walk_closed global (plain_start start.now) ctype.now walk.old) result walk.new }
-    ensures left { OnOk result (HasLeft (start_needs (plain_start start.now)) 0 walk.old walk.new) }
+    ensures left { OnOk result (HasRoomLeft (start_needs (plain_start start.now)) 0 walk.old walk.new) }
 {
     sized(walk, global, start.token, ctype)?;
     let declarator = &start.declarator;
@@ -112,7 +113,7 @@ fn walk_typed(
     requires room { HasRoom (start_needs (plain_start start.now)) walk.old }
     requires text { start_text (plain_start start.now) < most_bytes }
     ensures walked { IsWalked (walk_typed global (plain_start start.now) ctype walk.old) result walk.new }
-    ensures left { OnOk result (HasLeft (start_needs (plain_start start.now)) 0 walk.old walk.new) }
+    ensures left { OnOk result (HasRoomLeft (start_needs (plain_start start.now)) 0 walk.old walk.new) }
 {
     let Some(ctype) = ctype else {
         return Err(Stop::fault(FaultKind::Object, start.token));
@@ -137,7 +138,7 @@ fn walk_start(
     requires room { HasRoom (start_needs (plain_start start.now)) walk.old }
     requires text { start_text (plain_start start.now) < most_bytes }
     ensures walked { IsWalked (walk_start global base.now (plain_start start.now) walk.old) result walk.new }
-    ensures left { OnOk result (HasLeft (start_needs (plain_start start.now)) 0 walk.old walk.new) }
+    ensures left { OnOk result (HasRoomLeft (start_needs (plain_start start.now)) 0 walk.old walk.new) }
 {
     if walk.names.is_taken(&start.declarator.name) {
         return Err(Stop::fault(FaultKind::Redeclared, start.token));
@@ -157,7 +158,7 @@ fn walk_starts(
     requires room { HasRoom (starts_need (map plain_start starts.now)) walk.old }
     requires text { starts_text (map plain_start starts.now) < most_bytes }
     ensures walked { IsWalked (walk_starts global base.now (map plain_start starts.now) walk.old) result walk.new }
-    ensures left { OnOk result (HasLeft (starts_need (map plain_start starts.now)) 0 walk.old walk.new) }
+    ensures left { OnOk result (HasRoomLeft (starts_need (map plain_start starts.now)) 0 walk.old walk.new) }
 {
     for start in starts {
         walk_start(alloc, walk, global, base, start)?;
@@ -175,7 +176,7 @@ pub fn walk_declaration(
     requires room { HasRoom (declaration_needs (plain_declaration declaration.now)) walk.old }
     requires text { declaration_text (plain_declaration declaration.now) < most_bytes }
     ensures walked { IsWalked (walk_declaration global (plain_declaration declaration.now) walk.old) result walk.new }
-    ensures left { OnOk result (HasLeft (declaration_needs (plain_declaration declaration.now)) 0 walk.old walk.new) }
+    ensures left { OnOk result (HasRoomLeft (declaration_needs (plain_declaration declaration.now)) 0 walk.old walk.new) }
 {
     let base = base_type(walk, &declaration.base)?;
     walk_starts(alloc, walk, global, &base, declaration.starts.as_slice())
@@ -192,7 +193,7 @@ fn decides(x: Operand) -> bool
 fn walk_condition(alloc: Global, walk: &mut Walk, token: u32, condition: &Expr) -> Result<(), Stop>
     requires text { expr_text (plain_expr condition.now) < most_bytes }
     ensures walked { IsWalked (walk_condition token (plain_expr condition.now) walk.old) result walk.new }
-    ensures left { OnOk result (HasLeft 0 0 walk.old walk.new) }
+    ensures left { OnOk result (HasRoomLeft 0 0 walk.old walk.new) }
 {
     let fits = decides(walk_expr(alloc, walk, condition)?);
     unless(walk, !fits, FaultKind::Operands, token)
@@ -202,7 +203,7 @@ fn walk_condition(alloc: Global, walk: &mut Walk, token: u32, condition: &Expr) 
 fn walk_given_up(alloc: Global, walk: &mut Walk, token: u32, expr: &Expr) -> Result<(), Stop>
     requires text { expr_text (plain_expr expr.now) < most_bytes }
     ensures walked { IsWalked (walk_given_up token (plain_expr expr.now) walk.old) result walk.new }
-    ensures left { OnOk result (HasLeft 0 0 walk.old walk.new) }
+    ensures left { OnOk result (HasRoomLeft 0 0 walk.old walk.new) }
 {
     let x = walk_whole(alloc, walk, expr)?;
     unless(walk, is_struct(x.ctype.shape()), FaultKind::Operands, token)
@@ -210,8 +211,8 @@ fn walk_given_up(alloc: Global, walk: &mut Walk, token: u32, expr: &Expr) -> Res
 
 /// A `return` with a value, of a function that gives this type.
 fn returned(walk: &mut Walk, token: u32, gives: &Type, x: &Operand) -> Result<(), Stop>
-    ensures walked { IsWalked (returned token gives.now x.now walk.old) result walk.new }
-    ensures left { OnOk result (HasLeft 0 0 walk.old walk.new) }
+    ensures walked { IsWalked (returned_value_checked token gives.now x.now walk.old) result walk.new }
+    ensures left { OnOk result (HasRoomLeft 0 0 walk.old walk.new) }
 {
     if is_void(gives.shape()) {
         return Err(Stop::fault(FaultKind::Jump, token));
@@ -230,7 +231,7 @@ fn walk_return(
 ) -> Result<(), Stop>
     requires text { part_text (option_map plain_expr value.now) < most_bytes }
     ensures walked { IsWalked (walk_statement gives.now true (s.Return token (option_map plain_expr value.now)) walk.old) result walk.new }
-    ensures left { OnOk result (HasLeft 0 0 walk.old walk.new) }
+    ensures left { OnOk result (HasRoomLeft 0 0 walk.old walk.new) }
 {
     match value {
         None => unless(walk, !is_void(gives.shape()), FaultKind::Jump, token),
@@ -249,7 +250,7 @@ fn walk_optional(
 ) -> Result<Option<Operand>, Stop>
     requires text { part_text (option_map plain_expr expr.now) < most_bytes }
     ensures walked { IsWalked (walk_optional (option_map plain_expr expr.now) walk.old) result walk.new }
-    ensures left { OnOk result (HasLeft 0 0 walk.old walk.new) }
+    ensures left { OnOk result (HasRoomLeft 0 0 walk.old walk.new) }
 {
     match expr {
         None => Ok(None),
@@ -265,7 +266,7 @@ fn walk_for_start(alloc: Global, walk: &mut Walk, start: &ForStart) -> Result<Op
     requires room { HasRoom (for_start_needs (plain_for_start start.now)) walk.old }
     requires text { for_start_text (plain_for_start start.now) < most_bytes }
     ensures walked { IsWalked (walk_for_start (plain_for_start start.now) walk.old) result walk.new }
-    ensures left { OnOk result (HasLeft (for_start_needs (plain_for_start start.now)) 0 walk.old walk.new) }
+    ensures left { OnOk result (HasRoomLeft (for_start_needs (plain_for_start start.now)) 0 walk.old walk.new) }
 {
     match start {
         ForStart::Declares { declaration } => {
@@ -308,7 +309,7 @@ pub fn walk_statement(
     requires room { HasRoom (statement_needs (plain_statement statement.now)) walk.old }
     requires text { statement_text (plain_statement statement.now) < most_bytes }
     ensures walked { IsWalked (walk_statement gives.now looping (plain_statement statement.now) walk.old) result walk.new }
-    ensures left { OnOk result (HasLeft (statement_needs (plain_statement statement.now)) 0 walk.old walk.new) }
+    ensures left { OnOk result (HasRoomLeft (statement_needs (plain_statement statement.now)) 0 walk.old walk.new) }
 {
     match statement {
         Statement::Block { entries, .. } => {
@@ -385,7 +386,7 @@ pub fn walk_entries(
     requires room { HasRoom (entries_need (plain_entries entries.now)) walk.old }
     requires text { entries_text (plain_entries entries.now) < most_bytes }
     ensures walked { IsWalked (walk_entries gives.now looping (plain_entries entries.now) walk.old) result walk.new }
-    ensures left { OnOk result (HasLeft (entries_need (plain_entries entries.now)) 0 walk.old walk.new) }
+    ensures left { OnOk result (HasRoomLeft (entries_need (plain_entries entries.now)) 0 walk.old walk.new) }
 {
     for entry in entries {
         match entry {

@@ -1,6 +1,6 @@
-ghost use Rattle.std.specs.Prelude.{◌≡◌, OnOk, IfOk};
-ghost use Rattle.c_types_walk.specs.ItemWalk.{defined, typed_member, walk_declarators, walk_member, walk_members, walk_struct, with_tag};
-ghost use Rattle.c_types_expressions.specs.Words.{HasLeft, HasRoom, Fine, IsWalked};
+ghost use Rattle.std.specs.Prelude.{◌≡◌, OnOk};
+ghost use Rattle.c_types_walk.specs.ItemWalk.{struct_defined, typed_member, walk_declarators, walk_member, walk_members, walk_struct, with_tag};
+ghost use Rattle.c_types_expressions.specs.Words.{HasRoomLeft, HasRoom, Fine, IsWalked};
 
 use crate::declarators::declared_type;
 use c_syntax::{Declarator, Members};
@@ -20,7 +20,7 @@ fn typed_member(
     known: StructType,
 ) -> Result<StructType, Stop>
     ensures walked { IsWalked (typed_member declarator.now ctype known walk.old) result walk.new }
-    ensures left { OnOk result (HasLeft 0 0 walk.old walk.new) }
+    ensures left { OnOk result (HasRoomLeft 0 0 walk.old walk.new) }
 {
     let Some(ctype) = ctype else {
         return Err(Stop::fault(FaultKind::Object, declarator.token));
@@ -43,7 +43,7 @@ fn walk_member(
     known: StructType,
 ) -> Result<StructType, Stop>
     ensures walked { IsWalked (walk_member base.now declarator.now known walk.old) result walk.new }
-    ensures left { OnOk result (HasLeft 0 0 walk.old walk.new) }
+    ensures left { OnOk result (HasRoomLeft 0 0 walk.old walk.new) }
 {
     if member_named(&declarator.name, known.members.as_slice()).is_some() {
         return Err(Stop::fault(FaultKind::Redeclared, declarator.token));
@@ -61,7 +61,7 @@ fn walk_declarators(
     first: StructType,
 ) -> Result<StructType, Stop>
     ensures walked { IsWalked (walk_declarators base.now declarators.now first walk.old) result walk.new }
-    ensures left { OnOk result (HasLeft 0 0 walk.old walk.new) }
+    ensures left { OnOk result (HasRoomLeft 0 0 walk.old walk.new) }
 {
     let mut known = first;
     for declarator in declarators {
@@ -78,7 +78,7 @@ fn walk_members(
     first: StructType,
 ) -> Result<StructType, Stop>
     ensures walked { IsWalked (walk_members members.now first walk.old) result walk.new }
-    ensures left { OnOk result (HasLeft 0 0 walk.old walk.new) }
+    ensures left { OnOk result (HasRoomLeft 0 0 walk.old walk.new) }
 {
     let mut known = first;
     for line in members {
@@ -92,7 +92,7 @@ fn walk_members(
 fn declare_tag(walk: &mut Walk, tag: &Name) -> Result<(), Stop>
     requires { HasRoom 1 walk.old }
     ensures walked { IsWalked (Fine tt (with_tag tag.now walk.old)) result walk.new }
-    ensures left { OnOk result (HasLeft 0 0 walk.old walk.new) }
+    ensures left { OnOk result (HasRoomLeft 0 0 walk.old walk.new) }
 {
     let index = next_number(walk.structs.len());
     walk.tags.declare(tag, Meaning::Struct { index })?;
@@ -101,8 +101,8 @@ fn declare_tag(walk: &mut Walk, tag: &Name) -> Result<(), Stop>
 
 /// A struct with all its members.
 fn defined(walk: &mut Walk, token: u32, twice: bool, known: StructType) -> Result<(), Stop>
-    ensures walked { IsWalked (defined token twice known walk.old) result walk.new }
-    ensures left { OnOk result (HasLeft 1 0 walk.old walk.new) }
+    ensures walked { IsWalked (struct_defined token twice known walk.old) result walk.new }
+    ensures left { OnOk result (HasRoomLeft 1 0 walk.old walk.new) }
 {
     if twice {
         return Err(Stop::fault(FaultKind::Redeclared, token));
@@ -124,7 +124,7 @@ pub fn walk_struct(
 ) -> Result<(), Stop>
     requires { HasRoom 1 walk.old }
     ensures walked { IsWalked (walk_struct token tag.now members.now walk.old) result walk.new }
-    ensures left { OnOk result (HasLeft 1 0 walk.old walk.new) }
+    ensures left { OnOk result (HasRoomLeft 1 0 walk.old walk.new) }
 {
     let twice = walk.tags.is_here(tag);
     declare_tag(walk, tag)?;

@@ -9,7 +9,7 @@ use Rattle.cbi_base.specs.declared.scalar.Kind.{Kind}
 use Rattle.cbi_base.specs.declared.scalar.Kind.TheVariants.{Char, Int, Unsigned}
 use Rattle.cbi_base.specs.declared.trap.Trap.{Trap}
 use Rattle.cbi_base.specs.declared.trap.Trap.TheVariants.{Overflow, Divide, Shift}
-use Rattle.cbi_base.specs.Words.{lies_in, wrapped, LiesIn, fitted, is_zero, quotient, remainder, is_count, two_to, left_shift, right_shift}
+use Rattle.cbi_base.specs.Words.{lies_in, wrapped_value, LiesIn, fitted_value, is_zero, quotient, remainder, is_count, two_to, left_shift, right_shift}
 use Rattle.c_values.specs.Laws.{IsModulo, IsDivision, IsLeastByMinusOne, IsRoundedDown}
 use Rattle.c_values.proofs.Ranges.{LiesIn-ends, ends-LiesIn}
 use Rattle.c_values.proofs.Modulo.{wrapped-IsModulo, wrapped-inside}
@@ -32,28 +32,28 @@ IsModulo-same kind exact value (h, e) =
 IsModulo-moved : (kind : Kind) (exact a b : ℤ) → a ≡ b → IsModulo kind exact a → IsModulo kind exact b
 IsModulo-moved kind exact a b e h = let P : ℤ → Type 0 = λ v. IsModulo kind exact v in subst P e h
 
-pub fitted-IsModulo : (kind : Kind) (exact value : ℤ) → fitted kind exact ≡ Ok value → IsModulo kind exact value
+pub fitted-IsModulo : (kind : Kind) (exact value : ℤ) → fitted_value kind exact ≡ Ok value → IsModulo kind exact value
 fitted-IsModulo Char exact value e = IsModulo-same Char exact value (let_through (lies_in Char exact) Overflow exact value e)
 fitted-IsModulo Int exact value e = IsModulo-same Int exact value (let_through (lies_in Int exact) Overflow exact value e)
 fitted-IsModulo Unsigned exact value e =
-    IsModulo-moved Unsigned exact (wrapped Unsigned exact) value (cc) (wrapped-IsModulo Unsigned exact)
+    IsModulo-moved Unsigned exact (wrapped_value Unsigned exact) value (cc) (wrapped-IsModulo Unsigned exact)
 
-pub fitted-exact : (exact value : ℤ) → fitted Int exact ≡ Ok value → value ≡ exact
+pub fitted-exact : (exact value : ℤ) → fitted_value Int exact ≡ Ok value → value ≡ exact
 fitted-exact exact value e = (let_through (lies_in Int exact) Overflow exact value e).1
 
 outside : (b : Bool) → (IsTrue b → ⊥) → b ≡ false
 outside true h = absurd (h refl)
 outside false h = refl
 
-pub fitted-Overflow : (exact : ℤ) → (fitted Int exact ≡ Err Overflow) ↔ ¬ (LiesIn Int exact)
+pub fitted-Overflow : (exact : ℤ) → (fitted_value Int exact ≡ Err Overflow) ↔ ¬ (LiesIn Int exact)
 fitted-Overflow exact =
-    let out : fitted Int exact ≡ Err Overflow → ¬ (LiesIn Int exact) = λ e h. let f = stopped (lies_in Int exact) Overflow exact e in cc in
-    let back : ¬ (LiesIn Int exact) → fitted Int exact ≡ Err Overflow = λ h. let f = outside (lies_in Int exact) h in rw f refl in
+    let out : fitted_value Int exact ≡ Err Overflow → ¬ (LiesIn Int exact) = λ e h. let f = stopped (lies_in Int exact) Overflow exact e in cc in
+    let back : ¬ (LiesIn Int exact) → fitted_value Int exact ≡ Err Overflow = λ h. let f = outside (lies_in Int exact) h in rw f refl in
     (out, back)
 
 -- ---- division
 
-fitted-inside : (kind : Kind) (exact : ℤ) → LiesIn kind exact → fitted kind exact ≡ Ok exact
+fitted-inside : (kind : Kind) (exact : ℤ) → LiesIn kind exact → fitted_value kind exact ≡ Ok exact
 fitted-inside Char exact h = rw h refl
 fitted-inside Int exact h = rw h refl
 fitted-inside Unsigned exact h = ap Ok (wrapped-inside Unsigned exact h)
@@ -158,7 +158,7 @@ held_or_not : (held : Bool) (exact : ℤ) → ¬ (cond held (Ok exact) (Err Over
 held_or_not true exact e = cc
 held_or_not false exact e = cc
 
-fitted_or_not : (kind : Kind) (exact : ℤ) → ¬ (fitted kind exact ≡ Err Divide)
+fitted_or_not : (kind : Kind) (exact : ℤ) → ¬ (fitted_value kind exact ≡ Err Divide)
 fitted_or_not Char exact = held_or_not (lies_in Char exact) exact
 fitted_or_not Int exact = held_or_not (lies_in Int exact) exact
 fitted_or_not Unsigned exact = λ e. cc
@@ -166,7 +166,7 @@ fitted_or_not Unsigned exact = λ e. cc
 pub quotient-Divide : (kind : Kind) (left right : ℤ) → (quotient kind left right ≡ Err Divide) ↔ (right ≡ pos 0)
 quotient-Divide kind left right =
     let out : quotient kind left right ≡ Err Divide → right ≡ pos 0 =
-    λ e. zero_from right (divided (is_zero right) (fitted kind (int_div left right)) (fitted_or_not kind (int_div left right)) e) in
+    λ e. zero_from right (divided (is_zero right) (fitted_value kind (int_div left right)) (fitted_or_not kind (int_div left right)) e) in
     let back : right ≡ pos 0 → quotient kind left right ≡ Err Divide = λ r. rw r refl in
     (out, back)
 
@@ -197,8 +197,8 @@ left_shift-IsModulo Char left count value e =
 left_shift-IsModulo Int left count value e = IsModulo-same Int (left *ℤ two_to count) value (signed_shift Int left count value e)
 left_shift-IsModulo Unsigned left count value e =
     let exact = left *ℤ two_to count in
-    let is = (let_through (is_count count) Shift (wrapped Unsigned exact) value e).1 in
-    IsModulo-moved Unsigned exact (wrapped Unsigned exact) value (sym is) (wrapped-IsModulo Unsigned exact)
+    let is = (let_through (is_count count) Shift (wrapped_value Unsigned exact) value e).1 in
+    IsModulo-moved Unsigned exact (wrapped_value Unsigned exact) value (sym is) (wrapped-IsModulo Unsigned exact)
 
 pub left_shift-exact : (left count value : ℤ) → left_shift Int left count ≡ Ok value → value ≡ left *ℤ two_to count
 left_shift-exact left count value e = (signed_shift Int left count value e).1

@@ -1,12 +1,12 @@
 -- Laws of the kinds' ranges and of a number that is taken into one.
-use Rattle.std.proofs.Common.{◌≡◌, ℕ, ◌+◌, ◌*◌, ◌^◌, ◌<◌, ◌≤ℤ◌, Bool, ◌&&◌, arith, ℤ, pos, negsuc, ◌-ℤ◌}
+use Rattle.std.proofs.Common.{◌≡◌, ℕ, ◌+◌, ◌*◌, ◌^◌, ◌<◌, ◌≤ℤ◌, ◌&&◌, arith, ℤ, pos, negsuc, ◌-ℤ◌}
 use Rattle.std.proofs.lemmas.Int.{ints}
 use Rattle.std.specs.Int.{int_div_euclid, int_rem_euclid}
-use Rattle.std.specs.Prelude.{int_le, unsigned_abs, IsTrue}
+use Rattle.std.specs.Prelude.{int_le, unsigned_abs}
 use Rattle.base_lists.proofs.Tests.{both_true, true_both}
 use Rattle.cbi_base.specs.declared.scalar.Kind.{Kind}
 use Rattle.cbi_base.specs.declared.scalar.Kind.TheVariants.{Char, Int, Unsigned}
-use Rattle.cbi_base.specs.Kind.{least_of, greatest_of, size_of, wrapped, LiesIn}
+use Rattle.cbi_base.specs.Kind.{least_of, greatest_of, size_of, wrapped_value, LiesIn}
 use borrow.Author.Differences.{up, down}
 
 -- the quotient that rounds down, and the remainder that it leaves, which `omega` reads as differences of whole numbers
@@ -26,16 +26,16 @@ pub ends-LiesIn : (kind : Kind) (value : ℤ) → least_of kind ≤ℤ value →
 ends-LiesIn kind value low high =
     both_true (int_le (least_of kind) value) (int_le value (greatest_of kind)) (grind (arith, ints)) (grind (arith, ints))
 
-pub wrapped-LiesIn : (kind : Kind) (value : ℤ) → LiesIn kind (wrapped kind value)
+pub wrapped-LiesIn : (kind : Kind) (value : ℤ) → LiesIn kind (wrapped_value kind value)
 wrapped-LiesIn Char value =
     let rest = int_rem_euclid-parts (value -ℤ least_of Char) (size_of Char) (omega arith) in
-    ends-LiesIn Char (wrapped Char value) (omega (arith, ints)) (omega (arith, ints))
+    ends-LiesIn Char (wrapped_value Char value) (omega (arith, ints)) (omega (arith, ints))
 wrapped-LiesIn Int value =
     let rest = int_rem_euclid-parts (value -ℤ least_of Int) (size_of Int) (omega arith) in
-    ends-LiesIn Int (wrapped Int value) (omega (arith, ints)) (omega (arith, ints))
+    ends-LiesIn Int (wrapped_value Int value) (omega (arith, ints)) (omega (arith, ints))
 wrapped-LiesIn Unsigned value =
     let rest = int_rem_euclid-parts (value -ℤ least_of Unsigned) (size_of Unsigned) (omega arith) in
-    ends-LiesIn Unsigned (wrapped Unsigned value) (omega (arith, ints)) (omega (arith, ints))
+    ends-LiesIn Unsigned (wrapped_value Unsigned value) (omega (arith, ints)) (omega (arith, ints))
 
 -- a number of a kind has fewer than 33 bits
 pub size_below : (kind : Kind) (a : ℤ) → LiesIn kind a → unsigned_abs a < 2 ^ 32

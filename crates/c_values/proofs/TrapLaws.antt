@@ -10,7 +10,7 @@ use Rattle.cbi_base.specs.declared.operators.Unary.{Unary}
 use Rattle.cbi_base.specs.declared.operators.Unary.TheVariants.{Neg, Com, Not}
 use Rattle.cbi_base.specs.declared.trap.Trap.{Trap}
 use Rattle.cbi_base.specs.declared.trap.Trap.TheVariants as trap
-use Rattle.cbi_base.specs.Words.{fitted, left_shift, binary_value, kind_given, complement, as_number, as_promoted, takes, applied, applied_to_one, converted}
+use Rattle.cbi_base.specs.Words.{fitted_value, left_shift, binary_value, kind_given, complement, as_number, as_promoted, has_operand_kinds, operator_applied, applied_to_one, converted_number}
 use Rattle.cbi_base.specs.Words.{truth_of}
 
 -- a value, or another trap
@@ -26,7 +26,7 @@ checked : (test : Bool) (value : Result ℤ Trap) (stop : Trap) → ¬ (stop ≡
 checked true value stop h k e = h (cc)
 checked false value stop h k e = k e
 
-fitted_other : (kind : Kind) (exact : ℤ) → IsOther (fitted kind exact)
+fitted_other : (kind : Kind) (exact : ℤ) → IsOther (fitted_value kind exact)
 fitted_other Char exact = guarded _ exact trap.Overflow (λ e. cc)
 fitted_other Int exact = guarded _ exact trap.Overflow (λ e. cc)
 fitted_other Unsigned exact = λ e. cc
@@ -55,29 +55,29 @@ taken_other : (fits : Bool) (kind : Kind) (value : Result ℤ Trap) → IsOther 
 taken_other true kind value h e = numbered_other kind value h e
 taken_other false kind value h e = cc
 
-only : (op : Binary) (left right : Scalar) → applied op left right ≡ Err trap.Undefined → (left ≡ Undefined) ⊎ (right ≡ Undefined)
-unfolding applied
+only : (op : Binary) (left right : Scalar) → operator_applied op left right ≡ Err trap.Undefined → (left ≡ Undefined) ⊎ (right ≡ Undefined)
+unfolding operator_applied
 only op Undefined right e = inl refl
 only op (Number kind a) Undefined e = inr refl
 only op (Place object offset) Undefined e = inr refl
 only op Null Undefined e = inr refl
 only op (Number kind a) (Number other b) e =
-    absurd (taken_other (takes op kind other) (kind_given op kind) (binary_value op kind a b) (binary_other op kind a b) e)
+    absurd (taken_other (has_operand_kinds op kind other) (kind_given op kind) (binary_value op kind a b) (binary_other op kind a b) e)
 only op left right e = cc
 
-undefined_left : (op : Binary) (left right : Scalar) → left ≡ Undefined → applied op left right ≡ Err trap.Undefined
-unfolding applied
+undefined_left : (op : Binary) (left right : Scalar) → left ≡ Undefined → operator_applied op left right ≡ Err trap.Undefined
+unfolding operator_applied
 undefined_left op left right e = rw e refl
 
-undefined_right : (op : Binary) (left right : Scalar) → right ≡ Undefined → applied op left right ≡ Err trap.Undefined
-unfolding applied
+undefined_right : (op : Binary) (left right : Scalar) → right ≡ Undefined → operator_applied op left right ≡ Err trap.Undefined
+unfolding operator_applied
 undefined_right op Undefined right e = refl
 undefined_right op left right e = rw e refl
 
 pub applied-Undefined : (op : Binary) (left right : Scalar) →
-    (applied op left right ≡ Err trap.Undefined) ↔ ((left ≡ Undefined) ⊎ (right ≡ Undefined))
+    (operator_applied op left right ≡ Err trap.Undefined) ↔ ((left ≡ Undefined) ⊎ (right ≡ Undefined))
 applied-Undefined op left right =
-    let back : (left ≡ Undefined) ⊎ (right ≡ Undefined) → applied op left right ≡ Err trap.Undefined =
+    let back : (left ≡ Undefined) ⊎ (right ≡ Undefined) → operator_applied op left right ≡ Err trap.Undefined =
     λ h. elim h [ inl e ↦ undefined_left op left right e | inr e ↦ undefined_right op left right e ] in
     (only op left right, back)
 
@@ -96,8 +96,8 @@ applied_to_one-Undefined Com Undefined = (λ e. refl, λ e. refl)
 applied_to_one-Undefined Not Undefined = (λ e. refl, λ e. refl)
 applied_to_one-Undefined op value = (λ e. cc, λ e. cc)
 
-pub converted-Undefined : (kind : Kind) (value : Scalar) → (converted kind value ≡ Err trap.Undefined) ↔ (value ≡ Undefined)
-unfolding converted
+pub converted-Undefined : (kind : Kind) (value : Scalar) → (converted_number kind value ≡ Err trap.Undefined) ↔ (value ≡ Undefined)
+unfolding converted_number
 converted-Undefined kind Undefined = (λ e. refl, λ e. refl)
 converted-Undefined kind value = (λ e. cc, λ e. cc)
 

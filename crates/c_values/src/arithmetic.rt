@@ -1,5 +1,5 @@
 ghost use Rattle.std.specs.Prelude.{◌≡◌, ◌+ℤ◌, ◌-ℤ◌, ◌*ℤ◌, IfOk};
-ghost use Rattle.cbi_base.specs.Words.{LiesIn, wrapped, fitted, quotient, remainder};
+ghost use Rattle.cbi_base.specs.Words.{LiesIn, wrapped_value, fitted_value, quotient, remainder};
 
 use crate::range::{fit, lies_in};
 use cbi_base::{Kind, Trap};
@@ -9,7 +9,7 @@ use cbi_base::{Kind, Trap};
 pub fn add(kind: Kind, left: i64, right: i64) -> Result<i64, Trap>
     requires left { LiesIn kind left }
     requires right { LiesIn kind right }
-    ensures value { result ≡ fitted kind (left +ℤ right) }
+    ensures value { result ≡ fitted_value kind (left +ℤ right) }
     ensures in_range { IfOk result (LiesIn kind) }
 {
     fit(kind, left + right)
@@ -20,7 +20,7 @@ pub fn add(kind: Kind, left: i64, right: i64) -> Result<i64, Trap>
 pub fn subtract(kind: Kind, left: i64, right: i64) -> Result<i64, Trap>
     requires left { LiesIn kind left }
     requires right { LiesIn kind right }
-    ensures value { result ≡ fitted kind (left -ℤ right) }
+    ensures value { result ≡ fitted_value kind (left -ℤ right) }
     ensures in_range { IfOk result (LiesIn kind) }
 {
     fit(kind, left - right)
@@ -30,7 +30,7 @@ pub fn subtract(kind: Kind, left: i64, right: i64) -> Result<i64, Trap>
 fn unsigned_product(left: i64, right: i64) -> i64
     requires left { LiesIn Kind.Unsigned left }
     requires right { LiesIn Kind.Unsigned right }
-    ensures value { result ≡ wrapped Kind.Unsigned (left *ℤ right) }
+    ensures value { result ≡ wrapped_value Kind.Unsigned (left *ℤ right) }
     ensures in_range { LiesIn Kind.Unsigned result }
 {
     (left as u64 * right as u64 % (1 << 32)) as i64
@@ -40,7 +40,7 @@ fn unsigned_product(left: i64, right: i64) -> i64
 pub fn multiply(kind: Kind, left: i64, right: i64) -> Result<i64, Trap>
     requires left { LiesIn kind left }
     requires right { LiesIn kind right }
-    ensures value { result ≡ fitted kind (left *ℤ right) }
+    ensures value { result ≡ fitted_value kind (left *ℤ right) }
     ensures in_range { IfOk result (LiesIn kind) }
 {
     match kind {

@@ -1,6 +1,6 @@
 ghost use Rattle.std.specs.Prelude.{◌≡◌, IfOk, IsFalse};
 ghost use Rattle.c_values.specs.Shifts.{is_shift};
-ghost use Rattle.cbi_base.specs.Words.{LiesIn, binary_value, kind_given, IsInRange, applied, takes};
+ghost use Rattle.cbi_base.specs.Words.{LiesIn, binary_value, kind_given, IsInRange, operator_applied, has_operand_kinds};
 
 use crate::arithmetic::{add, divide, multiply, remainder, subtract};
 use crate::bits::{and, or, xor};
@@ -10,7 +10,7 @@ use cbi_base::{Binary, Kind, Scalar, Trap};
 
 /// The kinds that an operation takes: two of one kind `int` or `unsigned`, and for a shift any of these two each.
 fn takes(op: Binary, left: Kind, right: Kind) -> bool
-    ensures { result ≡ takes op left right }
+    ensures { result ≡ has_operand_kinds op left right }
 {
     match (op, left, right) {
         (_, Kind::Int, Kind::Int) | (_, Kind::Unsigned, Kind::Unsigned) => true,
@@ -58,7 +58,7 @@ fn calculate(op: Binary, kind: Kind, left: i64, right: i64) -> Result<i64, Trap>
 }
 
 /// An operation on two numbers, where it takes their kinds.
-#[tactic(auto, unfolding(cbi_base::specs::Scalars::applied))]
+#[tactic(auto, unfolding(cbi_base::specs::Scalars::operator_applied))]
 fn apply_to_numbers(
     op: Binary,
     kind: Kind,
@@ -68,7 +68,7 @@ fn apply_to_numbers(
 ) -> Result<Scalar, Trap>
     requires left { LiesIn kind left }
     requires right { LiesIn other right }
-    ensures value { result ≡ applied op (Scalar.Number kind left) (Scalar.Number other right) }
+    ensures value { result ≡ operator_applied op (Scalar.Number kind left) (Scalar.Number other right) }
     ensures in_range { IfOk result IsInRange }
 {
     if !takes(op, kind, other) {
@@ -83,11 +83,11 @@ fn apply_to_numbers(
 
 /// An operation on two values (C99 6.5.5 to 6.5.14). An undefined operand is trap Undefined, then any other value or kind
 /// that the operation doesn't take trap Internal.
-#[tactic(auto, unfolding(cbi_base::specs::Scalars::applied))]
+#[tactic(auto, unfolding(cbi_base::specs::Scalars::operator_applied))]
 pub fn apply_binary(op: Binary, left: Scalar, right: Scalar) -> Result<Scalar, Trap>
     requires left { IsInRange left }
     requires right { IsInRange right }
-    ensures value { result ≡ applied op left right }
+    ensures value { result ≡ operator_applied op left right }
     ensures in_range { IfOk result IsInRange }
 {
     match (left, right) {

@@ -1,5 +1,5 @@
 ghost use Rattle.std.specs.Prelude.{◌≡◌, pos, bit_and, bit_or, bit_xor};
-ghost use Rattle.cbi_base.specs.Words.{LiesIn, wrapped, bits_of, bitwise, complement};
+ghost use Rattle.cbi_base.specs.Words.{LiesIn, wrapped_value, bits_of, bitwise_value, complement};
 
 use crate::range::wrap;
 use cbi_base::Kind;
@@ -13,7 +13,7 @@ fn bits(value: i64) -> u32
 
 /// The number of a kind with these bits.
 fn from_bits(kind: Kind, bits: u32) -> i64
-    ensures value { result ≡ wrapped kind (pos bits) }
+    ensures value { result ≡ wrapped_value kind (pos bits) }
     ensures in_range { LiesIn kind result }
 {
     wrap(kind, bits as i64)
@@ -21,7 +21,7 @@ fn from_bits(kind: Kind, bits: u32) -> i64
 
 /// The bits that both numbers have.
 pub fn and(kind: Kind, left: i64, right: i64) -> i64
-    ensures value { result ≡ bitwise bit_and kind left right }
+    ensures value { result ≡ bitwise_value bit_and kind left right }
     ensures in_range { LiesIn kind result }
 {
     from_bits(kind, bits(left) & bits(right))
@@ -29,7 +29,7 @@ pub fn and(kind: Kind, left: i64, right: i64) -> i64
 
 /// The bits that one of the numbers has.
 pub fn or(kind: Kind, left: i64, right: i64) -> i64
-    ensures value { result ≡ bitwise bit_or kind left right }
+    ensures value { result ≡ bitwise_value bit_or kind left right }
     ensures in_range { LiesIn kind result }
 {
     from_bits(kind, bits(left) | bits(right))
@@ -37,7 +37,7 @@ pub fn or(kind: Kind, left: i64, right: i64) -> i64
 
 /// The bits in which the numbers differ.
 pub fn xor(kind: Kind, left: i64, right: i64) -> i64
-    ensures value { result ≡ bitwise bit_xor kind left right }
+    ensures value { result ≡ bitwise_value bit_xor kind left right }
     ensures in_range { LiesIn kind result }
 {
     from_bits(kind, bits(left) ^ bits(right))

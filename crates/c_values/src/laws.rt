@@ -6,27 +6,28 @@ ghost use Rattle.cbi_base.specs.declared.operators.Binary.{Binary};
 ghost use Rattle.cbi_base.specs.declared.operators.Unary.{Unary};
 ghost use Rattle.cbi_base.specs.declared.scalar.Scalar.{Scalar};
 ghost use Rattle.cbi_base.specs.declared.trap.Trap.{Trap};
-ghost use Rattle.cbi_base.specs.Words.{wrapped, LiesIn, fitted, quotient, remainder, left_shift, right_shift, two_to, bitwise, complement, is_promoted};
-ghost use Rattle.cbi_base.specs.Words.{applied, applied_to_one, converted, truth_of};
+ghost use Rattle.cbi_base.specs.Words.{wrapped_value, LiesIn, fitted_value, quotient, remainder, left_shift, right_shift, two_to, bitwise_value, complement};
+ghost use Rattle.cbi_base.specs.Words.{is_promoted};
+ghost use Rattle.cbi_base.specs.Words.{operator_applied, applied_to_one, converted_number, truth_of};
 ghost use Rattle.c_values.specs.Laws.{IsModulo, IsDivision, IsLeastByMinusOne, IsRoundedDown, bit_of};
 
 /// A conversion gives the one value of the kind's range that differs from the number by a multiple of the kind's size
 /// (C99 6.3.1.3), so a number that the kind holds stays as it is.
 pub fn conversion_laws()
-    ensures is_modulo { (kind : Kind) (exact : ℤ) → IsModulo kind exact (wrapped kind exact) }
+    ensures is_modulo { (kind : Kind) (exact : ℤ) → IsModulo kind exact (wrapped_value kind exact) }
     ensures is_alone { (kind : Kind) (exact value : ℤ)
-        → IsModulo kind exact value → value ≡ wrapped kind exact }
-    ensures stays { (kind : Kind) (value : ℤ) → LiesIn kind value → wrapped kind value ≡ value }
+        → IsModulo kind exact value → value ≡ wrapped_value kind exact }
+    ensures stays { (kind : Kind) (value : ℤ) → LiesIn kind value → wrapped_value kind value ≡ value }
 {}
 
 /// Sums, differences, products and negations are the exact result modulo the kind's size. Those of `int` are the exact
 /// result itself, and trap Overflow exactly where `int` can't hold it.
 pub fn result_laws()
     ensures is_modulo { (kind : Kind) (exact value : ℤ)
-        → fitted kind exact ≡ Ok value → IsModulo kind exact value }
-    ensures int_is_exact { (exact value : ℤ) → fitted Kind.Int exact ≡ Ok value → value ≡ exact }
+        → fitted_value kind exact ≡ Ok value → IsModulo kind exact value }
+    ensures int_is_exact { (exact value : ℤ) → fitted_value Kind.Int exact ≡ Ok value → value ≡ exact }
     ensures int_overflow { (exact : ℤ)
-        → (fitted Kind.Int exact ≡ Err Trap.Overflow) ↔ ¬ (LiesIn Kind.Int exact) }
+        → (fitted_value Kind.Int exact ≡ Err Trap.Overflow) ↔ ¬ (LiesIn Kind.Int exact) }
 {}
 
 /// Quotient and remainder make the dividend (C99 6.5.5p6). They trap exactly where the divisor is zero, and where the
@@ -59,11 +60,11 @@ pub fn shift_laws()
 /// Each of the 32 bits of the answer is made of the operands' bits at its place (C99 6.5.3.3, 6.5.10 to 6.5.12).
 pub fn bit_laws()
     ensures and { (kind : Kind) → IsTrue (is_promoted kind) → (left right : ℤ) (place : ℕ)
-        → bit_of (bitwise bit_and kind left right) place ≡ min (bit_of left place) (bit_of right place) }
+        → bit_of (bitwise_value bit_and kind left right) place ≡ min (bit_of left place) (bit_of right place) }
     ensures or { (kind : Kind) → IsTrue (is_promoted kind) → (left right : ℤ) (place : ℕ)
-        → bit_of (bitwise bit_or kind left right) place ≡ max (bit_of left place) (bit_of right place) }
+        → bit_of (bitwise_value bit_or kind left right) place ≡ max (bit_of left place) (bit_of right place) }
     ensures xor { (kind : Kind) → IsTrue (is_promoted kind) → (left right : ℤ) (place : ℕ)
-        → bit_of (bitwise bit_xor kind left right) place ≡ (bit_of left place + bit_of right place) % 2 }
+        → bit_of (bitwise_value bit_xor kind left right) place ≡ (bit_of left place + bit_of right place) % 2 }
     ensures complement { (kind : Kind) → IsTrue (is_promoted kind) → (value : ℤ) (place : ℕ)
         → place < 32 → bit_of (complement kind value) place ≡ 1 - bit_of value place }
 {}
@@ -71,12 +72,12 @@ pub fn bit_laws()
 /// Trap Undefined comes exactly where an operand is undefined, whatever the other one is.
 pub fn trap_laws()
     ensures binary { (op : Binary) (left right : Scalar)
-        → (applied op left right ≡ Err Trap.Undefined)
+        → (operator_applied op left right ≡ Err Trap.Undefined)
         ↔ ((left ≡ Scalar.Undefined) ⊎ (right ≡ Scalar.Undefined)) }
     ensures unary { (op : Unary) (value : Scalar)
         → (applied_to_one op value ≡ Err Trap.Undefined) ↔ (value ≡ Scalar.Undefined) }
     ensures conversion { (kind : Kind) (value : Scalar)
-        → (converted kind value ≡ Err Trap.Undefined) ↔ (value ≡ Scalar.Undefined) }
+        → (converted_number kind value ≡ Err Trap.Undefined) ↔ (value ≡ Scalar.Undefined) }
     ensures truth { (value : Scalar)
         → (truth_of value ≡ Err Trap.Undefined) ↔ (value ≡ Scalar.Undefined) }
 {}

@@ -1,5 +1,5 @@
-ghost use Rattle.std.specs.Prelude.{◌≡◌, ℤ, pos, negsuc, ◌≤ℤ◌, ◌^◌, IfOk, Ok, Err};
-ghost use Rattle.cbi_base.specs.Words.{least_of, greatest_of, size_of, lies_in, wrapped, LiesIn, fitted, flag};
+ghost use Rattle.std.specs.Prelude.{◌≡◌, ℤ, pos, ◌≤ℤ◌, ◌^◌, IfOk, Ok, Err};
+ghost use Rattle.cbi_base.specs.Words.{least_of, greatest_of, size_of, lies_in, wrapped_value, LiesIn, fitted_value, truth_number};
 
 use cbi_base::{Kind, Trap};
 
@@ -44,7 +44,7 @@ pub fn lies_in(kind: Kind, value: i64) -> bool
 
 /// The value modulo the kind's size, taken into its range (C99 6.3.1.3).
 pub fn wrap(kind: Kind, value: i64) -> i64
-    ensures value { result ≡ wrapped kind value }
+    ensures value { result ≡ wrapped_value kind value }
     ensures in_range { LiesIn kind result }
 {
     let rest = value.rem_euclid(size(kind));
@@ -57,7 +57,7 @@ pub fn wrap(kind: Kind, value: i64) -> i64
 
 /// An exact result in a kind: an `unsigned` one wraps, an `int` one out of range is trap Overflow.
 pub fn fit(kind: Kind, exact: i64) -> Result<i64, Trap>
-    ensures value { result ≡ fitted kind exact }
+    ensures value { result ≡ fitted_value kind exact }
     ensures in_range { IfOk result (LiesIn kind) }
 {
     match kind {
@@ -69,7 +69,7 @@ pub fn fit(kind: Kind, exact: i64) -> Result<i64, Trap>
 
 /// What a comparison and `!` give: 1 where it holds, else 0.
 pub fn flag(holds: bool) -> i64
-    ensures value { result ≡ flag holds }
+    ensures value { result ≡ truth_number holds }
     ensures in_range { LiesIn Kind.Int result }
 {
     if holds { 1 } else { 0 }

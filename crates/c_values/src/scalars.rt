@@ -1,6 +1,6 @@
 ghost use Rattle.std.specs.Prelude.{◌≡◌, IfOk};
 ghost use Rattle.std.specs.Option.{option_map};
-ghost use Rattle.cbi_base.specs.Scalars.{IsInRange, converted, truth_of, sign_of};
+ghost use Rattle.cbi_base.specs.Scalars.{IsInRange, converted_number, truth_of, sign_of};
 ghost use Rattle.c_values.specs.Relation.{relation_of};
 
 use crate::range::wrap;
@@ -8,9 +8,9 @@ use crate::relation::{Relation, relate};
 use cbi_base::{Kind, Scalar, Trap};
 
 /// A number of any kind converted to this one (C99 6.3.1.3). Undefined is trap Undefined, any other value trap Internal.
-#[tactic(auto, unfolding(cbi_base::specs::Scalars::converted))]
+#[tactic(auto, unfolding(cbi_base::specs::Scalars::converted_number))]
 pub fn convert(kind: Kind, value: Scalar) -> Result<Scalar, Trap>
-    ensures value { result ≡ converted kind value }
+    ensures value { result ≡ converted_number kind value }
     ensures in_range { IfOk result IsInRange }
 {
     match value {

@@ -1,5 +1,5 @@
 ghost use Rattle.std.specs.Prelude.{◌≡◌, neg_ℤ, IfOk};
-ghost use Rattle.cbi_base.specs.Words.{LiesIn, fitted, complement, IsInRange, applied_to_one, opposite, as_promoted, truth_of};
+ghost use Rattle.cbi_base.specs.Words.{LiesIn, fitted_value, complement, IsInRange, applied_to_one, logical_negation, as_promoted, truth_of};
 
 use crate::bits::complement;
 use crate::range::{fit, flag};
@@ -8,7 +8,7 @@ use cbi_base::{Kind, Scalar, Trap, Unary};
 
 /// The opposite truth as an `int`, 0 or 1.
 fn negate_truth(value: Scalar) -> Result<Scalar, Trap>
-    ensures value { result ≡ opposite (truth_of value) }
+    ensures value { result ≡ logical_negation (truth_of value) }
     ensures in_range { IfOk result IsInRange }
 {
     let holds = truth(value)?;
@@ -21,7 +21,7 @@ fn negate_truth(value: Scalar) -> Result<Scalar, Trap>
 /// The number with its sign turned round. The least `int` is trap Overflow, a `char` trap Internal.
 fn negate(kind: Kind, value: i64) -> Result<Scalar, Trap>
     requires { LiesIn kind value }
-    ensures value { result ≡ as_promoted kind (fitted kind (neg_ℤ value)) }
+    ensures value { result ≡ as_promoted kind (fitted_value kind (neg_ℤ value)) }
     ensures in_range { IfOk result IsInRange }
 {
     if kind == Kind::Char {

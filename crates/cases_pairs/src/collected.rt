@@ -1,6 +1,5 @@
 //! The table of made sites, and the collection of made runs.
-ghost use Rattle.std.specs.Prelude.{◌≡◌, IfSome};
-ghost use Rattle.report_file.specs.Report.{IsReport};
+ghost use Rattle.std.specs.Prelude.{◌≡◌};
 
 use crate::made::{Made, Saw};
 use cases_rows::Page;

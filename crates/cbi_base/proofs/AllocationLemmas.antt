@@ -5,7 +5,7 @@ use Rattle.std.proofs.lemmas.List.{length-replicate}
 use Rattle.base_lists.proofs.Numbers.{not_zero}
 use Rattle.cbi_base.specs.declared.scalar.Scalar.{Scalar}
 use Rattle.cbi_base.specs.declared.scalar.Scalar.TheVariants.{Null, Place, Undefined}
-use Rattle.cbi_base.specs.Objects.{Objects, GivesNull, allocated, has_room, live_cells, new_undefined, place_or_null, cell_limit, object_limit}
+use Rattle.cbi_base.specs.Objects.{Objects, GivesNull, object_allocated, has_room, live_cells, new_undefined, place_or_null, cell_limit, object_limit}
 
 room-none : (live cells made limit most : ℕ) → ((limit < live + cells) ⊎ (most ≤ made)) → (nat_le (live + cells) limit && nat_lt made most) ≡ false
 room-none live cells made limit most h = grind (arith, nat_tests)
@@ -17,8 +17,8 @@ room-some live cells made limit most low few = grind (arith, nat_tests)
 by-tests : ℕ → Objects → Bool → Bool → Scalar × Objects
 by-tests cells o none room = cond none (Null, o) (place_or_null o.made o (cond room (Some (new_undefined cells o)) None))
 
-is-by-tests : (cells : ℕ) (o : Objects) → allocated cells o ≡ by-tests cells o (cells == 0) (has_room cells o)
-unfolding allocated by-tests
+is-by-tests : (cells : ℕ) (o : Objects) → object_allocated cells o ≡ by-tests cells o (cells == 0) (has_room cells o)
+unfolding object_allocated by-tests
 is-by-tests cells o = rw (length-replicate cells Undefined) refl
 
 null-by-tests : (cells : ℕ) (o : Objects) (none room : Bool) → ((none ≡ true) ⊎ (room ≡ false)) → by-tests cells o none room ≡ (Null, o)
@@ -32,7 +32,7 @@ null-test : (cells : ℕ) (o : Objects) → GivesNull cells o → ((cells == 0) 
 null-test cells o (inl none) = inl (ap (λ n. n == 0) none)
 null-test cells o (inr full) = inr (room-none (live_cells o) cells o.made cell_limit object_limit full)
 
-pub allocated-null : (cells : ℕ) (o : Objects) → GivesNull cells o → allocated cells o ≡ (Null, o)
+pub allocated-null : (cells : ℕ) (o : Objects) → GivesNull cells o → object_allocated cells o ≡ (Null, o)
 allocated-null cells o h = is-by-tests cells o ∙ null-by-tests cells o (cells == 0) (has_room cells o) (null-test cells o h)
 
 room-test : (cells : ℕ) (o : Objects) → (GivesNull cells o → ⊥) → has_room cells o ≡ true
@@ -45,7 +45,7 @@ room-test cells o h =
     above : (a b : ℕ) → (b ≤ a → ⊥) → a < b
     above a b h = grind arith
 
-pub allocated-new : (cells : ℕ) (o : Objects) → (GivesNull cells o → ⊥) → allocated cells o ≡ (Place o.made 0, new_undefined cells o)
+pub allocated-new : (cells : ℕ) (o : Objects) → (GivesNull cells o → ⊥) → object_allocated cells o ≡ (Place o.made 0, new_undefined cells o)
 unfolding by-tests
 allocated-new cells o h =
     let none = not_zero cells (λ is. h (inl is)) in

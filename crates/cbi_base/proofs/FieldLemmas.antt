@@ -1,12 +1,12 @@
 -- Lines are cut into the fields that they were made of.
-use Rattle.std.proofs.Common.{◌≡◌, ◌≢◌, ◌<◌, ◌^◌, ◌+◌, ◌%◌, ℕ, suc, ℤ, pos, negsuc, not, subst, Bool, true, false, ◌&&◌, List, [], ◌∷◌, ◌++◌, decimal, FitsSigned, ap, ◌∙◌, refl, arith}
+use Rattle.std.proofs.Common.{◌≡◌, ◌≢◌, ◌<◌, ◌^◌, ◌+◌, ◌%◌, ℕ, suc, ℤ, pos, negsuc, subst, Bool, true, ◌&&◌, List, [], ◌∷◌, ◌++◌, decimal, FitsSigned, ap, ◌∙◌, refl, arith}
 use Rattle.std.specs.Fmt.{signed_decimal}
 use Rattle.std.specs.Int.{w64}
 use Rattle.std.specs.List.{list_all, AllByRecursion}
 use Rattle.std.proofs.lemmas.Bool.Decides.{nat_tests}
 use Rattle.std.proofs.lemmas.Bool.{false≢true, and_parts, not-true}
 use Rattle.std.proofs.lemmas.Fmt.{decimal_by_steps}
-use Rattle.cbi_base.specs.Text.{Lacks, IsField, is_field_byte, is_newline, is_space, fields_of, spaced}
+use Rattle.cbi_base.specs.Text.{Lacks, IsField, is_field_byte, is_newline, is_space, fields_of, line_of_fields}
 use Rattle.cbi_base.specs.Name.{IsName, is_name_byte}
 use Rattle.cbi_base.proofs.TextLemmas.{split-lacks, split-at}
 
@@ -23,21 +23,21 @@ field-lacks-newline (b ∷ bs) h =
     (not-true (is_newline b) (and_parts _ _ parts.0).1, field-lacks-newline bs parts.1)
 
 -- the fields of a line are those it was made of
-pub fields_of-spaced : (field : List ℕ) (fields : List (List ℕ)) → IsField field → AllByRecursion IsField fields → fields_of (spaced (field ∷ fields)) ≡ field ∷ fields
+pub fields_of-spaced : (field : List ℕ) (fields : List (List ℕ)) → IsField field → AllByRecursion IsField fields → fields_of (line_of_fields (field ∷ fields)) ≡ field ∷ fields
 fields_of-spaced field [] is all = split-lacks is_space field (field-lacks-space field is)
 fields_of-spaced field (next ∷ more) is all =
-    split-at is_space field 32 (spaced (next ∷ more)) (field-lacks-space field is) refl ∙ ap (λ fs. field ∷ fs) (fields_of-spaced next more all.0 all.1)
+    split-at is_space field 32 (line_of_fields (next ∷ more)) (field-lacks-space field is) refl ∙ ap (λ fs. field ∷ fs) (fields_of-spaced next more all.0 all.1)
 
 lacks-append : (p : ℕ → Bool) (a b : List ℕ) → Lacks p a → Lacks p b → Lacks p (a ++ b)
 lacks-append p [] b la lb = lb
 lacks-append p (x ∷ xs) b la lb = (la.0, lacks-append p xs b la.1 lb)
 
 -- a line of fields has no newline
-pub spaced-lacks-newline : (fields : List (List ℕ)) → AllByRecursion IsField fields → Lacks is_newline (spaced fields)
+pub spaced-lacks-newline : (fields : List (List ℕ)) → AllByRecursion IsField fields → Lacks is_newline (line_of_fields fields)
 spaced-lacks-newline [] all = tt
 spaced-lacks-newline (field ∷ []) all = field-lacks-newline field all.0
 spaced-lacks-newline (field ∷ next ∷ more) all =
-    lacks-append is_newline field (32 ∷ spaced (next ∷ more)) (field-lacks-newline field all.0) (refl, spaced-lacks-newline (next ∷ more) all.1)
+    lacks-append is_newline field (32 ∷ line_of_fields (next ∷ more)) (field-lacks-newline field all.0) (refl, spaced-lacks-newline (next ∷ more) all.1)
 
 field-byte : (b : ℕ) → b ≢ 32 → b ≢ 10 → is_field_byte b ≡ true
 field-byte b space newline = grind (arith, nat_tests)

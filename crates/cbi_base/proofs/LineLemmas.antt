@@ -1,7 +1,7 @@
 -- Texts of lines: how reading goes on, and where it stops.
 use Rattle.std.proofs.Common.{◌≡◌, ◌≤◌, ℕ, ◌+◌, List, [], ◌∷◌, ◌++◌, length, ap, sym, subst, ◌∙◌, refl, append_assoc, length-append, arith}
 use Rattle.std.proofs.lemmas.List.{append-nil}
-use Rattle.cbi_base.specs.Text.{Lacks, AreLines, is_newline, ended, text_of}
+use Rattle.cbi_base.specs.Text.{Lacks, AreLines, is_newline, line_with_newline, text_of}
 use Rattle.cbi_base.specs.Lines.{LeadsOnce, LeadsTo, ReadsLines, IsGoodPrefix, Stops, IsBadLine, line_after}
 use Rattle.cbi_base.proofs.TextLemmas.{cut-once, lacks-mark, text_of-more, AreLines-more}
 
@@ -11,12 +11,12 @@ LeadsTo-more follows [] line from via to leads next = (to, subst (λ d. follows 
 LeadsTo-more follows (l ∷ ls) line from via to leads next = (leads.0, leads.1, LeadsTo-more follows ls line leads.0 via to leads.2 next)
 
 -- nothing is no line
-pub nothing-line : (line more : List ℕ) → [] ≡ ended line ++ more → ⊥
-nothing-line line more is = omega (arith, ap length is, length-append {A = ℕ} (ended line) more, length-append {A = ℕ} line (10 ∷ []))
+pub nothing-line : (line more : List ℕ) → [] ≡ line_with_newline line ++ more → ⊥
+nothing-line line more is = omega (arith, ap length is, length-append {A = ℕ} (line_with_newline line) more, length-append {A = ℕ} line (10 ∷ []))
 
 -- the first line, its end, and what comes after it
-first-line : (line more rest : List ℕ) → (ended line ++ more) ++ rest ≡ line ++ 10 ∷ (more ++ rest)
-first-line line more rest = append_assoc (ended line) more rest ∙ append_assoc line (10 ∷ []) (more ++ rest)
+first-line : (line more rest : List ℕ) → (line_with_newline line ++ more) ++ rest ≡ line ++ 10 ∷ (more ++ rest)
+first-line line more rest = append_assoc (line_with_newline line) more rest ∙ append_assoc line (10 ∷ []) (more ++ rest)
 
 -- a line that comes first in two texts that are the same, and what follows it in both
 pub same-line : (l m x y : List ℕ) → Lacks is_newline l → Lacks is_newline m → l ++ 10 ∷ x ≡ m ++ 10 ∷ y → (l ≡ m) × (x ≡ y)
@@ -30,7 +30,7 @@ meets follows once from a b l m same p q = once from l a b p (subst (λ t. follo
 pub longest : {D : Type 0} (follows : D → List ℕ → D → Type 0) (ends : D → Type 0) → LeadsOnce follows → (from to at : D) (good other : List (List ℕ)) (rest left : List ℕ) → text_of good ++ rest ≡ text_of other ++ left → AreLines good → AreLines other → LeadsTo follows from good to → LeadsTo follows from other at → Stops follows ends at left → length good ≤ length other
 longest follows ends once from to at [] other rest left is are others leads goes stops = omega arith
 longest follows ends once from to at (l ∷ ls) [] rest left is are others leads goes stops =
-    absurd (stops.no_line l (text_of ls ++ rest) leads.0 are.0 (sym is ∙ append_assoc (ended l) (text_of ls) rest) (subst (λ d. follows d l leads.0) goes leads.1))
+    absurd (stops.no_line l (text_of ls ++ rest) leads.0 are.0 (sym is ∙ append_assoc (line_with_newline l) (text_of ls) rest) (subst (λ d. follows d l leads.0) goes leads.1))
 longest follows ends once from to at (l ∷ ls) (m ∷ ms) rest left is are others leads goes stops =
     let same = same-line l m (text_of ls ++ rest) (text_of ms ++ left) are.0 others.0 (sym (first-line l (text_of ls) rest) ∙ is ∙ first-line m (text_of ms) left) in
     let met = meets follows once from leads.0 goes.0 l m same.0 leads.1 goes.1 in
@@ -54,7 +54,7 @@ never-stops : {D : Type 0} (follows : D → List ℕ → D → Type 0) (ends : D
 never-stops follows ends once from to at [] [] rest is are others leads goes over stops =
     stops.no_end (sym is) (subst ends (sym leads ∙ goes) over)
 never-stops follows ends once from to at [] (m ∷ ms) rest is are others leads goes over stops =
-    nothing-line m (text_of ms ++ rest) (is ∙ append_assoc (ended m) (text_of ms) rest)
+    nothing-line m (text_of ms ++ rest) (is ∙ append_assoc (line_with_newline m) (text_of ms) rest)
 never-stops follows ends once from to at (l ∷ ls) [] rest is are others leads goes over stops =
     stops.no_line l (text_of ls) leads.0 are.0 (sym is) (subst (λ d. follows d l leads.0) goes leads.1)
 never-stops follows ends once from to at (l ∷ ls) (m ∷ ms) rest is are others leads goes over stops =
@@ -174,7 +174,7 @@ bad-is-here : {D : Type 0} (follows : D → List ℕ → D → Type 0) (ends : D
     → (good : List (List ℕ)) (rest : List ℕ) (state : D) → text ≡ text_of good ++ rest → AreLines good → LeadsTo follows from good state → number ≡ line_after (before + length good) → line_after before ≡ number
 bad-is-here follows ends from text before number here [] rest state text_is are leads count = omega (arith, count)
 bad-is-here follows ends from text before number here (l ∷ ls) rest state text_is are leads count =
-    absurd (here.no_line l (text_of ls ++ rest) leads.0 are.0 (text_is ∙ append_assoc (ended l) (text_of ls) rest) leads.1)
+    absurd (here.no_line l (text_of ls ++ rest) leads.0 are.0 (text_is ∙ append_assoc (line_with_newline l) (text_of ls) rest) leads.1)
 
 pub bad-here : {D : Type 0} (follows : D → List ℕ → D → Type 0) (ends : D → Type 0) (from : D) (text : List ℕ) (before number : ℕ) → Stops follows ends from text → IsBadBehind follows ends from text before number → line_after before ≡ number
 bad-here follows ends from text before number here bad =
@@ -184,7 +184,7 @@ bad-here follows ends from text before number here bad =
 no-bad-left : {D : Type 0} (follows : D → List ℕ → D → Type 0) (ends : D → Type 0) (from : D) (text : List ℕ) → length text ≡ 0 → ends from
     → (good : List (List ℕ)) (rest : List ℕ) (state : D) → text ≡ text_of good ++ rest → LeadsTo follows from good state → Stops follows ends state rest → ⊥
 no-bad-left follows ends from [] none over [] rest state text_is leads stops = stops.no_end (sym text_is) (subst ends leads over)
-no-bad-left follows ends from [] none over (l ∷ ls) rest state text_is leads stops = nothing-line l (text_of ls ++ rest) (text_is ∙ append_assoc (ended l) (text_of ls) rest)
+no-bad-left follows ends from [] none over (l ∷ ls) rest state text_is leads stops = nothing-line l (text_of ls ++ rest) (text_is ∙ append_assoc (line_with_newline l) (text_of ls) rest)
 no-bad-left follows ends from (b ∷ bs) none over good rest state text_is leads stops = absurd (omega arith)
 
 pub bad-left : {D : Type 0} (follows : D → List ℕ → D → Type 0) (ends : D → Type 0) (from : D) (text : List ℕ) (before number : ℕ) → length text ≡ 0 → ends from → IsBadBehind follows ends from text before number → ⊥

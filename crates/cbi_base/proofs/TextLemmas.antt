@@ -1,12 +1,12 @@
 use Rattle.std.proofs.Common.{◌≡◌, ◌≢◌, ℕ, zero, suc, ◌+◌, ◌-◌, ◌<◌, ◌≤◌, Bool, true, IsFalse, List, [], ◌∷◌, ◌++◌, length, take, drop, get_or, ap, sym, subst, ◌∙◌, refl, append_assoc, length-append, arith}
 use Rattle.std.specs.List.{slice_split, AllWithin}
 use Rattle.std.proofs.lemmas.Bool.{false≢true}
-use Rattle.std.proofs.lemmas.List.{append-nil, get_or-drop, get_or_append_left, length-drop, take_all}
+use Rattle.std.proofs.lemmas.List.{append-nil, get_or-drop, get_or_append_left, length-drop}
 use Rattle.std.proofs.Math.Seq.{get_or-append_seam}
 use Rattle.std.proofs.lemmas.List.Elements.{All-from_recursion}
 use Rattle.std.proofs.lemmas.List.Splits.{slice_split_none, slice_split_at, length-slice_split}
 use Rattle.base_lists.proofs.Lists.{take_from}
-use Rattle.cbi_base.specs.Text.{Lacks, AreLines, fields_of, is_newline, is_space, ended, text_of, IsLineEnd}
+use Rattle.cbi_base.specs.Text.{Lacks, AreLines, fields_of, is_newline, is_space, line_with_newline, text_of, IsLineEnd}
 
 -- a list that lacks the mark is one piece
 pub split-lacks : (p : ℕ → Bool) (xs : List ℕ) → Lacks p xs → slice_split p xs ≡ xs ∷ []
@@ -40,7 +40,7 @@ fields_of-some line none = let e : length (slice_split is_space line) ≡ 0 = ap
 pub text_of-more : (lines : List (List ℕ)) (line rest : List ℕ) → text_of lines ++ (line ++ 10 ∷ rest) ≡ text_of (lines ++ line ∷ []) ++ rest
 text_of-more [] line rest = simp append_assoc
 text_of-more (l ∷ ls) line rest =
-    append_assoc (ended l) (text_of ls) (line ++ 10 ∷ rest) ∙ ap (λ t. ended l ++ t) (text_of-more ls line rest) ∙ sym (append_assoc (ended l) (text_of (ls ++ line ∷ [])) rest)
+    append_assoc (line_with_newline l) (text_of ls) (line ++ 10 ∷ rest) ∙ ap (λ t. line_with_newline l ++ t) (text_of-more ls line rest) ∙ sym (append_assoc (line_with_newline l) (text_of (ls ++ line ∷ [])) rest)
 
 pub AreLines-more : (lines : List (List ℕ)) (line : List ℕ) → AreLines lines → Lacks is_newline line → AreLines (lines ++ line ∷ [])
 AreLines-more [] line all l = (l, tt)

@@ -10,8 +10,8 @@ abbrev pub next_count : ℕ → ℕ
 next_count count = min (count + 1) last_count
 
 -- the count is greater now than before, or it stands at its last value
-abbrev pub Rose : ℕ → ℕ → Type 0
-Rose before now = next_count before ≤ now
+abbrev pub CountHasRisen : ℕ → ℕ → Type 0
+CountHasRisen before now = next_count before ≤ now
 
 -- the counts of a store that tells nothing else
 pub record FaultCounts : Type 0 where

@@ -5,7 +5,7 @@ use Rattle.std.specs.Option.{option_and_then}
 use Rattle.cbi_base.specs.declared.scalar.Class.TheVariants.{Local}
 use Rattle.cbi_base.specs.declared.scalar.Scalar.{Scalar}
 use Rattle.cbi_base.specs.declared.scalar.Scalar.TheVariants.{Undefined}
-use Rattle.cbi_base.specs.Objects.{Object, Objects, made_with, with_object, killed}
+use Rattle.cbi_base.specs.Objects.{Object, Objects, made_with, with_object, object_killed}
 
 -- the objects of a function's locals: so many, with the numbers from this one on
 pub record Locals : Type 0 where
@@ -30,15 +30,15 @@ all_made (cells ∷ rest) o = option_and_then (all_made rest) (made_with Local c
 -- so many objects are dead from now on, from this number on
 abbrev pub all_killed : ℕ → ℕ → Objects → Objects
 all_killed first zero o = o
-all_killed first (suc count) o = killed (first + count) (all_killed first count o)
+all_killed first (suc count) o = object_killed (first + count) (all_killed first count o)
 
 abbrev pub filled_in : Objects → ℕ → Scalar → Option Object → Objects
 filled_in o number value None = o
 filled_in o number value (Some object) = with_object o number (record object { cells = map (λ _. value) object.cells })
 
 -- each cell of the object, where it lives, has this value
-abbrev pub filled : ℕ → Scalar → Objects → Objects
-filled number value o = filled_in o number value (get o.live number)
+abbrev pub object_filled : ℕ → Scalar → Objects → Objects
+object_filled number value o = filled_in o number value (get o.live number)
 
 -- these objects, made one after another; None where there is no room for one of them
 abbrev pub each_made : List Object → Objects → Option Objects

@@ -30,5 +30,5 @@ LiesIn kind value = IsTrue (lies_in kind value)
 
 -- The number modulo the kind's size, taken into the kind's range (C99 6.3.1.3): the distance from the least value, modulo
 -- the size, is counted on from the least value.
-abbrev pub wrapped : Kind → ℤ → ℤ
-wrapped kind value = least_of kind +ℤ int_rem_euclid (value -ℤ least_of kind) (pos (size_of kind))
+abbrev pub wrapped_value : Kind → ℤ → ℤ
+wrapped_value kind value = least_of kind +ℤ int_rem_euclid (value -ℤ least_of kind) (pos (size_of kind))

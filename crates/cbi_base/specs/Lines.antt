@@ -1,7 +1,7 @@
 -- A grammar of lines is two relations on states of reading: `follows state line after` says that the line may come next in a state, and which state is
 -- after it; `ends state` says that the text may end there. So a state holds what the lines so far call for.
 use Rattle.std.specs.Prelude.{◌≡◌, ℕ, ◌+◌, min, List, [], ◌∷◌, ◌++◌, length}
-use Rattle.cbi_base.specs.Text.{Lacks, AreLines, is_newline, ended, text_of}
+use Rattle.cbi_base.specs.Text.{Lacks, AreLines, is_newline, line_with_newline, text_of}
 
 -- a line that may come next in a state leads to one state
 abbrev pub LeadsOnce : {D : Type 0} → (D → List ℕ → D → Type 0) → Type 0
@@ -29,7 +29,7 @@ pub record IsGoodPrefix {D : Type 0} (follows : D → List ℕ → D → Type 0)
 
 -- in this state the rest of a text neither goes on with a line that may come nor is an end
 pub record Stops {D : Type 0} (follows : D → List ℕ → D → Type 0) (ends : D → Type 0) (state : D) (rest : List ℕ) : Type 0 where
-  pub no_line : (line more : List ℕ) (after : D) → Lacks is_newline line → rest ≡ ended line ++ more → follows state line after → ⊥
+  pub no_line : (line more : List ℕ) (after : D) → Lacks is_newline line → rest ≡ line_with_newline line ++ more → follows state line after → ⊥
   pub no_end : rest ≡ [] → ends state → ⊥
 
 -- the greatest line that an answer can have

@@ -68,20 +68,20 @@ abbrev pub GivesNull : ℕ → Objects → Type 0
 GivesNull cells o = (cells ≡ 0) ⊎ ((cell_limit < live_cells o + cells) ⊎ (object_limit ≤ o.made))
 
 -- what `malloc` gives (C99 7.20.3.3): null for no cells and where there is no room, else a new object of so many undefined cells
-unfoldable pub allocated : ℕ → Objects → Scalar × Objects
-allocated cells o = if cells == 0 then (Null, o) else place_or_null o.made o (made_with Heap (replicate cells Undefined) o)
+unfoldable pub object_allocated : ℕ → Objects → Scalar × Objects
+object_allocated cells o = if cells == 0 then (Null, o) else place_or_null o.made o (made_with Heap (replicate cells Undefined) o)
 
 -- the object is dead from now on
-abbrev pub killed : ℕ → Objects → Objects
-killed number o = record o { live = remove o.live number }
+abbrev pub object_killed : ℕ → Objects → Objects
+object_killed number o = record o { live = remove o.live number }
 
 -- an object whose cells are all undefined
 abbrev pub undefined_in : Objects → ℕ → Option Object → Objects
 undefined_in o number None = o
 undefined_in o number (Some object) = with_object o number (record object { cells = map (λ _. Undefined) object.cells })
 
-abbrev pub cleared : ℕ → Objects → Objects
-cleared number o = undefined_in o number (get o.live number)
+abbrev pub object_made_undefined : ℕ → Objects → Objects
+object_made_undefined number o = undefined_in o number (get o.live number)
 
 -- a live object, or the trap of a dead one
 abbrev pub live_or : Option Object → Result Object Trap
@@ -115,8 +115,8 @@ found_cell wanted (Some Undefined) = Err trap.Undefined
 found_cell wanted (Some value) = if is_wanted wanted value then Ok value else Err trap.WrongKind
 
 -- the value at a pointer: null, dead, out of bounds, undefined and another kind are traps, in this order
-unfoldable pub loaded : Want → Scalar → Objects → Result Scalar Trap
-loaded wanted pointer o = used_at pointer o (λ number offset object. found_cell wanted (slice_get object.cells offset))
+unfoldable pub loaded_value : Want → Scalar → Objects → Result Scalar Trap
+loaded_value wanted pointer o = used_at pointer o (λ number offset object. found_cell wanted (slice_get object.cells offset))
 
 abbrev pub is_text : Class → Bool
 is_text Text = true
@@ -129,17 +129,17 @@ set_in number offset value o object =
     else Err trap.Bounds
 
 -- a value is stored at a pointer: null, dead, out of bounds and a text are traps, in this order
-unfoldable pub stored : Scalar → Scalar → Objects → Result Objects Trap
-stored pointer Undefined o = Err trap.Undefined
-stored pointer value o = used_at pointer o (λ number offset object. set_in number offset value o object)
+unfoldable pub value_stored : Scalar → Scalar → Objects → Result Objects Trap
+value_stored pointer Undefined o = Err trap.Undefined
+value_stored pointer value o = used_at pointer o (λ number offset object. set_in number offset value o object)
 
 -- a pointer moved by so many cells, within its object or to its end
 abbrev pub moved_in : ℕ → ℤ → Object → Result Scalar Trap
 moved_in number to object =
     if int_le (pos 0) to && int_le to (pos (length object.cells)) then Ok (Place number (unsigned_abs to)) else Err trap.Bounds
 
-unfoldable pub moved : Scalar → ℤ → Objects → Result Scalar Trap
-moved pointer cells o = used_at pointer o (λ number offset object. moved_in number (pos offset +ℤ cells) object)
+unfoldable pub moved_pointer : Scalar → ℤ → Objects → Result Scalar Trap
+moved_pointer pointer cells o = used_at pointer o (λ number offset object. moved_in number (pos offset +ℤ cells) object)
 
 abbrev pub is_heap : Class → Bool
 is_heap Heap = true
@@ -150,11 +150,11 @@ is_heap_start offset None = false
 is_heap_start offset (Some object) = (offset == 0) && is_heap object.class
 
 -- `free`: null does nothing, and anything but the start of a live object of `malloc` is a trap
-unfoldable pub released : Scalar → Objects → Result Objects Trap
-released Undefined o = Err trap.Undefined
-released (Number kind value) o = Err trap.Internal
-released Null o = Ok o
-released (Place number offset) o = if is_heap_start offset (get o.live number) then Ok (killed number o) else Err trap.BadFree
+unfoldable pub object_released : Scalar → Objects → Result Objects Trap
+object_released Undefined o = Err trap.Undefined
+object_released (Number kind value) o = Err trap.Internal
+object_released Null o = Ok o
+object_released (Place number offset) o = if is_heap_start offset (get o.live number) then Ok (object_killed number o) else Err trap.BadFree
 
 -- two pointers: an undefined one stops first, and then a number
 abbrev pub of_pointers : {A : Type 0} → Scalar → Scalar → Result A Trap → Result A Trap
@@ -185,26 +185,26 @@ in_order Eq left right = left == right
 in_order Ne left right = not (left == right)
 
 -- pointers compared (C99 6.5.8 and 6.5.9): equality never traps on pointers
-unfoldable pub compared : Order → Scalar → Scalar → Objects → Result Bool Trap
-compared Eq left right o = of_pointers left right (Ok (same_place left right))
-compared Ne left right o = of_pointers left right (Ok (not (same_place left right)))
-compared order left right o = of_pointers left right (within_one left right o (λ i j. Ok (in_order order i j)))
+unfoldable pub pointer_comparison : Order → Scalar → Scalar → Objects → Result Bool Trap
+pointer_comparison Eq left right o = of_pointers left right (Ok (same_place left right))
+pointer_comparison Ne left right o = of_pointers left right (Ok (not (same_place left right)))
+pointer_comparison order left right o = of_pointers left right (within_one left right o (λ i j. Ok (in_order order i j)))
 
 -- how many elements of so many cells lie between two places (C99 6.5.6p9)
-abbrev pub elements : ℕ → ℤ → Result ℤ Trap
-elements size cells = if int_eq (int_rem cells (pos size)) (pos 0) then Ok (int_div cells (pos size)) else Err trap.Bounds
+abbrev pub elements_between : ℕ → ℤ → Result ℤ Trap
+elements_between size cells = if int_eq (int_rem cells (pos size)) (pos 0) then Ok (int_div cells (pos size)) else Err trap.Bounds
 
-unfoldable pub difference : Scalar → Scalar → ℕ → Objects → Result ℤ Trap
-difference left right size o = of_pointers left right (within_one left right o (λ i j. elements size (pos i -ℤ pos j)))
+unfoldable pub pointer_difference : Scalar → Scalar → ℕ → Objects → Result ℤ Trap
+pointer_difference left right size o = of_pointers left right (within_one left right o (λ i j. elements_between size (pos i -ℤ pos j)))
 
 -- a pointer moved by a number times so many cells; an undefined value of the two stops first
 unfoldable pub moved_by : ℤ → Scalar → Scalar → Objects → Result Scalar Trap
 moved_by size Undefined by o = Err trap.Undefined
 moved_by size pointer Undefined o = Err trap.Undefined
-moved_by size pointer (Number kind by) o = moved pointer (by *ℤ size) o
+moved_by size pointer (Number kind by) o = moved_pointer pointer (by *ℤ size) o
 moved_by size pointer other o = Err trap.Internal
 
 -- bytes are stored as `char` one after another, from this place of an object on
 abbrev pub stored_bytes : ℕ → ℕ → List ℕ → Objects → Result Objects Trap
 stored_bytes number offset [] o = Ok o
-stored_bytes number offset (byte ∷ bytes) o = stored (Place number offset) (char_of byte) o >>= stored_bytes number (offset + 1) bytes
+stored_bytes number offset (byte ∷ bytes) o = value_stored (Place number offset) (char_of byte) o >>= stored_bytes number (offset + 1) bytes

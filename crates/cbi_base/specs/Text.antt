@@ -21,20 +21,20 @@ abbrev pub IsField : List ℕ → Type 0
 IsField bytes = IsTrue (list_all is_field_byte bytes)
 
 -- the line with these fields
-abbrev pub spaced : List (List ℕ) → List ℕ
-spaced fields = join_with_byte 32 fields
+abbrev pub line_of_fields : List (List ℕ) → List ℕ
+line_of_fields fields = join_with_byte 32 fields
 
 -- the fields of a line
 abbrev pub fields_of : List ℕ → List (List ℕ)
 fields_of line = slice_split is_space line
 
 -- a line and its end
-abbrev pub ended : List ℕ → List ℕ
-ended line = line ++ 10 ∷ []
+abbrev pub line_with_newline : List ℕ → List ℕ
+line_with_newline line = line ++ 10 ∷ []
 
 -- the text with these lines
 abbrev pub text_of : List (List ℕ) → List ℕ
-text_of lines = flat_map ended lines
+text_of lines = flat_map line_with_newline lines
 
 abbrev pub AreLines : List (List ℕ) → Type 0
 AreLines lines = AllByRecursion (Lacks is_newline) lines

@@ -1,5 +1,5 @@
 ghost use Rattle.std.specs.Prelude.{◌≡◌, ◌≤◌, ◌↔◌, ℕ, List, length, OnOk, IsTrue};
-ghost use Rattle.cbi_base.specs.Lines.{LeadsOnce, LeadsTo, ReadsLines, IsGoodPrefix, Stops, IsBadLine, line_after};
+ghost use Rattle.cbi_base.specs.Lines.{LeadsOnce, ReadsLines, IsGoodPrefix, Stops, IsBadLine, line_after};
 ghost use Rattle.cbi_base.specs.LineFaults.{TakenWith, ReadWith, IfBadAt, RefusedAt, bad_after};
 
 use crate::text::cut;

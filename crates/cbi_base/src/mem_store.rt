@@ -1,7 +1,6 @@
 ghost use Rattle.std.specs.Prelude.{◌≡◌, [], ◌≤◌, ◌↔◌, ◌⊎◌, ◌+◌, take, IfOk, OnOk, OnErr, IsErrOf, IsNone, IsTrue, Some, refl};
 ghost use Rattle.std.specs.FinMap.{get, insert};
 ghost use Rattle.std.specs.List.{position};
-ghost use Rattle.std.specs.String.{string_bytes};
 ghost use Rattle.std.specs.Option.{option_copied};
 ghost use Rattle.cbi_base.specs.Faults.{last_count, next_count};
 ghost use Rattle.cbi_base.specs.Failing.{IsToFail, NoneIsToFail};

@@ -1,5 +1,5 @@
 ghost use Rattle.std.specs.Prelude.{◌≡◌, ◌≢◌, ◌≤◌, ℕ, List, OnOk, OnErr, IsErrOf, Option};
-ghost use Rattle.cbi_base.specs.Faults.{Rose, last_count};
+ghost use Rattle.cbi_base.specs.Faults.{CountHasRisen, last_count};
 ghost use Rattle.cbi_base.specs.declared.sink.SinkError.TheVariants.{Memory};
 ghost use Rattle.cbi_base.specs.Sink.{Takes, TakesPrefix};
 
@@ -40,7 +40,7 @@ pub trait Sink {
         ensures whole { OnOk result (Takes (taken self.old) (taken self.new) piece.now) }
         ensures never_falls { faults self.old ≤ faults self.new }
         ensures in_range { faults self.new ≤ last_count }
-        ensures failed { IsErrOf result SinkError.Failed → Rose (faults self.old) (faults self.new) }
+        ensures failed { IsErrOf result SinkError.Failed → CountHasRisen (faults self.old) (faults self.new) }
         ensures part { OnErr result (TakesPrefix (taken self.old) (taken self.new) piece.now) }
         ensures memory { IsErrOf result SinkError.Memory → taken self.new ≡ taken self.old }
         ensures memory_count { IsErrOf result SinkError.Memory → faults self.new ≡ faults self.old }

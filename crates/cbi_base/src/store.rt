@@ -1,5 +1,5 @@
 ghost use Rattle.std.specs.Prelude.{◌≡◌, ◌≢◌, ◌≤◌, ℕ, IfOk, OnOk, OnErr, IsErrOf, IsSome, Option};
-ghost use Rattle.cbi_base.specs.Faults.{Rose, last_count};
+ghost use Rattle.cbi_base.specs.Faults.{CountHasRisen, last_count};
 ghost use Rattle.cbi_base.specs.declared.store.StoreError.TheVariants.{Memory};
 ghost use Rattle.cbi_base.specs.Store.{Held, IsHeld, IsReadOf, Replaces, MayReplace, OthersStay};
 
@@ -46,7 +46,7 @@ pub trait Store {
         ensures write_count { write_faults self.new ≡ write_faults self.old }
         ensures never_falls { read_faults self.old ≤ read_faults self.new }
         ensures in_range { read_faults self.new ≤ last_count }
-        ensures failed { IsErrOf result StoreError.Failed → Rose (read_faults self.old) (read_faults self.new) }
+        ensures failed { IsErrOf result StoreError.Failed → CountHasRisen (read_faults self.old) (read_faults self.new) }
         ensures memory { IsErrOf result StoreError.Memory → read_faults self.new ≡ read_faults self.old }
         ensures sound { is_sound self.old → is_sound self.new }
         ensures sound_count { is_sound self.old → IsHeld (holds self.old) name.now → read_faults self.new ≡ read_faults self.old }
@@ -58,7 +58,7 @@ pub trait Store {
         ensures read_count { read_faults self.new ≡ read_faults self.old }
         ensures never_falls { write_faults self.old ≤ write_faults self.new }
         ensures in_range { write_faults self.new ≤ last_count }
-        ensures failed { IsErrOf result StoreError.Failed → Rose (write_faults self.old) (write_faults self.new) }
+        ensures failed { IsErrOf result StoreError.Failed → CountHasRisen (write_faults self.old) (write_faults self.new) }
         ensures part { OnErr result (MayReplace (holds self.old) (holds self.new) name.now bytes.now) }
         ensures others { OnErr result (OthersStay (holds self.old) (holds self.new) name.now) }
         ensures memory { IsErrOf result StoreError.Memory → holds self.new ≡ holds self.old }

@@ -9,7 +9,7 @@ use Rattle.std.proofs.lemmas.List.{take_all}
 use Rattle.cbi_options.specs.declared.given.Choice.{Choice}
 use Rattle.cbi_options.specs.declared.given.Shape.{Shape}
 use Rattle.cbi_options.specs.declared.given.Shape.TheVariants as shape
-use Rattle.cbi_options.specs.WordRule.{is_value, with_option, with_positional, texts_of, cut, shape_of, has_value, name_in, value_in}
+use Rattle.cbi_options.specs.WordRule.{is_value, with_option, with_positional, texts_of, given_by_words, shape_of, has_value, name_in, value_in}
 use Rattle.cbi_options.specs.declared.given.Given.{Given}
 
 -- one list of what is given behind another
@@ -31,37 +31,37 @@ after-positional front word (Some given) =
 abbrev at_shape : Shape → Bool → List ℕ → List (List ℕ) → Option Given
 at_shape s has word rest = elim s [
   | shape.End ↦ Some (record { options = []; positionals = rest })
-  | shape.Option ↦ (if has then option_map (with_option (name_in word) (value_in word)) (cut None rest) else cut (Some word) rest)
+  | shape.Option ↦ (if has then option_map (with_option (name_in word) (value_in word)) (given_by_words None rest) else given_by_words (Some word) rest)
   | shape.Refused ↦ None
-  | shape.Positional ↦ option_map (with_positional word) (cut None rest)
+  | shape.Positional ↦ option_map (with_positional word) (given_by_words None rest)
 ]
 
-pub cut-option : (word : List ℕ) (rest : List (List ℕ)) → shape_of word ≡ shape.Option → has_value word ≡ true → cut None (word ∷ rest) ≡ option_map (with_option (name_in word) (value_in word)) (cut None rest)
+pub cut-option : (word : List ℕ) (rest : List (List ℕ)) → shape_of word ≡ shape.Option → has_value word ≡ true → given_by_words None (word ∷ rest) ≡ option_map (with_option (name_in word) (value_in word)) (given_by_words None rest)
 cut-option word rest is has = ap (λ s. at_shape s (has_value word) word rest) is ∙ ap (λ b. at_shape shape.Option b word rest) has
 
-pub option-step : (front next : Given) (waiting : Option (Bor (List ℕ))) (word name value : List ℕ) (rest : List (List ℕ)) (all : Option Given) → waiting ≡ None → shape_of word ≡ shape.Option → has_value word ≡ true → name ≡ name_in word → value ≡ value_in word → next ≡ record front { options = front.options ++ record { name = name; value = value } ∷ [] } → all ≡ option_map (after front) (cut (option_map (λ n. n.now) waiting) (word ∷ rest)) → all ≡ option_map (after next) (cut (option_map (λ n. n.now) waiting) rest)
+pub option-step : (front next : Given) (waiting : Option (Bor (List ℕ))) (word name value : List ℕ) (rest : List (List ℕ)) (all : Option Given) → waiting ≡ None → shape_of word ≡ shape.Option → has_value word ≡ true → name ≡ name_in word → value ≡ value_in word → next ≡ record front { options = front.options ++ record { name = name; value = value } ∷ [] } → all ≡ option_map (after front) (given_by_words (option_map (λ n. n.now) waiting) (word ∷ rest)) → all ≡ option_map (after next) (given_by_words (option_map (λ n. n.now) waiting) rest)
 option-step front next (Some n) word name value rest all none is has is_name is_value is_next step = absurd cc
 option-step front next None word name value rest all none is has is_name is_value is_next step =
-    step ∙ ap (option_map (after front)) (cut-option word rest is has) ∙ after-option front (name_in word) (value_in word) (cut None rest)
-    ∙ ap (λ given. option_map (after given) (cut None rest)) (sym (is_next ∙ ap (λ n. record front { options = front.options ++ record { name = n; value = value } ∷ [] }) is_name ∙ ap (λ v. record front { options = front.options ++ record { name = name_in word; value = v } ∷ [] }) is_value))
+    step ∙ ap (option_map (after front)) (cut-option word rest is has) ∙ after-option front (name_in word) (value_in word) (given_by_words None rest)
+    ∙ ap (λ given. option_map (after given) (given_by_words None rest)) (sym (is_next ∙ ap (λ n. record front { options = front.options ++ record { name = n; value = value } ∷ [] }) is_name ∙ ap (λ v. record front { options = front.options ++ record { name = name_in word; value = v } ∷ [] }) is_value))
 
 -- a positional
-pub cut-positional : (word : List ℕ) (rest : List (List ℕ)) → shape_of word ≡ shape.Positional → cut None (word ∷ rest) ≡ option_map (with_positional word) (cut None rest)
+pub cut-positional : (word : List ℕ) (rest : List (List ℕ)) → shape_of word ≡ shape.Positional → given_by_words None (word ∷ rest) ≡ option_map (with_positional word) (given_by_words None rest)
 cut-positional word rest is = ap (λ s. at_shape s (has_value word) word rest) is
 
 pub positional-step : (front next : Given) (waiting : Option (Bor (List ℕ))) (word : List ℕ) (rest : List (List ℕ)) (all : Option Given) → waiting ≡ None → shape_of word ≡ shape.Positional
-    → next ≡ record front { positionals = front.positionals ++ word ∷ [] } → all ≡ option_map (after front) (cut (option_map (λ n. n.now) waiting) (word ∷ rest)) → all ≡ option_map (after next) (cut (option_map (λ n. n.now) waiting) rest)
+    → next ≡ record front { positionals = front.positionals ++ word ∷ [] } → all ≡ option_map (after front) (given_by_words (option_map (λ n. n.now) waiting) (word ∷ rest)) → all ≡ option_map (after next) (given_by_words (option_map (λ n. n.now) waiting) rest)
 positional-step front next (Some n) word rest all none is is_next step = absurd cc
 positional-step front next None word rest all none is is_next step =
-    step ∙ ap (option_map (after front)) (cut-positional word rest is) ∙ after-positional front word (cut None rest) ∙ ap (λ given. option_map (after given) (cut None rest)) (sym is_next)
+    step ∙ ap (option_map (after front)) (cut-positional word rest is) ∙ after-positional front word (given_by_words None rest) ∙ ap (λ given. option_map (after given) (given_by_words None rest)) (sym is_next)
 
 -- the value of the option that waits for it
 pub value-step : (front next : Given) (waiting : Option (Bor (List ℕ))) (name : Bor (List ℕ)) (word : List ℕ) (rest : List (List ℕ)) (all : Option Given) → waiting ≡ Some name → is_value word ≡ true
-    → next ≡ record front { options = front.options ++ record { name = name.now; value = word } ∷ [] } → all ≡ option_map (after front) (cut (option_map (λ n. n.now) waiting) (word ∷ rest)) → all ≡ option_map (after next) (cut None rest)
+    → next ≡ record front { options = front.options ++ record { name = name.now; value = word } ∷ [] } → all ≡ option_map (after front) (given_by_words (option_map (λ n. n.now) waiting) (word ∷ rest)) → all ≡ option_map (after next) (given_by_words None rest)
 value-step front next waiting name word rest all some is is_next step =
-    step ∙ ap (λ w. option_map (after front) (cut (option_map (λ n. n.now) w) (word ∷ rest))) some
-    ∙ ap (λ b. option_map (after front) (if b then option_map (with_option name.now word) (cut None rest) else None)) is
-    ∙ after-option front name.now word (cut None rest) ∙ ap (λ given. option_map (after given) (cut None rest)) (sym is_next)
+    step ∙ ap (λ w. option_map (after front) (given_by_words (option_map (λ n. n.now) w) (word ∷ rest))) some
+    ∙ ap (λ b. option_map (after front) (if b then option_map (with_option name.now word) (given_by_words None rest) else None)) is
+    ∙ after-option front name.now word (given_by_words None rest) ∙ ap (λ given. option_map (after given) (given_by_words None rest)) (sym is_next)
 
 -- an element that passes is one before the end
 any-first : (p : ℕ → Bool) (x : ℕ) (xs : List ℕ) (b : Bool) → list_any p xs ≡ ltb (position_or_len p xs) (length xs) → (b || list_any p xs) ≡ ltb (cond (not b) (1 + position_or_len p xs) 0) (length (x ∷ xs))

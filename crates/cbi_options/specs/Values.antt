@@ -19,6 +19,6 @@ abbrev pub is_schemes : List ℕ → Bool
 is_schemes value = is_some (schemes_in value)
 
 -- what is given is taken; so is an option that isn't given
-abbrev pub fits : (List ℕ → Bool) → Option (List ℕ) → Bool
-fits takes None = true
-fits takes (Some value) = takes value
+abbrev pub is_taken_if_given : (List ℕ → Bool) → Option (List ℕ) → Bool
+is_taken_if_given takes None = true
+is_taken_if_given takes (Some value) = takes value

@@ -48,15 +48,16 @@ abbrev pub with_positional : List ℕ → Given → Given
 with_positional word given = record given { positionals = word ∷ given.positionals }
 
 -- what the words give, where an option may wait for its value; none where they break the rule
-abbrev pub cut : Option (List ℕ) → List (List ℕ) → Option Given
-cut None [] = Some none_given
-cut (Some name) [] = None
-cut (Some name) (word ∷ rest) = if is_value word then option_map (with_option name word) (cut None rest) else None
-cut None (word ∷ rest) = elim (shape_of word) [
+abbrev pub given_by_words : Option (List ℕ) → List (List ℕ) → Option Given
+given_by_words None [] = Some none_given
+given_by_words (Some name) [] = None
+given_by_words (Some name) (word ∷ rest) = if is_value word then option_map (with_option name word) (given_by_words None rest) else None
+given_by_words None (word ∷ rest) = elim (shape_of word) [
   | shape.End ↦ Some (record { options = []; positionals = rest })
-  | shape.Option ↦ (if has_value word then option_map (with_option (name_in word) (value_in word)) (cut None rest) else cut (Some word) rest)
+  | shape.Option ↦ (if has_value word then option_map (with_option (name_in word) (value_in word)) (given_by_words None rest) else given_by_words
+      (Some word) rest)
   | shape.Refused ↦ None
-  | shape.Positional ↦ option_map (with_positional word) (cut None rest)
+  | shape.Positional ↦ option_map (with_positional word) (given_by_words None rest)
 ]
 
 -- the texts of the words

@@ -1,7 +1,7 @@
-ghost use Rattle.std.specs.Prelude.{◌≡◌, ◌↔◌, [], ◌∷◌, ◌++◌, None, Some, MatchOption, IfOk, OnOk, IsTrue, not, option_map, string_bytes, map, true, false};
+ghost use Rattle.std.specs.Prelude.{◌≡◌, ◌↔◌, [], ◌∷◌, ◌++◌, None, Some, MatchOption, IfOk, OnOk, option_map, map, true, false};
 ghost use Rattle.std.specs.Prelude.{if◌then◌else◌};
 ghost use Rattle.std.specs.List.{list_all};
-ghost use Rattle.cbi_options.specs.WordRule.{shape_of, has_value, name_in, value_in, is_value, cut, none_given, texts_of};
+ghost use Rattle.cbi_options.specs.WordRule.{shape_of, has_value, name_in, value_in, is_value, given_by_words, none_given, texts_of};
 ghost use Rattle.cbi_options.specs.Options.{value_of, are_single, is_one_of, has_name};
 
 use crate::word::Word;
@@ -167,7 +167,7 @@ impl Given {
     // Adds what the words give to nothing; answers whether they keep the rule.
     fn add_words(&mut self, alloc: Global, words: &[String]) -> Result<bool, Memory>
         requires { self.old ≡ none_given }
-        ensures { IfOk result (λ kept. cut None (texts_of words.now) ≡ if kept then Some self.new else None) }
+        ensures { IfOk result (λ kept. given_by_words None (texts_of words.now) ≡ if kept then Some self.new else None) }
     {
         let mut waiting: Option<&str> = None;
         let mut rest = words;
@@ -207,7 +207,7 @@ impl Given {
 
 /// Cuts the words after a command into options with their values and positionals; None where a word breaks the rule.
 pub fn cut(alloc: Global, words: &[String]) -> Result<Option<Given>, Memory>
-    ensures { IfOk result (λ given. given ≡ cut None (texts_of words.now)) }
+    ensures { IfOk result (λ given. given ≡ given_by_words None (texts_of words.now)) }
 {
     let mut given = Given::new(alloc);
     if given.add_words(alloc, words)? {

@@ -1,7 +1,7 @@
 ghost use Rattle.std.specs.Prelude.{◌≡◌, ◌≤◌, Some, IfOk, IfSome, is_ok};
 ghost use Rattle.cbi_base.specs.Numbers.{number_of};
 ghost use Rattle.cbi_options.specs.Answers.{ReadAs};
-ghost use Rattle.cbi_options.specs.Values.{fits, is_number};
+ghost use Rattle.cbi_options.specs.Values.{is_taken_if_given, is_number};
 ghost use Rattle.cbi_options.specs.Options.{number_or, number_within, value_of};
 
 use crate::fault::Fault;
@@ -46,7 +46,7 @@ pub fn number_or(
     requires least { bounds.least ≤ default }
     requires most { default ≤ bounds.most }
     ensures reads { ReadAs result (number_or default bounds.least bounds.most (value_of option.entry.now given.now.options)) (Some option.entry.now) }
-    ensures fits { is_ok result ≡ fits (is_number bounds.least bounds.most) (value_of option.entry.now given.now.options) }
+    ensures fits { is_ok result ≡ is_taken_if_given (is_number bounds.least bounds.most) (value_of option.entry.now given.now.options) }
     ensures least { IfOk result (λ n. bounds.least ≤ n) }
     ensures most { IfOk result (λ n. n ≤ bounds.most) }
 {

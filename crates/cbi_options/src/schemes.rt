@@ -1,6 +1,6 @@
 ghost use Rattle.std.specs.Prelude.{◌≡◌, Some, is_ok};
 ghost use Rattle.cbi_options.specs.Answers.{ReadAs};
-ghost use Rattle.cbi_options.specs.Values.{fits, is_mode, is_schemes};
+ghost use Rattle.cbi_options.specs.Values.{is_taken_if_given, is_mode, is_schemes};
 ghost use Rattle.cbi_options.specs.Options.{value_of};
 ghost use Rattle.cbi_options.specs.Schemes.{all_schemes, mode_of, names_in, schemes_in, schemes_or, with_scheme, with_schemes};
 
@@ -107,7 +107,7 @@ fn schemes_of(value: &str) -> Option<Schemes>
 /// The schemes that an option lists, or all of them where it isn't given.
 pub fn schemes_or(given: &Given, option: &'static str) -> Result<Schemes, Fault>
     ensures reads { ReadAs result (schemes_or all_schemes (value_of option.entry.now given.now.options)) (Some option.entry.now) }
-    ensures fits { is_ok result ≡ fits is_schemes (value_of option.entry.now given.now.options) }
+    ensures fits { is_ok result ≡ is_taken_if_given is_schemes (value_of option.entry.now given.now.options) }
 {
     match given.value_of(option) {
         None => Ok(Schemes {

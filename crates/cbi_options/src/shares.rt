@@ -3,7 +3,7 @@ ghost use Rattle.std.specs.List.{before_first, after_first};
 ghost use Rattle.cbi_options.specs.Answers.{ReadAs};
 ghost use Rattle.cbi_options.specs.Options.{value_of};
 ghost use Rattle.cbi_options.specs.Shares.{has_slash, is_share, is_slash, share_of, share_or};
-ghost use Rattle.cbi_options.specs.Values.{fits};
+ghost use Rattle.cbi_options.specs.Values.{is_taken_if_given};
 ghost use Rattle.flow.specs.Sites.{MayPart, PartFits};
 
 use crate::fault::Fault;
@@ -58,7 +58,7 @@ pub fn share_in(option: &'static str, value: &str) -> Result<Part, Fault>
 /// The share that an option gives, where it is given.
 pub fn share_or(given: &Given, option: &'static str) -> Result<Option<Part>, Fault>
     ensures reads { ReadAs result (share_or (value_of option.entry.now given.now.options)) (Some option.entry.now) }
-    ensures fits { is_ok result ≡ fits is_share (value_of option.entry.now given.now.options) }
+    ensures fits { is_ok result ≡ is_taken_if_given is_share (value_of option.entry.now given.now.options) }
     ensures may { IfOk result MayPart }
 {
     match given.value_of(option) {

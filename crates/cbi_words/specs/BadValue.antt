@@ -4,9 +4,9 @@ use Rattle.cbi_base.specs.Numbers.{is_word, ◌>>=◌}
 use Rattle.cbi_options.specs.declared.given.Choice.{Choice}
 use Rattle.cbi_options.specs.Options.{value_of}
 use Rattle.cbi_options.specs.Shares.{is_share}
-use Rattle.cbi_options.specs.Values.{fits, is_mode, is_number, is_policy, is_schemes}
+use Rattle.cbi_options.specs.Values.{is_taken_if_given, is_mode, is_number, is_policy, is_schemes}
 use Rattle.cbi_options.specs.declared.given.Given.{Given}
-use Rattle.cbi_words.specs.Reading.{bank_options, given_after, no_positional, only, rank_options, run_options, runs_options, session_options}
+use Rattle.cbi_words.specs.Reading.{bank_options, given_after, no_positional, only_positional, rank_options, run_options, runs_options, session_options}
 use Rattle.cbi_words.specs.Reading.{study_options, transform_options, two_words, widen_options}
 
 -- an option that doesn't take every value, and the values that it takes
@@ -17,12 +17,12 @@ pub record Rule : Type 0 where
 -- the first of these options that is given a value that it doesn't take
 abbrev pub first_bad : List Rule → List Choice → Option (List ℕ)
 first_bad [] options = None
-first_bad (rule ∷ rules) options = if fits rule.takes (value_of rule.name options) then first_bad rules options else Some rule.name
+first_bad (rule ∷ rules) options = if is_taken_if_given rule.takes (value_of rule.name options) then first_bad rules options else Some rule.name
 
 -- of `run` with its program
 abbrev pub bad_run : Given → Option (List ℕ)
 bad_run given = do
-  program ← only given.positionals
+  program ← only_positional given.positionals
   first_bad (record { name = codes "--turns"; takes = is_number 0 100000000 } ∷ record { name = codes "--run"; takes = is_number 1 4294967295 } ∷ [])
       given.options
 
@@ -40,7 +40,7 @@ bad_bank given = do
 -- of `runs` with its program and the three options that must be given
 abbrev pub bad_runs : Given → Option (List ℕ)
 bad_runs given = do
-  program ← only given.positionals
+  program ← only_positional given.positionals
   inputs ← value_of (codes "--inputs") given.options
   rate ← value_of (codes "--rate") given.options
   seed ← value_of (codes "--seed") given.options
@@ -56,7 +56,7 @@ bad_rank given = do
 -- of `study` with its text and the four options that must be given
 abbrev pub bad_study : Given → Option (List ℕ)
 bad_study given = do
-  text ← only given.positionals
+  text ← only_positional given.positionals
   runs ← value_of (codes "--runs") given.options
   seed ← value_of (codes "--seed") given.options
   rate ← value_of (codes "--rate") given.options
@@ -68,7 +68,7 @@ bad_study given = do
 -- of `transform` with its text and its mode
 abbrev pub bad_transform : Given → Option (List ℕ)
 bad_transform given = do
-  text ← only given.positionals
+  text ← only_positional given.positionals
   mode ← value_of (codes "--mode") given.options
   first_bad (record { name = codes "--mode"; takes = is_mode } ∷ record { name = codes "--schemes"; takes = is_schemes }
       ∷ record { name = codes "--part"; takes = is_share } ∷ []) given.options
@@ -76,7 +76,7 @@ bad_transform given = do
 -- of `session` with its program and its edits
 abbrev pub bad_session : Given → Option (List ℕ)
 bad_session given = do
-  edits ← only given.positionals
+  edits ← only_positional given.positionals
   program ← value_of (codes "--program") given.options
   first_bad (record { name = codes "--policy"; takes = is_policy } ∷ []) given.options
 

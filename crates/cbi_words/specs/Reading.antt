@@ -3,7 +3,7 @@
 use Rattle.std.specs.Prelude.{ℕ, if◌then◌else◌, List, [], ◌∷◌, Option, None, Some, codes}
 use Rattle.cbi_base.specs.declared.policy.Policy.TheVariants.{All}
 use Rattle.cbi_base.specs.Numbers.{is_word, ◌>>=◌}
-use Rattle.cbi_options.specs.WordRule.{cut}
+use Rattle.cbi_options.specs.WordRule.{given_by_words}
 use Rattle.cbi_options.specs.Options.{are_asked, value_of, number_or, number_wanted, policy_or}
 use Rattle.cbi_options.specs.Schemes.{all_schemes, mode_wanted, schemes_or}
 use Rattle.cbi_options.specs.Shares.{share_or, share_wanted}
@@ -12,10 +12,10 @@ use Rattle.cbi_words.specs.declared.command.Command.{Command}
 use Rattle.cbi_words.specs.declared.command.Command.TheVariants.{Transform, Run, Bank, Collect, Runs, Rank, Study, Session, Widen, Cards, Pairs}
 
 -- the one positional, where there is one alone
-abbrev pub only : List (List ℕ) → Option (List ℕ)
-only [] = None
-only (word ∷ []) = Some word
-only (word ∷ next ∷ more) = None
+abbrev pub only_positional : List (List ℕ) → Option (List ℕ)
+only_positional [] = None
+only_positional (word ∷ []) = Some word
+only_positional (word ∷ next ∷ more) = None
 
 -- `transform --mode plain|full|sampled [--schemes LIST] [--part I/N] C`
 abbrev pub transform_options : List (List ℕ)
@@ -26,7 +26,7 @@ transform_of given = do
   mode ← mode_wanted (value_of (codes "--mode") given.options)
   schemes ← schemes_or all_schemes (value_of (codes "--schemes") given.options)
   part ← share_or (value_of (codes "--part") given.options)
-  text ← only given.positionals
+  text ← only_positional given.positionals
   Some (Transform (record { mode = mode; schemes = schemes; part = part; text = text }))
 
 -- `run [--bank B] [--input I] [--expect FILE] [--turns N] [--run R] [--report F] PROG`
@@ -37,7 +37,7 @@ abbrev pub run_of : Given → Option Command
 run_of given = do
   turns ← number_or 1000000 0 100000000 (value_of (codes "--turns") given.options)
   run ← number_or 1 1 4294967295 (value_of (codes "--run") given.options)
-  program ← only given.positionals
+  program ← only_positional given.positionals
   Some (Run (record {
     bank = value_of (codes "--bank") given.options;
     input = value_of (codes "--input") given.options;
@@ -90,7 +90,7 @@ listed_runs_of given = do
   seed ← number_wanted 0 18446744073709551615 (value_of (codes "--seed") given.options)
   first ← number_or 1 1 4294967295 (value_of (codes "--first") given.options)
   turns ← number_or 1000000 0 100000000 (value_of (codes "--turns") given.options)
-  program ← only given.positionals
+  program ← only_positional given.positionals
   Some (Runs (record {
     inputs = inputs;
     expect = value_of (codes "--expect") given.options;
@@ -129,7 +129,7 @@ study_of given = do
   rate ← number_wanted 1 65536 (value_of (codes "--rate") given.options)
   turns ← number_wanted 0 100000000 (value_of (codes "--turns") given.options)
   policy ← policy_or All (value_of (codes "--policy") given.options)
-  text ← only given.positionals
+  text ← only_positional given.positionals
   Some (Study (record { runs = runs; seed = seed; rate = rate; turns = turns; policy = policy; text = text }))
 
 -- `session --program PROG [--policy all|failing|relabel] EDITS`
@@ -140,7 +140,7 @@ abbrev pub session_of : Given → Option Command
 session_of given = do
   program ← value_of (codes "--program") given.options
   policy ← policy_or All (value_of (codes "--policy") given.options)
-  edits ← only given.positionals
+  edits ← only_positional given.positionals
   Some (Session (record { program = program; policy = policy; edits = edits }))
 
 -- `widen --whole WHOLE --part I/N PARTPROG COLL`
@@ -170,7 +170,7 @@ pairs_of given = do
 
 -- what is given after a command with these options
 abbrev pub given_after : List (List ℕ) → List (List ℕ) → Option Given
-given_after options words = cut None words >>= λ given. if are_asked options given then Some given else None
+given_after options words = given_by_words None words >>= λ given. if are_asked options given then Some given else None
 
 -- the commands that look on into collections, and the one that makes one at once, by their names, with the words that follow
 unfoldable pub later_command_in : List ℕ → List (List ℕ) → Option Command
@@ -192,7 +192,7 @@ command_in name words =
     else (if is_word name (codes "transform") then (given_after transform_options words >>= transform_of) else later_command_in name words)))))
 
 -- the command that the words read as
-abbrev pub reads : List (List ℕ) → Option Command
-reads [] = None
-reads (first ∷ []) = None
-reads (first ∷ name ∷ words) = command_in name words
+abbrev pub command_of_words : List (List ℕ) → Option Command
+command_of_words [] = None
+command_of_words (first ∷ []) = None
+command_of_words (first ∷ name ∷ words) = command_in name words

@@ -7,7 +7,7 @@ ghost use Rattle.cbi_words.specs.Answers.{OnUsage};
 ghost use Rattle.cbi_words.specs.BadValue.{bad_bank, bad_in, bad_rank, bad_run, bad_runs, bad_session};
 ghost use Rattle.cbi_words.specs.BadValue.{bad_study, bad_transform, bad_value, bad_widen, later_bad_in};
 ghost use Rattle.cbi_words.specs.Reading.{bank_of, cards_of, collect_of, command_in, given_after, later_command_in, listed_runs_of, pairs_of, rank_of};
-ghost use Rattle.cbi_words.specs.Reading.{reads, run_of, session_of, study_of, transform_of, widen_of};
+ghost use Rattle.cbi_words.specs.Reading.{command_of_words, run_of, session_of, study_of, transform_of, widen_of};
 ghost use Rattle.cbi_words.specs.Within.{IsWithin};
 
 use crate::command::Command;
@@ -411,7 +411,7 @@ fn later_command_in(alloc: Global, name: &str, words: &[String]) -> Result<Comma
 
 // The first word isn't looked at, and the second one is the name of the command.
 fn command_of(alloc: Global, words: &[String]) -> Result<Command, Fault>
-    ensures reads { ReadAs result (reads (texts_of words.now)) (bad_value (texts_of words.now)) }
+    ensures reads { ReadAs result (command_of_words (texts_of words.now)) (bad_value (texts_of words.now)) }
     ensures within { IfOk result IsWithin }
 {
     let [_, name, rest @ ..] = words else {
@@ -431,11 +431,11 @@ fn command_word(words: &[String]) -> &str {
 /// The command that the words read as. The first word isn't looked at, the second one is the command, and the others are options and positionals.
 pub fn read_words(alloc: Global, words: &Vec<String>) -> Result<Command, WordsError>
     // What is read is what the words read as.
-    ensures reads { IfOk result (λ command. reads (texts_of words.now.items) ≡ Some command) }
+    ensures reads { IfOk result (λ command. command_of_words (texts_of words.now.items) ≡ Some command) }
     // Its numbers lie in their bounds.
     ensures within { IfOk result IsWithin }
     // Words are refused where they read as no command, and nowhere else.
-    ensures usage { OnUsage result (λ text. reads (texts_of words.now.items) ≡ None) }
+    ensures usage { OnUsage result (λ text. command_of_words (texts_of words.now.items) ≡ None) }
     // They are told of the option whose value alone breaks the rule, or else of how the tool is used.
     ensures told { OnUsage result (λ text. IsUsageText (bad_value (texts_of words.now.items)) text) }
 {

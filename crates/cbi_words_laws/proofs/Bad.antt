@@ -1,6 +1,6 @@
 -- Words that break the rule by a value alone read as no command.
 use Rattle.std.proofs.Common.{◌≡◌, ℕ, Bool, true, false, if◌then◌else◌, List, [], ◌∷◌, Option, None, Some, inl, inr, refl}
-use Rattle.std.specs.Prelude.{codes, is_some, ◌⊎◌}
+use Rattle.std.specs.Prelude.{codes, ◌⊎◌}
 use Rattle.base_lists.proofs.Options.{not_some}
 use Rattle.cbi_base.specs.declared.policy.Policy.{Policy}
 use Rattle.cbi_base.specs.declared.policy.Policy.TheVariants.{All}
@@ -11,16 +11,16 @@ use Rattle.flow.specs.declared.choice.Schemes.{Schemes}
 use Rattle.cbi_options.specs.Options.{number_or, number_wanted, policy_or, value_of}
 use Rattle.cbi_options.specs.Schemes.{all_schemes, mode_wanted, schemes_or}
 use Rattle.cbi_options.specs.Shares.{is_share, share_or, share_wanted}
-use Rattle.cbi_options.specs.Values.{fits, is_mode, is_number, is_policy, is_schemes}
+use Rattle.cbi_options.specs.Values.{is_taken_if_given, is_mode, is_number, is_policy, is_schemes}
 use Rattle.cbi_words.specs.declared.command.Command.{Command}
 use Rattle.cbi_words.specs.BadValue.{Rule, bad_bank, bad_in, bad_rank, bad_run, bad_runs, bad_session, bad_study, bad_transform, bad_widen, first_bad, later_bad_in}
-use Rattle.cbi_words.specs.Reading.{bank_of, bank_options, command_in, given_after, later_command_in, listed_runs_of, no_positional, only, rank_of, rank_options, run_of, run_options, runs_options, session_of, session_options, study_of, study_options, transform_of, transform_options, two_words, widen_of, widen_options}
+use Rattle.cbi_words.specs.Reading.{bank_of, bank_options, command_in, given_after, later_command_in, listed_runs_of, no_positional, only_positional, rank_of, rank_options, run_of, run_options, runs_options, session_of, session_options, study_of, study_options, transform_of, transform_options, two_words, widen_of, widen_options}
 use Rattle.cbi_words_laws.specs.Laws.{BadValuesAreNoCommand}
 
 -- one of these options is given a value that it doesn't take
 abbrev pub HasBad : List Rule → List Choice → Type 0
 HasBad [] options = ⊥
-HasBad (rule ∷ rules) options = (fits rule.takes (value_of rule.name options) ≡ false) ⊎ HasBad rules options
+HasBad (rule ∷ rules) options = (is_taken_if_given rule.takes (value_of rule.name options) ≡ false) ⊎ HasBad rules options
 
 found : (b : Bool) (rule : Rule) (more : Option (List ℕ)) (option : List ℕ) (P : Type 0) → (more ≡ Some option → P) → (if b then more else Some rule.name) ≡ Some option → (b ≡ false) ⊎ P
 found true rule more option P behind e = inr (behind e)
@@ -29,25 +29,25 @@ found false rule more option P behind e = inl refl
 is_bad : (rules : List Rule) (options : List Choice) (option : List ℕ) → first_bad rules options ≡ Some option → HasBad rules options
 is_bad [] options option e = absurd cc
 is_bad (rule ∷ rules) options option e =
-    found (fits rule.takes (value_of rule.name options)) rule (first_bad rules options) option (HasBad rules options) (is_bad rules options option) e
+    found (is_taken_if_given rule.takes (value_of rule.name options)) rule (first_bad rules options) option (HasBad rules options) (is_bad rules options option) e
 
-no_number_or : (default least most : ℕ) (value : Option (List ℕ)) → fits (is_number least most) value ≡ false → number_or default least most value ≡ None
+no_number_or : (default least most : ℕ) (value : Option (List ℕ)) → is_taken_if_given (is_number least most) value ≡ false → number_or default least most value ≡ None
 no_number_or default least most None e = absurd cc
 no_number_or default least most (Some value) e = not_some _ e
 
-no_number : (least most : ℕ) (value : Option (List ℕ)) → fits (is_number least most) value ≡ false → number_wanted least most value ≡ None
+no_number : (least most : ℕ) (value : Option (List ℕ)) → is_taken_if_given (is_number least most) value ≡ false → number_wanted least most value ≡ None
 no_number least most None e = absurd cc
 no_number least most (Some value) e = not_some _ e
 
-no_policy : (default : Policy) (value : Option (List ℕ)) → fits is_policy value ≡ false → policy_or default value ≡ None
+no_policy : (default : Policy) (value : Option (List ℕ)) → is_taken_if_given is_policy value ≡ false → policy_or default value ≡ None
 no_policy default None e = absurd cc
 no_policy default (Some value) e = not_some _ e
 
-no_mode : (value : Option (List ℕ)) → fits is_mode value ≡ false → mode_wanted value ≡ None
+no_mode : (value : Option (List ℕ)) → is_taken_if_given is_mode value ≡ false → mode_wanted value ≡ None
 no_mode None e = absurd cc
 no_mode (Some value) e = not_some _ e
 
-no_schemes : (default : Schemes) (value : Option (List ℕ)) → fits is_schemes value ≡ false → schemes_or default value ≡ None
+no_schemes : (default : Schemes) (value : Option (List ℕ)) → is_taken_if_given is_schemes value ≡ false → schemes_or default value ≡ None
 no_schemes default None e = absurd cc
 no_schemes default (Some value) e = not_some _ e
 
@@ -59,11 +59,11 @@ then_none : {A B : Type 0} (o : Option A) (k : A → Option B) → ((a : A) → 
 then_none None k e = refl
 then_none (Some a) k e = e a
 
-no_share : (value : Option (List ℕ)) → fits is_share value ≡ false → share_or value ≡ None
+no_share : (value : Option (List ℕ)) → is_taken_if_given is_share value ≡ false → share_or value ≡ None
 no_share None e = absurd cc
 no_share (Some value) e = first_none _ _ (not_some _ e)
 
-no_share_wanted : (value : Option (List ℕ)) → fits is_share value ≡ false → share_wanted value ≡ None
+no_share_wanted : (value : Option (List ℕ)) → is_taken_if_given is_share value ≡ false → share_wanted value ≡ None
 no_share_wanted None e = absurd cc
 no_share_wanted (Some value) e = not_some _ e
 
@@ -73,9 +73,9 @@ last None more option e = absurd cc
 last (Some a) more option e = e
 
 run_none : (g : Given) (option : List ℕ) → bad_run g ≡ Some option → run_of g ≡ None
-run_none g option e = by (is_bad (record { name = codes "--turns"; takes = is_number 0 100000000 } ∷ record { name = codes "--run"; takes = is_number 1 4294967295 } ∷ []) g.options option (last (only g.positionals) _ option e))
+run_none g option e = by (is_bad (record { name = codes "--turns"; takes = is_number 0 100000000 } ∷ record { name = codes "--run"; takes = is_number 1 4294967295 } ∷ []) g.options option (last (only_positional g.positionals) _ option e))
   where
-    by : (fits (is_number 0 100000000) (value_of (codes "--turns") g.options) ≡ false) ⊎ ((fits (is_number 1 4294967295) (value_of (codes "--run") g.options) ≡ false) ⊎ ⊥) → run_of g ≡ None
+    by : (is_taken_if_given (is_number 0 100000000) (value_of (codes "--turns") g.options) ≡ false) ⊎ ((is_taken_if_given (is_number 1 4294967295) (value_of (codes "--run") g.options) ≡ false) ⊎ ⊥) → run_of g ≡ None
     by (inl turns) = first_none _ _ (no_number_or 1000000 0 100000000 (value_of (codes "--turns") g.options) turns)
     by (inr (inl run)) = then_none _ _ (λ turns. first_none _ _ (no_number_or 1 1 4294967295 (value_of (codes "--run") g.options) run))
     by (inr (inr none)) = absurd none
@@ -84,8 +84,8 @@ bank_none : (g : Given) (option : List ℕ) → bad_bank g ≡ Some option → b
 bank_none g option e =
     by (is_bad (record { name = codes "--rate"; takes = is_number 1 65536 } ∷ record { name = codes "--count"; takes = is_number 1 65536 } ∷ record { name = codes "--seed"; takes = is_number 0 18446744073709551615 } ∷ record { name = codes "--stream"; takes = is_number 0 18446744073709551615 } ∷ []) g.options option (last (value_of (codes "--seed") g.options) _ option (last (value_of (codes "--count") g.options) _ option (last (value_of (codes "--rate") g.options) _ option (last (no_positional g.positionals g) _ option e)))))
   where
-    by : (fits (is_number 1 65536) (value_of (codes "--rate") g.options) ≡ false) ⊎ ((fits (is_number 1 65536) (value_of (codes "--count") g.options) ≡ false)
-        ⊎ ((fits (is_number 0 18446744073709551615) (value_of (codes "--seed") g.options) ≡ false) ⊎ ((fits (is_number 0 18446744073709551615) (value_of (codes "--stream") g.options) ≡ false) ⊎ ⊥))) → bank_of g ≡ None
+    by : (is_taken_if_given (is_number 1 65536) (value_of (codes "--rate") g.options) ≡ false) ⊎ ((is_taken_if_given (is_number 1 65536) (value_of (codes "--count") g.options) ≡ false)
+        ⊎ ((is_taken_if_given (is_number 0 18446744073709551615) (value_of (codes "--seed") g.options) ≡ false) ⊎ ((is_taken_if_given (is_number 0 18446744073709551615) (value_of (codes "--stream") g.options) ≡ false) ⊎ ⊥))) → bank_of g ≡ None
     by (inl rate) = first_none _ _ (no_number 1 65536 (value_of (codes "--rate") g.options) rate)
     by (inr (inl count)) = then_none (number_wanted 1 65536 (value_of (codes "--rate") g.options)) _ (λ rate. first_none _ _ (no_number 1 65536 (value_of (codes "--count") g.options) count))
     by (inr (inr (inl seed))) = then_none (number_wanted 1 65536 (value_of (codes "--rate") g.options)) _ (λ rate. then_none (number_wanted 1 65536 (value_of (codes "--count") g.options)) _ (λ count. first_none _ _ (no_number 0 18446744073709551615 (value_of (codes "--seed") g.options) seed)))
@@ -96,10 +96,10 @@ bank_none g option e =
 
 runs_none : (g : Given) (option : List ℕ) → bad_runs g ≡ Some option → listed_runs_of g ≡ None
 runs_none g option e =
-    by (is_bad (record { name = codes "--rate"; takes = is_number 1 65536 } ∷ record { name = codes "--seed"; takes = is_number 0 18446744073709551615 } ∷ record { name = codes "--first"; takes = is_number 1 4294967295 } ∷ record { name = codes "--turns"; takes = is_number 0 100000000 } ∷ []) g.options option (last (value_of (codes "--seed") g.options) _ option (last (value_of (codes "--rate") g.options) _ option (last (value_of (codes "--inputs") g.options) _ option (last (only g.positionals) _ option e)))))
+    by (is_bad (record { name = codes "--rate"; takes = is_number 1 65536 } ∷ record { name = codes "--seed"; takes = is_number 0 18446744073709551615 } ∷ record { name = codes "--first"; takes = is_number 1 4294967295 } ∷ record { name = codes "--turns"; takes = is_number 0 100000000 } ∷ []) g.options option (last (value_of (codes "--seed") g.options) _ option (last (value_of (codes "--rate") g.options) _ option (last (value_of (codes "--inputs") g.options) _ option (last (only_positional g.positionals) _ option e)))))
   where
-    by : (fits (is_number 1 65536) (value_of (codes "--rate") g.options) ≡ false) ⊎ ((fits (is_number 0 18446744073709551615) (value_of (codes "--seed") g.options) ≡ false)
-        ⊎ ((fits (is_number 1 4294967295) (value_of (codes "--first") g.options) ≡ false) ⊎ ((fits (is_number 0 100000000) (value_of (codes "--turns") g.options) ≡ false) ⊎ ⊥))) → listed_runs_of g ≡ None
+    by : (is_taken_if_given (is_number 1 65536) (value_of (codes "--rate") g.options) ≡ false) ⊎ ((is_taken_if_given (is_number 0 18446744073709551615) (value_of (codes "--seed") g.options) ≡ false)
+        ⊎ ((is_taken_if_given (is_number 1 4294967295) (value_of (codes "--first") g.options) ≡ false) ⊎ ((is_taken_if_given (is_number 0 100000000) (value_of (codes "--turns") g.options) ≡ false) ⊎ ⊥))) → listed_runs_of g ≡ None
     by (inl rate) = then_none (value_of (codes "--inputs") g.options) _ (λ inputs. first_none _ _ (no_number 1 65536 (value_of (codes "--rate") g.options) rate))
     by (inr (inl seed)) = then_none (value_of (codes "--inputs") g.options) _ (λ inputs. then_none (number_wanted 1 65536 (value_of (codes "--rate") g.options)) _ (λ rate. first_none _ _ (no_number 0 18446744073709551615 (value_of (codes "--seed") g.options) seed)))
     by (inr (inr (inl first))) =
@@ -113,17 +113,17 @@ runs_none g option e =
 rank_none : (g : Given) (option : List ℕ) → bad_rank g ≡ Some option → rank_of g ≡ None
 rank_none g option e = by (is_bad (record { name = codes "--policy"; takes = is_policy } ∷ []) g.options option (last (two_words g.positionals) _ option e))
   where
-    by : (fits is_policy (value_of (codes "--policy") g.options) ≡ false) ⊎ ⊥ → rank_of g ≡ None
+    by : (is_taken_if_given is_policy (value_of (codes "--policy") g.options) ≡ false) ⊎ ⊥ → rank_of g ≡ None
     by (inl policy) = first_none _ _ (no_policy All (value_of (codes "--policy") g.options) policy)
     by (inr none) = absurd none
 
 study_none : (g : Given) (option : List ℕ) → bad_study g ≡ Some option → study_of g ≡ None
 study_none g option e =
-    by (is_bad (record { name = codes "--runs"; takes = is_number 1 100000 } ∷ record { name = codes "--seed"; takes = is_number 0 18446744073709551615 } ∷ record { name = codes "--rate"; takes = is_number 1 65536 } ∷ record { name = codes "--turns"; takes = is_number 0 100000000 } ∷ record { name = codes "--policy"; takes = is_policy } ∷ []) g.options option (last (value_of (codes "--turns") g.options) _ option (last (value_of (codes "--rate") g.options) _ option (last (value_of (codes "--seed") g.options) _ option (last (value_of (codes "--runs") g.options) _ option (last (only g.positionals) _ option e))))))
+    by (is_bad (record { name = codes "--runs"; takes = is_number 1 100000 } ∷ record { name = codes "--seed"; takes = is_number 0 18446744073709551615 } ∷ record { name = codes "--rate"; takes = is_number 1 65536 } ∷ record { name = codes "--turns"; takes = is_number 0 100000000 } ∷ record { name = codes "--policy"; takes = is_policy } ∷ []) g.options option (last (value_of (codes "--turns") g.options) _ option (last (value_of (codes "--rate") g.options) _ option (last (value_of (codes "--seed") g.options) _ option (last (value_of (codes "--runs") g.options) _ option (last (only_positional g.positionals) _ option e))))))
   where
-    by : (fits (is_number 1 100000) (value_of (codes "--runs") g.options) ≡ false) ⊎ ((fits (is_number 0 18446744073709551615) (value_of (codes "--seed") g.options) ≡ false)
-        ⊎ ((fits (is_number 1 65536) (value_of (codes "--rate") g.options) ≡ false) ⊎ ((fits (is_number 0 100000000) (value_of (codes "--turns") g.options) ≡ false)
-        ⊎ ((fits is_policy (value_of (codes "--policy") g.options) ≡ false) ⊎ ⊥)))) → study_of g ≡ None
+    by : (is_taken_if_given (is_number 1 100000) (value_of (codes "--runs") g.options) ≡ false) ⊎ ((is_taken_if_given (is_number 0 18446744073709551615) (value_of (codes "--seed") g.options) ≡ false)
+        ⊎ ((is_taken_if_given (is_number 1 65536) (value_of (codes "--rate") g.options) ≡ false) ⊎ ((is_taken_if_given (is_number 0 100000000) (value_of (codes "--turns") g.options) ≡ false)
+        ⊎ ((is_taken_if_given is_policy (value_of (codes "--policy") g.options) ≡ false) ⊎ ⊥)))) → study_of g ≡ None
     by (inl runs) = first_none _ _ (no_number 1 100000 (value_of (codes "--runs") g.options) runs)
     by (inr (inl seed)) = then_none (number_wanted 1 100000 (value_of (codes "--runs") g.options)) _ (λ runs. first_none _ _ (no_number 0 18446744073709551615 (value_of (codes "--seed") g.options) seed))
     by (inr (inr (inl rate))) = then_none (number_wanted 1 100000 (value_of (codes "--runs") g.options)) _ (λ runs. then_none (number_wanted 0 18446744073709551615 (value_of (codes "--seed") g.options)) _ (λ seed. first_none _ _ (no_number 1 65536 (value_of (codes "--rate") g.options) rate)))
@@ -133,25 +133,25 @@ study_none g option e =
     by (inr (inr (inr (inr (inr none))))) = absurd none
 
 transform_none : (g : Given) (option : List ℕ) → bad_transform g ≡ Some option → transform_of g ≡ None
-transform_none g option e = by (is_bad (record { name = codes "--mode"; takes = is_mode } ∷ record { name = codes "--schemes"; takes = is_schemes } ∷ record { name = codes "--part"; takes = is_share } ∷ []) g.options option (last (value_of (codes "--mode") g.options) _ option (last (only g.positionals) _ option e)))
+transform_none g option e = by (is_bad (record { name = codes "--mode"; takes = is_mode } ∷ record { name = codes "--schemes"; takes = is_schemes } ∷ record { name = codes "--part"; takes = is_share } ∷ []) g.options option (last (value_of (codes "--mode") g.options) _ option (last (only_positional g.positionals) _ option e)))
   where
-    by : (fits is_mode (value_of (codes "--mode") g.options) ≡ false) ⊎ ((fits is_schemes (value_of (codes "--schemes") g.options) ≡ false) ⊎ ((fits is_share (value_of (codes "--part") g.options) ≡ false) ⊎ ⊥)) → transform_of g ≡ None
+    by : (is_taken_if_given is_mode (value_of (codes "--mode") g.options) ≡ false) ⊎ ((is_taken_if_given is_schemes (value_of (codes "--schemes") g.options) ≡ false) ⊎ ((is_taken_if_given is_share (value_of (codes "--part") g.options) ≡ false) ⊎ ⊥)) → transform_of g ≡ None
     by (inl mode) = first_none _ _ (no_mode (value_of (codes "--mode") g.options) mode)
     by (inr (inl schemes)) = then_none (mode_wanted (value_of (codes "--mode") g.options)) _ (λ mode. first_none _ _ (no_schemes all_schemes (value_of (codes "--schemes") g.options) schemes))
     by (inr (inr (inl part))) = then_none (mode_wanted (value_of (codes "--mode") g.options)) _ (λ mode. then_none (schemes_or all_schemes (value_of (codes "--schemes") g.options)) _ (λ schemes. first_none _ _ (no_share (value_of (codes "--part") g.options) part)))
     by (inr (inr (inr none))) = absurd none
 
 session_none : (g : Given) (option : List ℕ) → bad_session g ≡ Some option → session_of g ≡ None
-session_none g option e = by (is_bad (record { name = codes "--policy"; takes = is_policy } ∷ []) g.options option (last (value_of (codes "--program") g.options) _ option (last (only g.positionals) _ option e)))
+session_none g option e = by (is_bad (record { name = codes "--policy"; takes = is_policy } ∷ []) g.options option (last (value_of (codes "--program") g.options) _ option (last (only_positional g.positionals) _ option e)))
   where
-    by : (fits is_policy (value_of (codes "--policy") g.options) ≡ false) ⊎ ⊥ → session_of g ≡ None
+    by : (is_taken_if_given is_policy (value_of (codes "--policy") g.options) ≡ false) ⊎ ⊥ → session_of g ≡ None
     by (inl policy) = then_none _ _ (λ program. first_none _ _ (no_policy All (value_of (codes "--policy") g.options) policy))
     by (inr none) = absurd none
 
 widen_none : (g : Given) (option : List ℕ) → bad_widen g ≡ Some option → widen_of g ≡ None
 widen_none g option e = by (is_bad (record { name = codes "--part"; takes = is_share } ∷ []) g.options option (last (value_of (codes "--part") g.options) _ option (last (value_of (codes "--whole") g.options) _ option (last (two_words g.positionals) _ option e))))
   where
-    by : (fits is_share (value_of (codes "--part") g.options) ≡ false) ⊎ ⊥ → widen_of g ≡ None
+    by : (is_taken_if_given is_share (value_of (codes "--part") g.options) ≡ false) ⊎ ⊥ → widen_of g ≡ None
     by (inl part) = then_none _ _ (λ whole. first_none _ _ (no_share_wanted (value_of (codes "--part") g.options) part))
     by (inr none) = absurd none
 

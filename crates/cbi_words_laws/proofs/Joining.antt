@@ -8,7 +8,7 @@ use Rattle.std.proofs.lemmas.Bool.{or_parts}
 use Rattle.cbi_options.proofs.Cutting.{cut-option}
 use Rattle.cbi_options.specs.declared.given.Shape.{Shape}
 use Rattle.cbi_options.specs.declared.given.Shape.TheVariants as shape
-use Rattle.cbi_options.specs.WordRule.{cut, has_value, is_dash, is_equals, is_value, name_in, shape_of, value_in, with_option, with_positional}
+use Rattle.cbi_options.specs.WordRule.{given_by_words, has_value, is_dash, is_equals, is_value, name_in, shape_of, value_in, with_option, with_positional}
 use Rattle.cbi_words_laws.specs.Laws.{IsOptionName, IsOption, JoinedReadsAlike, GoesOn, joined_option}
 use Rattle.cbi_words_laws.proofs.Reading.{at_shape}
 
@@ -64,24 +64,24 @@ value_of_joined name value lacks =
     ap (λ n. drop (n + 1) (joined_option name value)) (place name value lacks) ∙ behind name value
 
 pub cut_joined : (name value : List ℕ) (rest : List (List ℕ)) → IsOptionName name →
-    cut None (joined_option name value ∷ rest) ≡ option_map (with_option name value) (cut None rest)
+    given_by_words None (joined_option name value ∷ rest) ≡ option_map (with_option name value) (given_by_words None rest)
 cut_joined name value rest is =
     cut-option (joined_option name value) rest (longer name (61 ∷ value) is.0) (equals_in name value)
-    ∙ ap (λ n. option_map (with_option n (value_in (joined_option name value))) (cut None rest)) (name_of_joined name value is.1)
-    ∙ ap (λ v. option_map (with_option name v) (cut None rest)) (value_of_joined name value is.1)
+    ∙ ap (λ n. option_map (with_option n (value_in (joined_option name value))) (given_by_words None rest)) (name_of_joined name value is.1)
+    ∙ ap (λ v. option_map (with_option name v) (given_by_words None rest)) (value_of_joined name value is.1)
 
 pub cut_apart : (name value : List ℕ) (rest : List (List ℕ)) → IsOptionName name → is_value value ≡ true →
-    cut None (name ∷ value ∷ rest) ≡ option_map (with_option name value) (cut None rest)
+    given_by_words None (name ∷ value ∷ rest) ≡ option_map (with_option name value) (given_by_words None rest)
 cut_apart name value rest is may =
     ap (λ s. at_shape s (has_value name) name (value ∷ rest)) is.0 ∙ ap (λ b. at_shape shape.Option b name (value ∷ rest)) is.1
-    ∙ ap (λ b. if b then option_map (with_option name value) (cut None rest) else None) may
+    ∙ ap (λ b. if b then option_map (with_option name value) (given_by_words None rest) else None) may
 
-pub cut_waiting : (name word : List ℕ) (rest : List (List ℕ)) → shape_of word ≡ shape.Option → cut (Some name) (word ∷ rest) ≡ None
-cut_waiting name word rest is = ap (λ b. if b then option_map (with_option name word) (cut None rest) else None) (no_value word is)
+pub cut_waiting : (name word : List ℕ) (rest : List (List ℕ)) → shape_of word ≡ shape.Option → given_by_words (Some name) (word ∷ rest) ≡ None
+cut_waiting name word rest is = ap (λ b. if b then option_map (with_option name word) (given_by_words None rest) else None) (no_value word is)
 
 -- words that are read alike, whatever waits before them, are so behind others
 abbrev pub Alike : List (List ℕ) → List (List ℕ) → Type 0
-Alike one two = (waiting : Option (List ℕ)) → cut waiting one ≡ cut waiting two
+Alike one two = (waiting : Option (List ℕ)) → given_by_words waiting one ≡ given_by_words waiting two
 
 alike_at : (s : Shape) (has : Bool) (word : List ℕ) (one two : List (List ℕ)) → (s ≡ shape.End → ⊥) → Alike one two → at_shape s has word one ≡ at_shape s has word two
 alike_at shape.End has word one two ends same = absurd (ends refl)
@@ -91,7 +91,7 @@ alike_at shape.Refused has word one two ends same = refl
 alike_at shape.Positional has word one two ends same = ap (option_map (with_positional word)) (same None)
 
 alike_as : (name word : List ℕ) (b : Bool) (one two : List (List ℕ)) → Alike one two →
-    (if b then option_map (with_option name word) (cut None one) else None) ≡ (if b then option_map (with_option name word) (cut None two) else None)
+    (if b then option_map (with_option name word) (given_by_words None one) else None) ≡ (if b then option_map (with_option name word) (given_by_words None two) else None)
 alike_as name word true one two same = ap (option_map (with_option name word)) (same None)
 alike_as name word false one two same = refl
 
@@ -111,6 +111,6 @@ pub reads_alike : JoinedReadsAlike
 reads_alike name value before after is may goes_on = alike_behind before (joined_option name value ∷ after) (name ∷ value ∷ after) goes_on (alike_joined name value after is may) None
 
 -- an option in or_parts form
-pub cut_given : (name value : List ℕ) (option rest : List (List ℕ)) → IsOption name value option → cut None (option ++ rest) ≡ option_map (with_option name value) (cut None rest)
-cut_given name value option rest (is, inl one) = ap (λ words. cut None (words ++ rest)) one ∙ cut_joined name value rest is
-cut_given name value option rest (is, inr two) = ap (λ words. cut None (words ++ rest)) two.0 ∙ cut_apart name value rest is two.1
+pub cut_given : (name value : List ℕ) (option rest : List (List ℕ)) → IsOption name value option → given_by_words None (option ++ rest) ≡ option_map (with_option name value) (given_by_words None rest)
+cut_given name value option rest (is, inl one) = ap (λ words. given_by_words None (words ++ rest)) one ∙ cut_joined name value rest is
+cut_given name value option rest (is, inr two) = ap (λ words. given_by_words None (words ++ rest)) two.0 ∙ cut_apart name value rest is two.1

@@ -10,9 +10,9 @@ use Rattle.cbi_options.specs.declared.given.Choice.{Choice}
 use Rattle.cbi_options.specs.declared.given.Given.{Given}
 use Rattle.cbi_options.specs.declared.given.Shape.TheVariants as shape
 use Rattle.cbi_options.specs.Options.{are_asked, are_single, has_name, is_one_of, value_of}
-use Rattle.cbi_options.specs.WordRule.{cut, has_value, shape_of, with_option, with_positional}
-use Rattle.cbi_words_laws.specs.Laws.{AreWhole, IsOption, OptionsChangePlaces, OptionsStandAnywhere, SaySame, beside}
-use Rattle.cbi_words_laws.proofs.Reading.{at_shape, in_order}
+use Rattle.cbi_options.specs.WordRule.{given_by_words, with_option, with_positional}
+use Rattle.cbi_words_laws.specs.Laws.{AreWhole, IsOption, OptionsChangePlaces, OptionsStandAnywhere, SaySame, given_together}
+use Rattle.cbi_words_laws.proofs.Reading.{in_order}
 use Rattle.cbi_words_laws.proofs.Joining.{cut_given}
 
 commute : (name value word : List ℕ) (o : Option Given) →
@@ -23,10 +23,10 @@ commute name value word (Some given) = refl
 pub stand_anywhere : OptionsStandAnywhere
 stand_anywhere name value word option before after given is positional whole =
     in_order before (option ++ word ∷ after) given whole
-    ∙ ap (option_map (beside given))
+    ∙ ap (option_map (given_together given))
     (cut_given name value option (word ∷ after) is
     ∙ ap (option_map (with_option name value)) (cut-positional word after positional)
-    ∙ commute name value word (cut None after)
+    ∙ commute name value word (given_by_words None after)
     ∙ ap (option_map (with_positional word)) (sym (cut_given name value option after is))
     ∙ sym (cut-positional word (option ++ after) positional))
     ∙ sym (in_order before (word ∷ (option ++ after)) given whole)
@@ -112,8 +112,8 @@ abbrev checked : List (List ℕ) → Option Given → Option Given
 checked names o = o >>= λ given. if are_asked names given then Some given else None
 
 swapped : (names : List (List ℕ)) (name value other its : List ℕ) (given : Given) (o : Option Given) →
-    SaySame (checked names (option_map (beside given) (option_map (with_option name value) (option_map (with_option other its) o))))
-    (checked names (option_map (beside given) (option_map (with_option other its) (option_map (with_option name value) o))))
+    SaySame (checked names (option_map (given_together given) (option_map (with_option name value) (option_map (with_option other its) o))))
+    (checked names (option_map (given_together given) (option_map (with_option other its) (option_map (with_option name value) o))))
 swapped names name value other its given None = tt
 swapped names name value other its given (Some rest) =
     let c : Choice = record { name = name; value = value } in
@@ -128,13 +128,13 @@ swapped names name value other its given (Some rest) =
     (λ e. (refl, λ n. value_swap n given.options c d rest.options (and_second (list_all (λ option. is_one_of names option.name) g.options) (are_single g.options) e)))
 
 read_two : (name value other its : List ℕ) (one two before after : List (List ℕ)) (given : Given) → IsOption name value one → IsOption other its two → AreWhole before given →
-    cut None (before ++ (one ++ (two ++ after))) ≡ option_map (beside given) (option_map (with_option name value) (option_map (with_option other its) (cut None after)))
+    given_by_words None (before ++ (one ++ (two ++ after))) ≡ option_map (given_together given) (option_map (with_option name value) (option_map (with_option other its) (given_by_words None after)))
 read_two name value other its one two before after given is its_is whole =
     in_order before (one ++ (two ++ after)) given whole
-    ∙ ap (option_map (beside given)) (cut_given name value one (two ++ after) is ∙ ap (option_map (with_option name value)) (cut_given other its two after its_is))
+    ∙ ap (option_map (given_together given)) (cut_given name value one (two ++ after) is ∙ ap (option_map (with_option name value)) (cut_given other its two after its_is))
 
 pub change_places : OptionsChangePlaces
 change_places names name value other its one two before after given is its_is whole =
     let first = read_two name value other its one two before after given is its_is whole in
     let second = read_two other its name value two one before after given its_is is whole in
-    rw (ap (checked names) first, ap (checked names) second) (swapped names name value other its given (cut None after))
+    rw (ap (checked names) first, ap (checked names) second) (swapped names name value other its given (given_by_words None after))

@@ -6,10 +6,10 @@ use Rattle.base_lists.proofs.Tests.{and_second}
 use Rattle.base_lists.proofs.Lists.{get_left}
 use Rattle.base_lists.proofs.Every.{only_in}
 use Rattle.flow.specs.declared.node.View.{View}
-use Rattle.flow.specs.declared.node.View.TheVariants.{Row, Halts, Forks, Turns, Calls, Gives, Quits, Marks, Skips, Tests, Picks, Imports, Exports, Nowhere}
+use Rattle.flow.specs.declared.node.View.TheVariants.{Calls, Gives, Quits}
 use Rattle.flow.specs.Nodes.{led_to}
 use Rattle.regions.specs.Blocks.{After, NodeLeadsTo}
-use Rattle.regions.specs.Headers.{IsHeader, begun_after}
+use Rattle.regions.specs.Headers.{begun_after}
 use Rattle.regions.specs.Headers as region
 use Rattle.regions.proofs.BlockLemmas.{shape}
 use Rattle.weights.specs.Paths.{mark_count}
@@ -19,10 +19,10 @@ use Rattle.clone_paths.specs.declared.label.Side.{Side}
 use Rattle.clone_paths.specs.declared.label.Side.TheVariants.{Fast, Slow}
 use Rattle.clone_paths.specs.declared.parts.Outlet.TheVariants as outlet
 use Rattle.clone_paths.specs.declared.parts.Part.{Part}
-use Rattle.clone_paths.specs.Form.{Labelled, Here, IsOut, IsRight, MayOwe, is_last, is_outlet}
+use Rattle.clone_paths.specs.Form.{StandsForNode, Here, IsOutletInCopy, IsAsLabelled, MayOwe, is_last, is_outlet}
 use Rattle.clone_paths.specs.Layout.{copy_labels, fast_labels, gate_labels, labels_for, out_labels, place_in_copy}
-use Rattle.clone_paths.specs.Made.{Tables, made, made_out}
-use Rattle.clone_paths.specs.Parts.{is_inside, outlet_of, part_of_node, pays}
+use Rattle.clone_paths.specs.Made.{Tables, made_node, made_out}
+use Rattle.clone_paths.specs.Parts.{is_inside, outlet_of, part_of_node, is_debt_paid}
 use Rattle.clone_paths.proofs.RightLemmas.{Agrees, Known, cloning, in_right, owed_by, pays_is, pays_zero}
 use Rattle.clone_paths.proofs.SheetLemmas.{in_joined, in_second, labels_at, owner, placed, start_of}
 
@@ -62,7 +62,7 @@ out_back w side i function next v e o =
     ap (λ (x : View). slice_get (out_labels side i (outlet_of w x)) 1) e ∙ ap (λ (b : Bool). slice_get (out_labels side i (if b then outlet.Calls next else outlet.None)) 1) o
 
 is_out : (t : Tables) (label : ℕ → Option CopyLabel) (place : ℕ) (v : View) → ((function next : ℕ) → v ≡ Calls function next → label (place + 1) ≡ Some (Back next)) →
-    IsOut (cloning t label) v (made_out place v)
+    IsOutletInCopy (cloning t label) v (made_out place v)
 is_out t label place (Calls function next) h = (place + 1, refl, h function next refl)
 is_out t label place v h = refl
 
@@ -71,7 +71,7 @@ abbrev pub Stands : (ℕ → Option CopyLabel) → ℕ → List CopyLabel → Ty
 Stands label base xs = (k : ℕ) (l : CopyLabel) → slice_get xs k ≡ Some l → label (base + k) ≡ Some l
 
 abbrev pub Right : Tables → (ℕ → Option CopyLabel) → ℕ → CopyLabel → Type 0
-Right t label place l = IsRight (cloning t label) l (made t place l)
+Right t label place l = IsAsLabelled (cloning t label) l (made_node t place l)
 
 stands_rest : (label : ℕ → Option CopyLabel) (base : ℕ) (x : CopyLabel) (xs : List CopyLabel) → Stands label base (x ∷ xs) → Stands label (base + 1) xs
 stands_rest label base x xs s = λ k l e. let n : base + 1 + k ≡ base + suc k = omega arith in ap label n ∙ s (suc k) l e
@@ -115,7 +115,7 @@ may_owe_none Fast = tt
 may_owe_none Slow = refl
 
 copy_right : (t : Tables) (n : ℕ) (debt : ℕ → ℕ) (head : ℕ → Bool) (label : ℕ → Option CopyLabel) → Known t n debt head label → (side : Side) (i owed base : ℕ) (p : Bool) → i < n →
-    MayOwe side owed → pays t.starts owed (t.at i) ≡ p → (side ≡ Fast → is_inside t.starts (t.at i) ≡ false) → Flows t debt side i owed → (p ≡ true → Flows t debt side i 0) →
+    MayOwe side owed → is_debt_paid t.starts owed (t.at i) ≡ p → (side ≡ Fast → is_inside t.starts (t.at i) ≡ false) → Flows t debt side i owed → (p ≡ true → Flows t debt side i 0) →
     Stands label base (copy_labels side i owed p (outlet_of t.weighty (t.at i))) → (m : ℕ) (l : CopyLabel) →
     slice_get (copy_labels side i owed p (outlet_of t.weighty (t.at i))) m ≡ Some l → Right t label (base + m) l
 copy_right t n debt head label k side i owed base false lt may paid last flow flow' s zero l e =
@@ -139,7 +139,7 @@ copy_right t n debt head label k side i owed base true lt may paid last flow flo
     let agrees : Agrees t debt label side i owed base = record {
       flow = flow;
       pay = λ h. s 1 (In side i 0) refl;
-      out = λ z o. let none : pays t.starts owed (t.at i) ≡ false = ap (λ (d : ℕ). pays t.starts d (t.at i)) z ∙ pays_zero t.starts (t.at i) in cc;
+      out = λ z o. let none : is_debt_paid t.starts owed (t.at i) ≡ false = ap (λ (d : ℕ). is_debt_paid t.starts d (t.at i)) z ∙ pays_zero t.starts (t.at i) in cc;
       last = last;
     }
     in
@@ -196,7 +196,7 @@ slow_flows t debt i = λ cause m y lead. refl
 
 -- a copy that was paid for owes nothing from there on
 paid_flows : (t : Tables) (n : ℕ) (debt : ℕ → ℕ) (head : ℕ → Bool) (label : ℕ → Option CopyLabel) → Known t n debt head label → (i owed : ℕ) →
-    pays t.starts owed (t.at i) ≡ true → Flows t debt Fast i 0
+    is_debt_paid t.starts owed (t.at i) ≡ true → Flows t debt Fast i 0
 paid_flows t n debt head label k i owed p = λ cause m y lead.
     let is : (nat_lt 0 owed && is_last t.starts (led_to (t.at i))) ≡ true = sym (pays_is t.starts owed (t.at i) m) ∙ p in
     k.none y (last_starts t n debt head label k i y lead (and_second (nat_lt 0 owed) (is_last t.starts (led_to (t.at i))) is))
@@ -223,17 +223,17 @@ gate_right t n debt head label k i place l h = (
   place_in_copy t.sheet Slow i,
   refl,
   k.weights i l,
-  subst (λ (d : ℕ). Labelled (cloning t label) Fast (place_in_copy t.sheet Fast i) i d) (k.none i (k.head_starts i h)) (k.fast i l),
+  subst (λ (d : ℕ). StandsForNode (cloning t label) Fast (place_in_copy t.sheet Fast i) i d) (k.none i (k.head_starts i h)) (k.fast i l),
   Here (k.slow i l),
 )
 
 fast_right : (t : Tables) (n : ℕ) (debt : ℕ → ℕ) (head : ℕ → Bool) (label : ℕ → Option CopyLabel) → Known t n debt head label → (i base : ℕ) (inside : Bool) → i < n →
     is_inside t.starts (t.at i) ≡ inside →
-    Stands label base (if inside then [] else copy_labels Fast i (debt i) (pays t.starts (debt i) (t.at i)) (outlet_of t.weighty (t.at i))) → (m : ℕ) (l : CopyLabel) →
-    slice_get (if inside then [] else copy_labels Fast i (debt i) (pays t.starts (debt i) (t.at i)) (outlet_of t.weighty (t.at i))) m ≡ Some l → Right t label (base + m) l
+    Stands label base (if inside then [] else copy_labels Fast i (debt i) (is_debt_paid t.starts (debt i) (t.at i)) (outlet_of t.weighty (t.at i))) → (m : ℕ) (l : CopyLabel) →
+    slice_get (if inside then [] else copy_labels Fast i (debt i) (is_debt_paid t.starts (debt i) (t.at i)) (outlet_of t.weighty (t.at i))) m ≡ Some l → Right t label (base + m) l
 fast_right t n debt head label k i base true lt o s m l e = cc
 fast_right t n debt head label k i base false lt o s m l e =
-    copy_right t n debt head label k Fast i (debt i) base (pays t.starts (debt i) (t.at i)) lt tt refl (λ f. o) (fast_flows t n debt head label k i)
+    copy_right t n debt head label k Fast i (debt i) base (is_debt_paid t.starts (debt i) (t.at i)) lt tt refl (λ f. o) (fast_flows t n debt head label k i)
     (λ p. paid_flows t n debt head label k i (debt i) p) s m l e
 
 -- all labels for a node are right

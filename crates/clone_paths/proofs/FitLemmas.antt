@@ -19,8 +19,8 @@ use Rattle.clone_paths.specs.declared.label.Side.{Side}
 use Rattle.clone_paths.specs.declared.label.Side.TheVariants.{Fast, Slow}
 use Rattle.clone_paths.specs.Form.{is_last, is_outlet}
 use Rattle.clone_paths.specs.Layout.{place_in_copy}
-use Rattle.clone_paths.specs.Made.{Tables, made, made_free, made_in, made_out, made_same, made_visit}
-use Rattle.clone_paths.specs.Parts.{pays}
+use Rattle.clone_paths.specs.Made.{Tables, made_node, made_free, made_in, made_out, made_same, made_visit}
+use Rattle.clone_paths.specs.Parts.{is_debt_paid}
 
 -- what a node names exists, by its view
 abbrev pub view_names : Names → Bounds → View → Bool
@@ -67,7 +67,7 @@ paid_names names bounds t side owed place v false h some few = free_names names 
 some_owed : (owed : ℕ) (b : Bool) → (nat_lt 0 owed && b) ≡ true → 1 ≤ owed
 some_owed owed b e = grind (arith, nat_tests)
 
-pays_some : (starts : ℕ → Bool) (owed : ℕ) (v : View) → pays starts owed v ≡ true → 1 ≤ owed
+pays_some : (starts : ℕ → Bool) (owed : ℕ) (v : View) → is_debt_paid starts owed v ≡ true → 1 ≤ owed
 pays_some starts owed (Marks site next) e = cc
 pays_some starts owed (Row op next) e = some_owed owed (starts next) e
 pays_some starts owed (Forks a b) e = some_owed owed (starts a || is_last starts (b ∷ [])) e
@@ -88,7 +88,7 @@ visit_names names bounds t Fast owed site next h few = by_ok (owed + 1) (omega a
 in_names : (names : Names) (bounds : Bounds) (t : Tables) (side : Side) (owed place : ℕ) (v : View) → view_names names bounds v ≡ true → owed < node_limit →
     view_names names bounds (made_in t side owed place v) ≡ true
 in_names names bounds t side owed place (Marks site next) h few = visit_names names bounds t side owed site next h few
-in_names names bounds t side owed place v h few = paid_names names bounds t side owed place v (pays t.starts owed v) h (pays_some t.starts owed v) few
+in_names names bounds t side owed place v h few = paid_names names bounds t side owed place v (is_debt_paid t.starts owed v) h (pays_some t.starts owed v) few
 
 out_names : (names : Names) (bounds : Bounds) (place : ℕ) (v : View) → view_names names bounds v ≡ true → view_names names bounds (made_out place v) ≡ true
 out_names names bounds place (Calls function next) h = h
@@ -96,7 +96,7 @@ out_names names bounds place other h = h
 
 -- the node with a label names what exists
 pub made_names : (names : Names) (bounds : Bounds) (t : Tables) (place : ℕ) (l : CopyLabel) → ((i : ℕ) → view_names names bounds (t.at i) ≡ true) → ((i : ℕ) → t.weight i ≤ node_limit) →
-    ((side : Side) (i owed : ℕ) → l ≡ In side i owed → owed < node_limit) → view_names names bounds (made t place l) ≡ true
+    ((side : Side) (i owed : ℕ) → l ≡ In side i owed → owed < node_limit) → view_names names bounds (made_node t place l) ≡ true
 made_names names bounds t place Enter orig weights few = refl
 made_names names bounds t place (Gate i) orig weights few = most_ok (t.weight i) (weights i)
 made_names names bounds t place (Back i) orig weights few = refl
@@ -142,17 +142,17 @@ same_onward t side v x p m c = absurd p
 
 -- control goes on at the next place, where what is owed is paid or before an outlet
 abbrev pub NextCause : Tables → ℕ → View → Type 0
-NextCause t owed v = (pays t.starts owed v ≡ true) ⊎ ((pays t.starts owed v ≡ false) × (is_outlet t.weighty v ≡ true))
+NextCause t owed v = (is_debt_paid t.starts owed v ≡ true) ⊎ ((is_debt_paid t.starts owed v ≡ false) × (is_outlet t.weighty v ≡ true))
 
 abbrev pub GoesOn : Tables → ℕ → ℕ → View → View → ℕ → Type 0
 GoesOn t owed place v q x = ((x ≡ place + 1) × NextCause t owed v) ⊎ Onward t v q x
 
-free_on : (t : Tables) (side : Side) (owed place : ℕ) (v : View) (x : ℕ) (b : Bool) → IsPlain v → mark_count v ≡ 0 → pays t.starts owed v ≡ false → is_outlet t.weighty v ≡ b →
+free_on : (t : Tables) (side : Side) (owed place : ℕ) (v : View) (x : ℕ) (b : Bool) → IsPlain v → mark_count v ≡ 0 → is_debt_paid t.starts owed v ≡ false → is_outlet t.weighty v ≡ b →
     Contains (led_to (if b then Exports (place + 1) else made_same t side v)) x → GoesOn t owed place v (if b then Exports (place + 1) else made_same t side v) x
 free_on t side owed place v x true p m unpaid o c = inl (only_in (place + 1) x c, inr (unpaid, o))
 free_on t side owed place v x false p m unpaid o c = inr (same_onward t side v x p m c)
 
-paid_on : (t : Tables) (side : Side) (owed place : ℕ) (v : View) (x : ℕ) (b : Bool) → IsPlain v → mark_count v ≡ 0 → pays t.starts owed v ≡ b →
+paid_on : (t : Tables) (side : Side) (owed place : ℕ) (v : View) (x : ℕ) (b : Bool) → IsPlain v → mark_count v ≡ 0 → is_debt_paid t.starts owed v ≡ b →
     Contains (led_to (if b then Skips owed (place + 1) else made_free t side place v)) x → GoesOn t owed place v (if b then Skips owed (place + 1) else made_free t side place v) x
 paid_on t side owed place v x true p m e c = inl (only_in (place + 1) x c, inl e)
 paid_on t side owed place v x false p m e c = free_on t side owed place v x (is_outlet t.weighty v) p m e refl c
@@ -171,7 +171,7 @@ in_on t side owed place (Tests site next) x p c = absurd p
 in_on t side owed place (Picks w f s) x p c = absurd p
 in_on t side owed place (Imports next) x p c = absurd p
 in_on t side owed place (Exports next) x p c = absurd p
-in_on t side owed place v x p c = paid_on t side owed place v x (pays t.starts owed v) p refl refl c
+in_on t side owed place v x p c = paid_on t side owed place v x (is_debt_paid t.starts owed v) p refl refl c
 
 -- an outlet goes on at the next place, where it is a call
 pub out_on : (w : ℕ → Bool) (place : ℕ) (v : View) (x : ℕ) → is_outlet w v ≡ true → Contains (led_to (made_out place v)) x →

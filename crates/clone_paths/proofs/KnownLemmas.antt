@@ -7,7 +7,7 @@ use Rattle.base_lists.proofs.Lists.{get_left}
 use Rattle.flow.specs.declared.node.Node.{Node}
 use Rattle.flow.specs.declared.node.Node.TheVariants.{Push}
 use Rattle.flow.specs.declared.node.View.{View}
-use Rattle.flow.specs.declared.node.View.TheVariants.{Row, Halts, Forks, Turns, Calls, Gives, Quits, Marks, Skips, Tests, Picks, Imports, Exports, Nowhere}
+use Rattle.flow.specs.declared.node.View.TheVariants.{Turns, Calls, Marks, Nowhere}
 use Rattle.flow.specs.Words.{view_at, led_to, view, ArePlain, IsPlain}
 use Rattle.regions.specs.Blocks.{IsStart, NodeLeadsTo, ends_block}
 use Rattle.regions.specs.Blocks as block
@@ -26,10 +26,10 @@ use Rattle.clone_paths.specs.declared.label.Side.TheVariants.{Fast, Slow}
 use Rattle.clone_paths.specs.declared.parts.Outlet.{Outlet}
 use Rattle.clone_paths.specs.declared.parts.Part.{Part}
 use Rattle.clone_paths.specs.Cloned.{NodesCloned}
-use Rattle.clone_paths.specs.Form.{Labelled, Here, IsRight, Owed}
+use Rattle.clone_paths.specs.Form.{StandsForNode, Here, IsAsLabelled, Owed}
 use Rattle.clone_paths.specs.Layout.{Sheet, copy_labels, fast_labels, gate_labels}
-use Rattle.clone_paths.specs.Made.{IsMade, Resolved, made, Tables, parts_from, sheet_at, tables_of}
-use Rattle.clone_paths.specs.Parts.{AreDebts, HasOrder, is_inside, pays}
+use Rattle.clone_paths.specs.Made.{IsMade, Resolved, made_node, Tables, parts_from, sheet_at, tables_of}
+use Rattle.clone_paths.specs.Parts.{AreDebts, HasOrder, is_inside, is_debt_paid}
 use Rattle.clone_paths.proofs.ChunkLemmas.{each_right}
 use Rattle.clone_paths.proofs.RightLemmas.{Known, cloning, pays_zero}
 use Rattle.clone_paths.proofs.SheetLemmas.{fast_are, fast_at, gates_are, in_second, kept, labels_at, labels_most, placed, slow_are, slow_at, start_of}
@@ -127,7 +127,7 @@ inside_cases starts v = inl refl
 -- the fast copy of a node stands where the table says; a visit within a block has what stands for the node after it
 fast_labelled : (weighty : List Bool) (nodes : List Node) (starts : List Bool) (weights debts : List ℕ) (headers : List Bool) (fast : List ℕ) →
     Laid weighty nodes starts weights debts headers fast → (fuel i : ℕ) → length nodes ≤ i + fuel → i < length nodes →
-    Labelled (cloning (tables_with weighty nodes starts weights debts headers fast) (slice_get (all_labels weighty nodes starts debts headers))) Fast (slice_index fast i) i (slice_index debts i)
+    StandsForNode (cloning (tables_with weighty nodes starts weights debts headers fast) (slice_get (all_labels weighty nodes starts debts headers))) Fast (slice_index fast i) i (slice_index debts i)
 fast_labelled weighty nodes starts weights debts headers fast laid zero i enough l = absurd (omega arith)
 fast_labelled weighty nodes starts weights debts headers fast laid (suc fuel) i enough l =
     let head = is_in headers in
@@ -136,15 +136,15 @@ fast_labelled weighty nodes starts weights debts headers fast laid (suc fuel) i 
     elim (inside_cases (is_in starts) (views_of nodes i)) [
       | inl o ↦
           let at : slice_index fast i ≡ fast_at head part i = laid.resolved.other i o ∙ (fast_are head part (length nodes)).1 i l in
-          subst (λ (k : ℕ). Labelled c Fast k i (slice_index debts i)) (sym at) (Here (fast_there head part (length nodes) i l o))
+          subst (λ (k : ℕ). StandsForNode c Fast k i (slice_index debts i)) (sym at) (Here (fast_there head part (length nodes) i l o))
       | inr (site, next, e, o) ↦
           let lead : NodeLeadsTo (views_of nodes) i next = subst (λ (v : View). Contains (led_to v) next) (sym e) (0, omega arith, refl) in
           let after : i < next = elim (laid.order.later i next lead) [ inl x ↦ x | inr x ↦ (let clash = sym e ∙ x.1 in cc) ] in
           let rest = fast_labelled weighty nodes starts weights debts headers fast laid fuel next (omega arith) (laid.order.within i next lead) in
           let more : slice_index debts next ≡ suc (slice_index debts i) = omega (arith, laid.debts_are.more i next lead o, ap mark_count e) in
           let at : slice_index fast i ≡ slice_index fast next = laid.resolved.inside i site next l e o in
-          subst (λ (k : ℕ). Labelled c Fast k i (slice_index debts i)) (sym at)
-          (Owed site next refl e o (subst (λ (d : ℕ). Labelled c Fast (slice_index fast next) next d) more rest))
+          subst (λ (k : ℕ). StandsForNode c Fast k i (slice_index debts i)) (sym at)
+          (Owed site next refl e o (subst (λ (d : ℕ). StandsForNode c Fast (slice_index fast next) next d) more rest))
     ]
 
 pub known_all : (weighty : List Bool) (nodes : List Node) (starts : List Bool) (weights debts : List ℕ) (headers : List Bool) (fast : List ℕ) →
@@ -180,12 +180,12 @@ pub labels_small : (weighty : List Bool) (nodes : List Node) (starts : List Bool
 labels_small weighty nodes starts debts headers entry debts_are =
     let part = parts_from weighty nodes starts debts in
     let owes : slice_index debts 0 ≡ 0 = omega (arith, debts_are.small 0) in
-    let unpaid : (part 0).pays ≡ false = ap (λ (d : ℕ). pays (is_in starts) d (views_of nodes 0)) owes ∙ pays_zero (is_in starts) (views_of nodes 0) in
+    let unpaid : (part 0).pays ≡ false = ap (λ (d : ℕ). is_debt_paid (is_in starts) d (views_of nodes 0)) owes ∙ pays_zero (is_in starts) (views_of nodes 0) in
     by_length (is_in headers) part (length nodes) unpaid entry
 
 -- the node with a label is there
 made_view : (t : Tables) (labels : List CopyLabel) (nodes : List Node) (place : ℕ) (l : CopyLabel) (d : Node) → EachFits (IsMade t) labels nodes → slice_get labels place ≡ Some l →
-    views_of nodes place ≡ made t place l
+    views_of nodes place ≡ made_node t place l
 made_view t labels nodes place l d fits e =
     let inside : place < length nodes = omega (arith, fits.few, slice_get_within labels place l e) in
     let there = slice_get-get_or nodes place d inside in
@@ -206,7 +206,7 @@ cloned_all weighty nodes starts weights debts headers fast cloned laid fits =
       few = sym fits.few;
       entry = kept head part (length nodes) 0 0 Enter (omega arith) refl;
       each = λ place l e.
-          subst (λ (q : View). IsRight (cloning t (slice_get labels)) l q) (sym (made_view t labels cloned place l no_node fits e))
+          subst (λ (q : View). IsAsLabelled (cloning t (slice_get labels)) l q) (sym (made_view t labels cloned place l no_node fits e))
           (each_right t (length nodes) (λ i. slice_index debts i) head (known_all weighty nodes starts weights debts headers fast laid) place l e);
     }
 

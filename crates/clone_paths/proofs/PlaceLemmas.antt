@@ -23,8 +23,8 @@ use Rattle.clone_paths.specs.declared.parts.Outlet.{Outlet}
 use Rattle.clone_paths.specs.declared.parts.Part.{Part}
 use Rattle.clone_paths.specs.Cloned.{FitsLike, cloned_limit}
 use Rattle.clone_paths.specs.Layout.{copy_labels, fast_labels, gate_labels, out_labels, place_in_copy}
-use Rattle.clone_paths.specs.Made.{IsMade, IsOf, Tables, made, made_in, parts_from}
-use Rattle.clone_paths.specs.Parts.{HasOrder, is_inside, outlet_of, pays}
+use Rattle.clone_paths.specs.Made.{IsMade, IsLabelOfNode, Tables, made_node, made_in, parts_from}
+use Rattle.clone_paths.specs.Parts.{HasOrder, is_inside, outlet_of, is_debt_paid}
 use Rattle.clone_paths.proofs.ChunkLemmas.{gate_cases, out_back, out_cases, out_first}
 use Rattle.clone_paths.proofs.FitLemmas.{Goes, Onward, Stands, goes_rightly, in_on, made_names, names_bounds, names_view, out_on, view_names}
 use Rattle.clone_paths.proofs.KnownLemmas.{Laid, all_labels, inside_cases, plain_at, tables_with}
@@ -54,17 +54,17 @@ goes_onward t nodes n total start ps e order i place v q x is l o =
 -- the labels of an outlet
 outs_go : (t : Tables) (nodes : List Node) (n total : ℕ) (start : ℕ → ℕ) → Places t n total start → n ≡ length nodes → HasOrder nodes → (side : Side) (i base : ℕ) → i < n →
     t.at i ≡ views_of nodes i → base + length (out_labels side i (outlet_of t.weighty (t.at i))) ≤ start (suc i) → (m : ℕ) (l : CopyLabel) →
-    slice_get (out_labels side i (outlet_of t.weighty (t.at i))) m ≡ Some l → Goes (base + m) total (made t (base + m) l)
+    slice_get (out_labels side i (outlet_of t.weighty (t.at i))) m ≡ Some l → Goes (base + m) total (made_node t (base + m) l)
 outs_go t nodes n total start ps e order side i base lt at end m l f =
     let r = out_cases t.weighty side i (t.at i) m l f in
     let inside = slice_get_within (out_labels side i (outlet_of t.weighty (t.at i))) m l f in
     let last = ps.mono (suc i) n (omega arith) in
     elim r.1 [
-      | inl z ↦ subst (λ (y : CopyLabel). Goes (base + m) total (made t (base + m) y)) (sym z.1) (λ x c.
+      | inl z ↦ subst (λ (y : CopyLabel). Goes (base + m) total (made_node t (base + m) y)) (sym z.1) (λ x c.
           let o = out_on t.weighty (base + m) (t.at i) x r.0 c in
           let two = slice_get_within (out_labels side i (outlet_of t.weighty (t.at i))) 1 (Back (o.1).1) (out_back t.weighty side i (o.1).0 (o.1).1 (t.at i) (o.1).2 (o.1).3) in
           (omega (arith, o.0, z.0, two, end, last, ps.whole), inr (omega (arith, o.0))))
-      | inr z ↦ subst (λ (y : CopyLabel). Goes (base + m) total (made t (base + m) y)) (sym z.5) (λ x c.
+      | inr z ↦ subst (λ (y : CopyLabel). Goes (base + m) total (made_node t (base + m) y)) (sym z.5) (λ x c.
           let lead : Contains (led_to (t.at i)) z.1 = subst (λ (w : View). Contains (led_to w) z.1) (sym z.2) (0, omega arith, refl) in
           let only : x ≡ slice_index t.sheet.gates z.1 = only_in (slice_index t.sheet.gates z.1) x c in
           let o : Onward t (t.at i) (Imports (slice_index t.sheet.gates z.1)) x =
@@ -75,14 +75,14 @@ outs_go t nodes n total start ps e order side i base lt at end m l f =
 
 -- the labels of a copy
 copy_go : (t : Tables) (nodes : List Node) (n total : ℕ) (start : ℕ → ℕ) → Places t n total start → n ≡ length nodes → HasOrder nodes → (side : Side) (i owed base : ℕ) (p : Bool) → i < n →
-    t.at i ≡ views_of nodes i → IsPlain (t.at i) → pays t.starts owed (t.at i) ≡ p → base + length (copy_labels side i owed p (outlet_of t.weighty (t.at i))) ≤ start (suc i) →
-    (m : ℕ) (l : CopyLabel) → slice_get (copy_labels side i owed p (outlet_of t.weighty (t.at i))) m ≡ Some l → Goes (base + m) total (made t (base + m) l)
+    t.at i ≡ views_of nodes i → IsPlain (t.at i) → is_debt_paid t.starts owed (t.at i) ≡ p → base + length (copy_labels side i owed p (outlet_of t.weighty (t.at i))) ≤ start (suc i) →
+    (m : ℕ) (l : CopyLabel) → slice_get (copy_labels side i owed p (outlet_of t.weighty (t.at i))) m ≡ Some l → Goes (base + m) total (made_node t (base + m) l)
 copy_go t nodes n total start ps e order side i owed base false lt at plain paid end zero l f =
     let outs = out_labels side i (outlet_of t.weighty (t.at i)) in
     let size : length (In side i owed ∷ outs) ≡ suc (length outs) = refl in
     let last = ps.mono (suc i) n (omega arith) in
     let same : In side i owed ≡ l = cc in
-    subst (λ (y : CopyLabel). Goes (base + 0) total (made t (base + 0) y)) same (λ x c.
+    subst (λ (y : CopyLabel). Goes (base + 0) total (made_node t (base + 0) y)) same (λ x c.
     elim (in_on t side owed (base + 0) (t.at i) x plain c) [
       | inl (next, inl pay) ↦ cc
       | inl (next, inr (none, o)) ↦
@@ -94,13 +94,13 @@ copy_go t nodes n total start ps e order side i owed base false lt at plain paid
     let outs = out_labels side i (outlet_of t.weighty (t.at i)) in
     let size : length (In side i owed ∷ outs) ≡ suc (length outs) = refl in
     let moved : base + suc m ≡ base + 1 + m = omega arith in
-    subst (λ (q : ℕ). Goes q total (made t q l)) (sym moved) (outs_go t nodes n total start ps e order side i (base + 1) lt at (omega (arith, size, end)) m l f)
+    subst (λ (q : ℕ). Goes q total (made_node t q l)) (sym moved) (outs_go t nodes n total start ps e order side i (base + 1) lt at (omega (arith, size, end)) m l f)
 copy_go t nodes n total start ps e order side i owed base true lt at plain paid end zero l f =
     let outs = out_labels side i (outlet_of t.weighty (t.at i)) in
     let size : length (In side i owed ∷ In side i 0 ∷ outs) ≡ suc (suc (length outs)) = refl in
     let last = ps.mono (suc i) n (omega arith) in
     let same : In side i owed ≡ l = cc in
-    subst (λ (y : CopyLabel). Goes (base + 0) total (made t (base + 0) y)) same (λ x c.
+    subst (λ (y : CopyLabel). Goes (base + 0) total (made_node t (base + 0) y)) same (λ x c.
     elim (in_on t side owed (base + 0) (t.at i) x plain c) [
       | inl (next, cause) ↦ (omega (arith, next, size, end, last, ps.whole), inr (omega (arith, next)))
       | inr o ↦ goes_onward t nodes n total start ps e order i (base + 0) (t.at i) (made_in t side owed (base + 0) (t.at i)) x (sym at) (omega (arith, size, end)) o
@@ -111,7 +111,7 @@ copy_go t nodes n total start ps e order side i owed base true lt at plain paid 
     let last = ps.mono (suc i) n (omega arith) in
     let none = pays_zero t.starts (t.at i) in
     let same : In side i 0 ≡ l = cc in
-    subst (λ (y : CopyLabel). Goes (base + 1) total (made t (base + 1) y)) same (λ x c.
+    subst (λ (y : CopyLabel). Goes (base + 1) total (made_node t (base + 1) y)) same (λ x c.
     elim (in_on t side 0 (base + 1) (t.at i) x plain c) [
       | inl (next, inl pay) ↦ cc
       | inl (next, inr (unpaid, o)) ↦
@@ -123,7 +123,7 @@ copy_go t nodes n total start ps e order side i owed base true lt at plain paid 
     let outs = out_labels side i (outlet_of t.weighty (t.at i)) in
     let size : length (In side i owed ∷ In side i 0 ∷ outs) ≡ suc (suc (length outs)) = refl in
     let moved : base + suc (suc m) ≡ base + 2 + m = omega arith in
-    subst (λ (q : ℕ). Goes q total (made t q l)) (sym moved) (outs_go t nodes n total start ps e order side i (base + 2) lt at (omega (arith, size, end)) m l f)
+    subst (λ (q : ℕ). Goes q total (made_node t q l)) (sym moved) (outs_go t nodes n total start ps e order side i (base + 2) lt at (omega (arith, size, end)) m l f)
 
 start_more : (head : ℕ → Bool) (part : ℕ → Part) (i : ℕ) → start_of head part (suc i) ≡ start_of head part i + length (chunk head part i)
 start_more head part i = length-append (labels_at head part i) (chunk head part i)
@@ -209,17 +209,17 @@ places_all weighty nodes starts weights debts headers fast laid =
 
 fast_go : (t : Tables) (nodes : List Node) (n total : ℕ) (start : ℕ → ℕ) → Places t n total start → n ≡ length nodes → HasOrder nodes → (debt : ℕ → ℕ) (i base : ℕ) (inside : Bool) → i < n →
     t.at i ≡ views_of nodes i → IsPlain (t.at i) →
-    base + length (if inside then [] else copy_labels Fast i (debt i) (pays t.starts (debt i) (t.at i)) (outlet_of t.weighty (t.at i))) ≤ start (suc i) →
-    (m : ℕ) (l : CopyLabel) → slice_get (if inside then [] else copy_labels Fast i (debt i) (pays t.starts (debt i) (t.at i)) (outlet_of t.weighty (t.at i))) m ≡ Some l →
-    Goes (base + m) total (made t (base + m) l)
+    base + length (if inside then [] else copy_labels Fast i (debt i) (is_debt_paid t.starts (debt i) (t.at i)) (outlet_of t.weighty (t.at i))) ≤ start (suc i) →
+    (m : ℕ) (l : CopyLabel) → slice_get (if inside then [] else copy_labels Fast i (debt i) (is_debt_paid t.starts (debt i) (t.at i)) (outlet_of t.weighty (t.at i))) m ≡ Some l →
+    Goes (base + m) total (made_node t (base + m) l)
 fast_go t nodes n total start ps e order debt i base true lt at plain end m l f = cc
 fast_go t nodes n total start ps e order debt i base false lt at plain end m l f =
-    copy_go t nodes n total start ps e order Fast i (debt i) base (pays t.starts (debt i) (t.at i)) lt at plain refl end m l f
+    copy_go t nodes n total start ps e order Fast i (debt i) base (is_debt_paid t.starts (debt i) (t.at i)) lt at plain refl end m l f
 
 -- each node leads to nodes, to later ones but by a turn
 each_goes : (weighty : List Bool) (nodes : List Node) (starts : List Bool) (weights debts : List ℕ) (headers : List Bool) (fast : List ℕ) →
     Laid weighty nodes starts weights debts headers fast → (place : ℕ) (l : CopyLabel) → slice_get (all_labels weighty nodes starts debts headers) place ≡ Some l →
-    Goes place (length (all_labels weighty nodes starts debts headers)) (made (tables_with weighty nodes starts weights debts headers fast) place l)
+    Goes place (length (all_labels weighty nodes starts debts headers)) (made_node (tables_with weighty nodes starts weights debts headers fast) place l)
 each_goes weighty nodes starts weights debts headers fast laid place l e =
     let t = tables_with weighty nodes starts weights debts headers fast in
     let head = is_in headers in
@@ -230,7 +230,7 @@ each_goes weighty nodes starts weights debts headers fast laid place l e =
     let ps = places_all weighty nodes starts weights debts headers fast laid in
     let debt : ℕ → ℕ = λ i. slice_index debts i in
     elim (owner head part n place l e) [
-      | inl z ↦ subst (λ (y : CopyLabel). Goes place total (made t place y)) (sym z.1) (λ x c.
+      | inl z ↦ subst (λ (y : CopyLabel). Goes place total (made_node t place y)) (sym z.1) (λ x c.
           let r = ps.from 0 x laid.entry (inr (inr (only_in (slice_index t.sheet.gates 0) x c))) in
           let first : start_of head part 0 ≡ 1 = refl in
           (r.1, inr (omega (arith, r.0, first, z.0))))
@@ -245,7 +245,7 @@ each_goes weighty nodes starts weights debts headers fast laid place l e =
               | inl h ↦
                   let r = gate_cases (head i) i k l h in
                   let near = slice_get_within gate k l h in
-                  subst (λ (y : CopyLabel). Goes place total (made t place y)) (sym r.1) (λ x c.
+                  subst (λ (y : CopyLabel). Goes place total (made_node t place y)) (sym r.1) (λ x c.
                   elim (two_in (place_in_copy t.sheet Fast i) (place_in_copy t.sheet Slow i) x c) [
                     | inl a ↦
                         let b = fast_after weighty nodes starts weights debts headers fast laid n i (omega arith) lt in
@@ -257,12 +257,12 @@ each_goes weighty nodes starts weights debts headers fast laid place l e =
                   ])
               | inr s ↦
                   let moved : place ≡ start i + length gate + s.0 = omega (arith, at, s.1) in
-                  subst (λ (q : ℕ). Goes q total (made t q l)) (sym moved)
+                  subst (λ (q : ℕ). Goes q total (made_node t q l)) (sym moved)
                   (copy_go t nodes n total start ps refl laid.order Slow i 0 (start i + length gate) false lt refl plain (pays_zero t.starts (t.at i)) (omega (arith, sizes)) s.0 l s.2)
             ]
             | inr s ↦
                 let moved : place ≡ start i + length (gate ++ slow) + s.0 = omega (arith, at, s.1) in
-                subst (λ (q : ℕ). Goes q total (made t q l)) (sym moved)
+                subst (λ (q : ℕ). Goes q total (made_node t q l)) (sym moved)
                 (fast_go t nodes n total start ps refl laid.order debt i (start i + length (gate ++ slow)) (is_inside t.starts (t.at i)) lt refl plain (omega (arith, sizes, joined)) s.0 l s.2)
           ]
     ]
@@ -306,10 +306,10 @@ fits_all weighty nodes starts weights debts headers fast cloned laid few fits =
             let of = each_of (is_in headers) (parts_from weighty nodes starts debts) n place (get_or labels place Enter) small there in
             let orig : (i : ℕ) → view_names names bounds (t.at i) ≡ true = λ i. old_names names bounds nodes i (slice_get nodes i) fit refl in
             let named = names_bounds names bounds (length cloned) node ∙ names_view names bounds node ∙ ap (view_names names bounds) is ∙
-            made_names names bounds t place (get_or labels place Enter) orig light (λ side i owed same. (subst (λ (y : CopyLabel). IsOf n y) same of).1) in
+            made_names names bounds t place (get_or labels place Enter) orig light (λ side i owed same. (subst (λ (y : CopyLabel). IsLabelOfNode n y) same of).1) in
             let goes = each_goes weighty nodes starts weights debts headers fast laid place (get_or labels place Enter) there in
-            let goes' = subst (λ (m : ℕ). Goes place m (made t place (get_or labels place Enter))) (sym fits.few) goes in
-            let led = ap (leads_rightly (record bounds { nodes = length cloned }) place) is ∙ goes_rightly (record bounds { nodes = length cloned }) place (made t place (get_or labels place Enter)) goes' in
+            let goes' = subst (λ (m : ℕ). Goes place m (made_node t place (get_or labels place Enter))) (sym fits.few) goes in
+            let led = ap (leads_rightly (record bounds { nodes = length cloned }) place) is ∙ goes_rightly (record bounds { nodes = length cloned }) place (made_node t place (get_or labels place Enter)) goes' in
             node_ok names (record bounds { nodes = length cloned }) place node named led;
       };
     }

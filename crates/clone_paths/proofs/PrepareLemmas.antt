@@ -8,7 +8,7 @@ use Rattle.std.proofs.lemmas.Option.{get_or_from_slice_get, slice_get_within}
 use Rattle.flow.specs.declared.program.Function.{Function}
 use Rattle.flow.specs.declared.program.ProgramParts.{ProgramParts}
 use Rattle.flow.specs.declared.node.View.{View}
-use Rattle.flow.specs.declared.node.View.TheVariants.{Row, Halts, Forks, Turns, Calls, Gives, Quits, Marks, Skips, Tests, Picks, Imports, Exports, Nowhere}
+use Rattle.flow.specs.declared.node.View.TheVariants.{Turns}
 use Rattle.flow.specs.Words.{code_of, view_in, LeadsOn, led_to, IsProgram, ArePlain}
 use Rattle.flow.proofs.Programs.{code_fits}
 use Rattle.regions.specs.Flags.{AreFlags, is_in}

@@ -6,7 +6,7 @@ use Rattle.std.proofs.lemmas.Grind.{get_or-set_at}
 use Rattle.clone_paths.proofs.DebtLemmas.{by_start}
 use Rattle.flow.specs.declared.node.Node.{Node}
 use Rattle.flow.specs.declared.node.View.{View}
-use Rattle.flow.specs.declared.node.View.TheVariants.{Row, Halts, Forks, Turns, Calls, Gives, Quits, Marks, Skips, Tests, Picks, Imports, Exports, Nowhere}
+use Rattle.flow.specs.declared.node.View.TheVariants.{Calls, Marks}
 use Rattle.flow.specs.Words.{node_limit, led_to}
 use Rattle.regions.specs.Blocks.{NodeLeadsTo}
 use Rattle.regions.specs.Flags.{is_in}
@@ -19,7 +19,7 @@ use Rattle.clone_paths.specs.declared.parts.Outlet.{Outlet}
 use Rattle.clone_paths.specs.declared.parts.Outlet.TheVariants as outlet
 use Rattle.clone_paths.specs.declared.parts.Part.{Part}
 use Rattle.clone_paths.specs.Layout.{copy_labels, fast_labels, gate_labels, out_labels}
-use Rattle.clone_paths.specs.Made.{IsOf, Resolved, next_visited}
+use Rattle.clone_paths.specs.Made.{IsLabelOfNode, Resolved, next_visited}
 use Rattle.clone_paths.specs.Parts.{HasOrder, is_inside}
 use Rattle.clone_paths.proofs.SheetLemmas.{in_joined, labels_at, owner}
 
@@ -101,35 +101,35 @@ resolved_all starts nodes old new e r = record {
 }
 
 -- each label is that of a node
-out_of : (n : ℕ) (side : Side) (i : ℕ) (o : Outlet) (m : ℕ) (l : CopyLabel) → i < n → slice_get (out_labels side i o) m ≡ Some l → IsOf n l
-out_of n side i outlet.Leaves zero l lt e = let same : Out side i ≡ l = cc in subst (λ (y : CopyLabel). IsOf n y) same lt
-out_of n side i (outlet.Calls next) zero l lt e = let same : Out side i ≡ l = cc in subst (λ (y : CopyLabel). IsOf n y) same lt
-out_of n side i (outlet.Calls next) (suc zero) l lt e = let same : Back next ≡ l = cc in subst (λ (y : CopyLabel). IsOf n y) same tt
+out_of : (n : ℕ) (side : Side) (i : ℕ) (o : Outlet) (m : ℕ) (l : CopyLabel) → i < n → slice_get (out_labels side i o) m ≡ Some l → IsLabelOfNode n l
+out_of n side i outlet.Leaves zero l lt e = let same : Out side i ≡ l = cc in subst (λ (y : CopyLabel). IsLabelOfNode n y) same lt
+out_of n side i (outlet.Calls next) zero l lt e = let same : Out side i ≡ l = cc in subst (λ (y : CopyLabel). IsLabelOfNode n y) same lt
+out_of n side i (outlet.Calls next) (suc zero) l lt e = let same : Back next ≡ l = cc in subst (λ (y : CopyLabel). IsLabelOfNode n y) same tt
 out_of n side i outlet.None m l lt e = cc
 out_of n side i outlet.Leaves (suc m) l lt e = cc
 out_of n side i (outlet.Calls next) (suc (suc m)) l lt e = cc
 
-copy_of : (n : ℕ) (side : Side) (i owed : ℕ) (p : Bool) (o : Outlet) (m : ℕ) (l : CopyLabel) → i < n → owed < node_limit → slice_get (copy_labels side i owed p o) m ≡ Some l → IsOf n l
-copy_of n side i owed true o zero l lt small e = let same : In side i owed ≡ l = cc in subst (λ (y : CopyLabel). IsOf n y) same (lt, small)
-copy_of n side i owed true o (suc zero) l lt small e = let same : In side i 0 ≡ l = cc in subst (λ (y : CopyLabel). IsOf n y) same (lt, omega arith)
+copy_of : (n : ℕ) (side : Side) (i owed : ℕ) (p : Bool) (o : Outlet) (m : ℕ) (l : CopyLabel) → i < n → owed < node_limit → slice_get (copy_labels side i owed p o) m ≡ Some l → IsLabelOfNode n l
+copy_of n side i owed true o zero l lt small e = let same : In side i owed ≡ l = cc in subst (λ (y : CopyLabel). IsLabelOfNode n y) same (lt, small)
+copy_of n side i owed true o (suc zero) l lt small e = let same : In side i 0 ≡ l = cc in subst (λ (y : CopyLabel). IsLabelOfNode n y) same (lt, omega arith)
 copy_of n side i owed true o (suc (suc m)) l lt small e = out_of n side i o m l lt e
-copy_of n side i owed false o zero l lt small e = let same : In side i owed ≡ l = cc in subst (λ (y : CopyLabel). IsOf n y) same (lt, small)
+copy_of n side i owed false o zero l lt small e = let same : In side i owed ≡ l = cc in subst (λ (y : CopyLabel). IsLabelOfNode n y) same (lt, small)
 copy_of n side i owed false o (suc m) l lt small e = out_of n side i o m l lt e
 
-gate_of : (n : ℕ) (b : Bool) (i m : ℕ) (l : CopyLabel) → slice_get (gate_labels b i) m ≡ Some l → IsOf n l
-gate_of n true i zero l e = let same : Gate i ≡ l = cc in subst (λ (y : CopyLabel). IsOf n y) same tt
+gate_of : (n : ℕ) (b : Bool) (i m : ℕ) (l : CopyLabel) → slice_get (gate_labels b i) m ≡ Some l → IsLabelOfNode n l
+gate_of n true i zero l e = let same : Gate i ≡ l = cc in subst (λ (y : CopyLabel). IsLabelOfNode n y) same tt
 gate_of n true i (suc m) l e = cc
 gate_of n false i m l e = cc
 
 fast_of : (n i : ℕ) (inside : Bool) (owed : ℕ) (p : Bool) (o : Outlet) (m : ℕ) (l : CopyLabel) → i < n → owed < node_limit →
-    slice_get (if inside then [] else copy_labels Fast i owed p o) m ≡ Some l → IsOf n l
+    slice_get (if inside then [] else copy_labels Fast i owed p o) m ≡ Some l → IsLabelOfNode n l
 fast_of n i true owed p o m l lt small e = cc
 fast_of n i false owed p o m l lt small e = copy_of n Fast i owed p o m l lt small e
 
-pub each_of : (head : ℕ → Bool) (part : ℕ → Part) (n place : ℕ) (l : CopyLabel) → ((i : ℕ) → i < n → (part i).owed < node_limit) → slice_get (labels_at head part n) place ≡ Some l → IsOf n l
+pub each_of : (head : ℕ → Bool) (part : ℕ → Part) (n place : ℕ) (l : CopyLabel) → ((i : ℕ) → i < n → (part i).owed < node_limit) → slice_get (labels_at head part n) place ≡ Some l → IsLabelOfNode n l
 each_of head part n place l small e =
     elim (owner head part n place l e) [
-      | inl x ↦ subst (λ (y : CopyLabel). IsOf n y) (sym x.1) tt
+      | inl x ↦ subst (λ (y : CopyLabel). IsLabelOfNode n y) (sym x.1) tt
       | inr r ↦
           let i = r.0 in
           let gate = gate_labels (head i) i in

@@ -1,5 +1,5 @@
 -- Each node is what its label says.
-use Rattle.std.proofs.Common.{◌≡◌, ◌⊎◌, inl, inr, ℕ, zero, suc, ◌+◌, ◌<◌, Bool, true, false, not, ◌&&◌, if◌then◌else◌, nat_lt, List, [], ◌∷◌, Option, Some, slice_index, refl, sym, ap, ◌∙◌, subst, arith}
+use Rattle.std.proofs.Common.{◌≡◌, ◌⊎◌, inl, inr, ℕ, zero, suc, ◌+◌, ◌<◌, Bool, true, false, ◌&&◌, if◌then◌else◌, nat_lt, [], ◌∷◌, Option, Some, slice_index, refl, sym, ap, ◌∙◌, subst, arith}
 use Rattle.std.specs.Bool.{MatchBool}
 use Rattle.std.specs.List.{Contains}
 use Rattle.std.proofs.lemmas.Bool.Decides.{nat_tests}
@@ -17,10 +17,10 @@ use Rattle.clone_paths.specs.declared.label.CopyLabel.{CopyLabel}
 use Rattle.clone_paths.specs.declared.label.CopyLabel.TheVariants.{Gate, In, Out}
 use Rattle.clone_paths.specs.declared.label.Side.{Side}
 use Rattle.clone_paths.specs.declared.label.Side.TheVariants.{Fast, Slow}
-use Rattle.clone_paths.specs.Form.{Cloning, Labelled, Here, IsFree, IsIn, IsOwing, IsSame, is_last, is_outlet}
+use Rattle.clone_paths.specs.Form.{Cloning, StandsForNode, Here, IsOwingNothing, IsNodeInCopy, IsOwing, IsSame, is_last, is_outlet}
 use Rattle.clone_paths.specs.Layout.{place_in_copy}
 use Rattle.clone_paths.specs.Made.{Tables, made_free, made_in, made_paid, made_same}
-use Rattle.clone_paths.specs.Parts.{is_inside, pays}
+use Rattle.clone_paths.specs.Parts.{is_inside, is_debt_paid}
 
 abbrev pub cloning : Tables → (ℕ → Option CopyLabel) → Cloning
 cloning t label = record { weighty = t.weighty; at = t.at; starts = t.starts; label = label }
@@ -39,7 +39,7 @@ pub record Known (t : Tables) (n : ℕ) (debt : ℕ → ℕ) (header : ℕ → B
   pub head_starts : (x : ℕ) → header x ≡ true → t.starts x ≡ true
   pub gate : (i : ℕ) → i < n → header i ≡ true → label (slice_index t.sheet.gates i) ≡ Some (Gate i)
   pub slow : (i : ℕ) → i < n → label (place_in_copy t.sheet Slow i) ≡ Some (In Slow i 0)
-  pub fast : (i : ℕ) → i < n → Labelled (cloning t label) Fast (place_in_copy t.sheet Fast i) i (debt i)
+  pub fast : (i : ℕ) → i < n → StandsForNode (cloning t label) Fast (place_in_copy t.sheet Fast i) i (debt i)
 
 -- what a copy owes before a node
 abbrev pub owed_by : (ℕ → ℕ) → Side → ℕ → ℕ
@@ -47,7 +47,7 @@ owed_by debt Fast i = debt i
 owed_by debt Slow i = 0
 
 labelled : (t : Tables) (n : ℕ) (debt : ℕ → ℕ) (header : ℕ → Bool) (label : ℕ → Option CopyLabel) → Known t n debt header label → (side : Side) (i : ℕ) → i < n →
-    Labelled (cloning t label) side (place_in_copy t.sheet side i) i (owed_by debt side i)
+    StandsForNode (cloning t label) side (place_in_copy t.sheet side i) i (owed_by debt side i)
 labelled t n debt header label k Fast i l = k.fast i l
 labelled t n debt header label k Slow i l = Here (k.slow i l)
 
@@ -56,9 +56,9 @@ leads : (t : Tables) (node x : ℕ) (v : View) → t.at node ≡ v → Contains 
 leads t node x v e c = subst (λ (w : View). Contains (led_to w) x) (sym e) c
 
 one_leads : (t : Tables) (n : ℕ) (debt : ℕ → ℕ) (header : ℕ → Bool) (label : ℕ → Option CopyLabel) → Known t n debt header label → (side : Side) (owed node x : ℕ) →
-    ((y : ℕ) → NodeLeadsTo t.at node y → owed_by debt side y ≡ owed) → NodeLeadsTo t.at node x → Labelled (cloning t label) side (place_in_copy t.sheet side x) x owed
+    ((y : ℕ) → NodeLeadsTo t.at node y → owed_by debt side y ≡ owed) → NodeLeadsTo t.at node x → StandsForNode (cloning t label) side (place_in_copy t.sheet side x) x owed
 one_leads t n debt header label k side owed node x flow lead =
-    subst (λ (d : ℕ). Labelled (cloning t label) side (place_in_copy t.sheet side x) x d) (flow x lead) (labelled t n debt header label k side x (k.within node x lead))
+    subst (λ (d : ℕ). StandsForNode (cloning t label) side (place_in_copy t.sheet side x) x d) (flow x lead) (labelled t n debt header label k side x (k.within node x lead))
 
 same_right : (t : Tables) (n : ℕ) (debt : ℕ → ℕ) (header : ℕ → Bool) (label : ℕ → Option CopyLabel) → Known t n debt header label → (side : Side) (owed node : ℕ) (v : View) →
     t.at node ≡ v → node < n → ((y : ℕ) → NodeLeadsTo t.at node y → owed_by debt side y ≡ owed) → is_outlet t.weighty v ≡ false → mark_count v ≡ 0 →
@@ -99,7 +99,7 @@ free_by t label side node place v false out same = same refl
 -- where something is owed
 owing_by : (t : Tables) (label : ℕ → Option CopyLabel) (side : Side) (node owed place : ℕ) (v : View) (b : Bool) → (b ≡ true → label (place + 1) ≡ Some (In side node 0)) →
     (b ≡ false → IsSame (cloning t label) side (suc owed) v (made_free t side place v)) →
-    MatchBool b ((m : ℕ) × ((if b then Skips (suc owed) (place + 1) else made_free t side place v) ≡ Skips (suc owed) m) × Labelled (cloning t label) side m node 0)
+    MatchBool b ((m : ℕ) × ((if b then Skips (suc owed) (place + 1) else made_free t side place v) ≡ Skips (suc owed) m) × StandsForNode (cloning t label) side m node 0)
     (IsSame (cloning t label) side (suc owed) v (if b then Skips (suc owed) (place + 1) else made_free t side place v))
 owing_by t label side node owed place v true pay same = (place + 1, refl, Here (pay refl))
 owing_by t label side node owed place v false pay same = same refl
@@ -110,11 +110,11 @@ no_debt b = refl
 some_debt : (owed : ℕ) (b : Bool) → (nat_lt 0 (suc owed) && b) ≡ b
 some_debt owed b = grind (arith, nat_tests)
 
-pub pays_is : (starts : ℕ → Bool) (owed : ℕ) (v : View) → mark_count v ≡ 0 → pays starts owed v ≡ (nat_lt 0 owed && is_last starts (led_to v))
+pub pays_is : (starts : ℕ → Bool) (owed : ℕ) (v : View) → mark_count v ≡ 0 → is_debt_paid starts owed v ≡ (nat_lt 0 owed && is_last starts (led_to v))
 pays_is starts owed (Marks site next) m = absurd (omega arith)
 pays_is starts owed v m = refl
 
-pub pays_zero : (starts : ℕ → Bool) (v : View) → pays starts 0 v ≡ false
+pub pays_zero : (starts : ℕ → Bool) (v : View) → is_debt_paid starts 0 v ≡ false
 pays_zero starts (Marks site next) = refl
 pays_zero starts (Row op next) = refl
 pays_zero starts (Halts op) = refl
@@ -142,27 +142,27 @@ not_outlet t n debt header label k node v e last = refl
 -- what a copy owes at a node and after it agree: what it owes is what its block owes, or it was paid at the end of the block
 pub record Agrees (t : Tables) (debt : ℕ → ℕ) (label : ℕ → Option CopyLabel) (side : Side) (node owed place : ℕ) : Type 0 where
   pub flow : (owed ≡ 0) ⊎ (is_last t.starts (led_to (t.at node)) ≡ false) → mark_count (t.at node) ≡ 0 → (y : ℕ) → NodeLeadsTo t.at node y → owed_by debt side y ≡ owed
-  pub pay : pays t.starts owed (t.at node) ≡ true → label (place + 1) ≡ Some (In side node 0)
+  pub pay : is_debt_paid t.starts owed (t.at node) ≡ true → label (place + 1) ≡ Some (In side node 0)
   pub out : owed ≡ 0 → is_outlet t.weighty (t.at node) ≡ true → label (place + 1) ≡ Some (Out side node)
   pub last : side ≡ Fast → is_inside t.starts (t.at node) ≡ false
 
 owing_right : (t : Tables) (n : ℕ) (debt : ℕ → ℕ) (header : ℕ → Bool) (label : ℕ → Option CopyLabel) → Known t n debt header label → (side : Side) (node owed place : ℕ) (v : View) →
     t.at node ≡ v → node < n → mark_count v ≡ 0 → Agrees t debt label side node owed place → IsOwing (cloning t label) side node owed v (made_paid t side owed place v)
 owing_right t n debt header label k side node zero place v e l m a =
-    let none : pays t.starts 0 v ≡ false = pays_is t.starts 0 v m ∙ no_debt (is_last t.starts (led_to v)) in
+    let none : is_debt_paid t.starts 0 v ≡ false = pays_is t.starts 0 v m ∙ no_debt (is_last t.starts (led_to v)) in
     let q : made_paid t side 0 place v ≡ made_free t side place v = ap (λ (b : Bool). if b then Skips 0 (place + 1) else made_free t side place v) none in
-    let free : IsFree (cloning t label) side node v (made_free t side place v) =
+    let free : IsOwingNothing (cloning t label) side node v (made_free t side place v) =
     free_by t label side node place v (is_outlet t.weighty v) (λ o. a.out refl (ap (is_outlet t.weighty) e ∙ o))
     (λ o. same_right t n debt header label k side 0 node v e l (a.flow (inl refl) (ap mark_count e ∙ m)) o m)
     in
-    subst (λ (w : View). IsFree (cloning t label) side node v w) (sym q) free
+    subst (λ (w : View). IsOwingNothing (cloning t label) side node v w) (sym q) free
 owing_right t n debt header label k side node (suc owed) place v e l m a =
-    let is : pays t.starts (suc owed) v ≡ is_last t.starts (led_to v) = pays_is t.starts (suc owed) v m ∙ some_debt owed (is_last t.starts (led_to v)) in
+    let is : is_debt_paid t.starts (suc owed) v ≡ is_last t.starts (led_to v) = pays_is t.starts (suc owed) v m ∙ some_debt owed (is_last t.starts (led_to v)) in
     let q : made_paid t side (suc owed) place v ≡ (if is_last t.starts (led_to v) then Skips (suc owed) (place + 1) else made_free t side place v) =
     ap (λ (b : Bool). if b then Skips (suc owed) (place + 1) else made_free t side place v) is
     in
     let owing = owing_by t label side node owed place v (is_last t.starts (led_to v))
-    (λ h. a.pay (ap (pays t.starts (suc owed)) e ∙ is ∙ h))
+    (λ h. a.pay (ap (is_debt_paid t.starts (suc owed)) e ∙ is ∙ h))
     (λ h.
     let o = not_outlet t n debt header label k node v e h in
     let f : made_free t side place v ≡ made_same t side v = ap (λ (b : Bool). if b then Exports (place + 1) else made_same t side v) o in
@@ -173,7 +173,7 @@ owing_right t n debt header label k side node (suc owed) place v e l m a =
     subst (λ (w : View). IsOwing (cloning t label) side node (suc owed) v w) (sym q) owing
 
 visit_right : (t : Tables) (n : ℕ) (debt : ℕ → ℕ) (header : ℕ → Bool) (label : ℕ → Option CopyLabel) → Known t n debt header label → (side : Side) (node owed place site next : ℕ) →
-    t.at node ≡ Marks site next → node < n → Agrees t debt label side node owed place → IsIn (cloning t label) side node owed (Marks site next) (made_in t side owed place (Marks site next))
+    t.at node ≡ Marks site next → node < n → Agrees t debt label side node owed place → IsNodeInCopy (cloning t label) side node owed (Marks site next) (made_in t side owed place (Marks site next))
 visit_right t n debt header label k Slow node owed place site next e l a =
     let inside = k.within node next (leads t node next (Marks site next) e (first_in next [])) in
     (place_in_copy t.sheet Slow next, refl, Here (k.slow next inside))
@@ -183,10 +183,10 @@ visit_right t n debt header label k Fast node owed place site next e l a =
       place_in_copy t.sheet Fast next,
       begins,
       refl,
-      subst (λ (d : ℕ). Labelled (cloning t label) Fast (place_in_copy t.sheet Fast next) next d) (k.none next begins) (k.fast next inside),
+      subst (λ (d : ℕ). StandsForNode (cloning t label) Fast (place_in_copy t.sheet Fast next) next d) (k.none next begins) (k.fast next inside),
     )
 
 pub in_right : (t : Tables) (n : ℕ) (debt : ℕ → ℕ) (header : ℕ → Bool) (label : ℕ → Option CopyLabel) → Known t n debt header label → (side : Side) (node owed place : ℕ) (v : View) →
-    t.at node ≡ v → node < n → Agrees t debt label side node owed place → IsIn (cloning t label) side node owed v (made_in t side owed place v)
+    t.at node ≡ v → node < n → Agrees t debt label side node owed place → IsNodeInCopy (cloning t label) side node owed v (made_in t side owed place v)
 in_right t n debt header label k side node owed place (Marks site next) e l a = visit_right t n debt header label k side node owed place site next e l a
 in_right t n debt header label k side node owed place v e l a = owing_right t n debt header label k side node owed place v e l refl a

@@ -2,20 +2,18 @@
 use Rattle.std.specs.Prelude.{◌≡◌, ℕ, ◌*◌, ◌<◌, ◌≤◌, List, length, Bool, true, false, Some, slice_get}
 use Rattle.std.specs.List.{All, sum_by}
 use Rattle.flow.specs.declared.node.Node.{Node}
-use Rattle.flow.specs.declared.node.View.{View}
-use Rattle.flow.specs.declared.node.View.TheVariants.{Skips, Tests, Picks, Imports, Exports}
 use Rattle.flow.specs.declared.program.Function.{Function}
 use Rattle.flow.specs.declared.program.ProgramParts.{ProgramParts}
 use Rattle.flow.specs.declared.scope.Bounds.{Bounds}
 use Rattle.flow.specs.declared.scope.Names.{Names}
-use Rattle.flow.specs.Words.{NodesFit, view, ArePlain}
+use Rattle.flow.specs.Words.{NodesFit, ArePlain}
 use Rattle.regions.specs.Blocks.{IsStart}
 use Rattle.regions.specs.Flags.{AreFlags, is_in}
 use Rattle.regions.specs.Rows.{EachFits}
 use Rattle.regions.specs.Weighty.{IsWeighty, views_of}
 use Rattle.clone_paths.specs.declared.label.CopyLabel.{CopyLabel}
 use Rattle.clone_paths.specs.declared.label.CopyLabel.TheVariants.{Enter}
-use Rattle.clone_paths.specs.Form.{Cloning, IsRight}
+use Rattle.clone_paths.specs.Form.{Cloning, IsAsLabelled}
 
 -- the most nodes of a program that is cloned
 abbrev pub cloned_limit : ℕ
@@ -37,7 +35,7 @@ pub record NodesCloned (weighty : ℕ → Bool) (nodes cloned : List Node) : Typ
   pub labels : List CopyLabel
   pub few : length labels ≡ length cloned
   pub entry : slice_get labels 0 ≡ Some Enter
-  pub each : (place : ℕ) (l : CopyLabel) → slice_get labels place ≡ Some l → IsRight (cloning_of weighty nodes starts labels) l (views_of cloned place)
+  pub each : (place : ℕ) (l : CopyLabel) → slice_get labels place ≡ Some l → IsAsLabelled (cloning_of weighty nodes starts labels) l (views_of cloned place)
 
 -- a function keeps all but its nodes; a weightless one keeps these too
 pub record FunctionCloned (weighty : ℕ → Bool) (number : ℕ) (f g : Function) : Type 0 where

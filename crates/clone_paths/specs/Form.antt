@@ -22,10 +22,10 @@ pub record Cloning : Type 0 where
 
 -- the node at the place stands for the node in a copy, owing so much. A visit within a block has no node in the fast copy: what stands for the
 -- node after it owes one more.
-pub data Labelled (t : Cloning) (side : Side) (place : ℕ) : ℕ → ℕ → Type 0 where
-  Here : {node owed : ℕ} → t.label place ≡ Some (In side node owed) → Labelled t side place node owed
-  Owed : {node owed : ℕ} (site next : ℕ) → side ≡ Fast → t.at node ≡ Marks site next → t.starts next ≡ false → Labelled t side place next (suc owed) →
-      Labelled t side place node owed
+pub data StandsForNode (t : Cloning) (side : Side) (place : ℕ) : ℕ → ℕ → Type 0 where
+  Here : {node owed : ℕ} → t.label place ≡ Some (In side node owed) → StandsForNode t side place node owed
+  Owed : {node owed : ℕ} (site next : ℕ) → side ≡ Fast → t.at node ≡ Marks site next → t.starts next ≡ false → StandsForNode t side place next (suc owed) →
+      StandsForNode t side place node owed
 
 -- control leaves the block after this node: it leads nowhere, or to a node at which a block begins
 abbrev pub is_last : (ℕ → Bool) → List ℕ → Bool
@@ -47,42 +47,43 @@ MayOwe Slow owed = owed ≡ 0
 
 -- the same node within the copy, but that a turn leads to the choice before its successor
 abbrev pub IsSame : Cloning → Side → ℕ → View → View → Type 0
-IsSame t side owed (Row op next) q = (m : ℕ) × (q ≡ Row op m) × Labelled t side m next owed
+IsSame t side owed (Row op next) q = (m : ℕ) × (q ≡ Row op m) × StandsForNode t side m next owed
 IsSame t side owed (Halts op) q = q ≡ Halts op
-IsSame t side owed (Forks when_true when_false) q = (m n : ℕ) × (q ≡ Forks m n) × Labelled t side m when_true owed × Labelled t side n when_false owed
+IsSame t side owed (Forks when_true when_false) q = (m n : ℕ) × (q ≡ Forks m n) × StandsForNode t side m when_true owed × StandsForNode t side n when_false owed
 IsSame t side owed (Turns next) q = (m : ℕ) × (q ≡ Turns m) × (t.label m ≡ Some (Gate next))
-IsSame t side owed (Calls function next) q = (m : ℕ) × (q ≡ Calls function m) × Labelled t side m next owed
+IsSame t side owed (Calls function next) q = (m : ℕ) × (q ≡ Calls function m) × StandsForNode t side m next owed
 IsSame t side owed other q = ⊥
 
 -- where nothing is owed: before an outlet the copy of the countdown is given back
-abbrev pub IsFree : Cloning → Side → ℕ → View → View → Type 0
-IsFree t side node v q = MatchBool (is_outlet t.weighty v) ((m : ℕ) × (q ≡ Exports m) × (t.label m ≡ Some (Out side node))) (IsSame t side 0 v q)
+abbrev pub IsOwingNothing : Cloning → Side → ℕ → View → View → Type 0
+IsOwingNothing t side node v q = MatchBool (is_outlet t.weighty v) ((m : ℕ) × (q ≡ Exports m) × (t.label m ≡ Some (Out side node))) (IsSame t side 0 v q)
 
 -- what is owed is paid by one node at the end of the block
 abbrev pub IsOwing : Cloning → Side → ℕ → ℕ → View → View → Type 0
-IsOwing t side node zero v q = IsFree t side node v q
+IsOwing t side node zero v q = IsOwingNothing t side node v q
 IsOwing t side node (suc owed) v q =
-    MatchBool (is_last t.starts (led_to v)) ((m : ℕ) × (q ≡ Skips (suc owed) m) × Labelled t side m node 0) (IsSame t side (suc owed) v q)
+    MatchBool (is_last t.starts (led_to v)) ((m : ℕ) × (q ≡ Skips (suc owed) m) × StandsForNode t side m node 0) (IsSame t side (suc owed) v q)
 
 -- a visit of a site is tested in the slow copy, and pays what is owed in the fast one, where it is the last node of its block
 abbrev pub IsVisit : Cloning → Side → ℕ → ℕ → ℕ → View → Type 0
-IsVisit t Slow owed site next q = (m : ℕ) × (q ≡ Tests site m) × Labelled t Slow m next 0
-IsVisit t Fast owed site next q = (m : ℕ) × (t.starts next ≡ true) × (q ≡ Skips (owed + 1) m) × Labelled t Fast m next 0
+IsVisit t Slow owed site next q = (m : ℕ) × (q ≡ Tests site m) × StandsForNode t Slow m next 0
+IsVisit t Fast owed site next q = (m : ℕ) × (t.starts next ≡ true) × (q ≡ Skips (owed + 1) m) × StandsForNode t Fast m next 0
 
-abbrev pub IsIn : Cloning → Side → ℕ → ℕ → View → View → Type 0
-IsIn t side node owed (Marks site next) q = IsVisit t side owed site next q
-IsIn t side node owed v q = IsOwing t side node owed v q
+abbrev pub IsNodeInCopy : Cloning → Side → ℕ → ℕ → View → View → Type 0
+IsNodeInCopy t side node owed (Marks site next) q = IsVisit t side owed site next q
+IsNodeInCopy t side node owed v q = IsOwing t side node owed v q
 
 -- the outlet itself
-abbrev pub IsOut : Cloning → View → View → Type 0
-IsOut t (Calls function next) q = (m : ℕ) × (q ≡ Calls function m) × (t.label m ≡ Some (Back next))
-IsOut t v q = q ≡ v
+abbrev pub IsOutletInCopy : Cloning → View → View → Type 0
+IsOutletInCopy t (Calls function next) q = (m : ℕ) × (q ≡ Calls function m) × (t.label m ≡ Some (Back next))
+IsOutletInCopy t v q = q ≡ v
 
 -- what a node is by its label
-abbrev pub IsRight : Cloning → CopyLabel → View → Type 0
-IsRight t Enter q = (m : ℕ) × (q ≡ Imports m) × (t.label m ≡ Some (Gate 0))
-IsRight t (Gate node) q =
-    (weight fast slow : ℕ) × (q ≡ Picks weight fast slow) × IsWeight t.weighty t.at node weight × Labelled t Fast fast node 0 × Labelled t Slow slow node 0
-IsRight t (Back node) q = (m : ℕ) × (q ≡ Imports m) × (t.label m ≡ Some (Gate node))
-IsRight t (In side node owed) q = MayOwe side owed × IsIn t side node owed (t.at node) q
-IsRight t (Out side node) q = (is_outlet t.weighty (t.at node) ≡ true) × IsOut t (t.at node) q
+abbrev pub IsAsLabelled : Cloning → CopyLabel → View → Type 0
+IsAsLabelled t Enter q = (m : ℕ) × (q ≡ Imports m) × (t.label m ≡ Some (Gate 0))
+IsAsLabelled t (Gate node) q =
+    (weight fast slow : ℕ) × (q ≡ Picks weight fast slow) × IsWeight t.weighty t.at node weight × StandsForNode t Fast fast node 0
+    × StandsForNode t Slow slow node 0
+IsAsLabelled t (Back node) q = (m : ℕ) × (q ≡ Imports m) × (t.label m ≡ Some (Gate node))
+IsAsLabelled t (In side node owed) q = MayOwe side owed × IsNodeInCopy t side node owed (t.at node) q
+IsAsLabelled t (Out side node) q = (is_outlet t.weighty (t.at node) ≡ true) × IsOutletInCopy t (t.at node) q

@@ -44,8 +44,8 @@ place_in_copy s Fast node = slice_index s.fast node
 place_in_copy s Slow node = slice_index s.slow node
 
 -- with the labels for one node more
-abbrev pub laid : Bool → ℕ → Part → Sheet → Sheet
-laid header node part s = record {
+abbrev pub with_node_labels : Bool → ℕ → Part → Sheet → Sheet
+with_node_labels header node part s = record {
   labels = s.labels ++ labels_for header node part;
   gates = s.gates ++ length s.labels ∷ [];
   slow = s.slow ++ length (s.labels ++ gate_labels header node) ∷ [];

@@ -12,8 +12,8 @@ use Rattle.clone_paths.specs.declared.label.Side.{Side}
 use Rattle.clone_paths.specs.declared.label.Side.TheVariants.{Fast, Slow}
 use Rattle.clone_paths.specs.declared.parts.Part.{Part}
 use Rattle.clone_paths.specs.Form.{is_outlet}
-use Rattle.clone_paths.specs.Layout.{Sheet, entry_alone, laid, place_in_copy}
-use Rattle.clone_paths.specs.Parts.{is_inside, part_of_node, pays}
+use Rattle.clone_paths.specs.Layout.{Sheet, entry_alone, with_node_labels, place_in_copy}
+use Rattle.clone_paths.specs.Parts.{is_inside, part_of_node, is_debt_paid}
 
 -- what is known of the original function's nodes, and where the choice before each and its copies stand
 pub record Tables : Type 0 where
@@ -45,7 +45,7 @@ made_free t side place v = if is_outlet t.weighty v then Exports (place + 1) els
 
 -- what is owed is paid before it
 abbrev pub made_paid : Tables → Side → ℕ → ℕ → View → View
-made_paid t side owed place v = if pays t.starts owed v then Skips owed (place + 1) else made_free t side place v
+made_paid t side owed place v = if is_debt_paid t.starts owed v then Skips owed (place + 1) else made_free t side place v
 
 abbrev pub made_visit : Sheet → Side → ℕ → ℕ → ℕ → View
 made_visit sheet Slow owed site next = Tests site (place_in_copy sheet Slow next)
@@ -60,18 +60,18 @@ made_out place (Calls function next) = Calls function (place + 1)
 made_out place v = v
 
 -- the node with this label at the place
-abbrev pub made : Tables → ℕ → CopyLabel → View
-made t place Enter = Imports (slice_index t.sheet.gates 0)
-made t place (Gate node) = Picks (t.weight node) (place_in_copy t.sheet Fast node) (place_in_copy t.sheet Slow node)
-made t place (Back node) = Imports (slice_index t.sheet.gates node)
-made t place (In side node owed) = made_in t side owed place (t.at node)
-made t place (Out side node) = made_out place (t.at node)
+abbrev pub made_node : Tables → ℕ → CopyLabel → View
+made_node t place Enter = Imports (slice_index t.sheet.gates 0)
+made_node t place (Gate node) = Picks (t.weight node) (place_in_copy t.sheet Fast node) (place_in_copy t.sheet Slow node)
+made_node t place (Back node) = Imports (slice_index t.sheet.gates node)
+made_node t place (In side node owed) = made_in t side owed place (t.at node)
+made_node t place (Out side node) = made_out place (t.at node)
 
 -- the label is that of one of so many nodes
-abbrev pub IsOf : ℕ → CopyLabel → Type 0
-IsOf nodes (In side node owed) = (node < nodes) × (owed < node_limit)
-IsOf nodes (Out side node) = node < nodes
-IsOf nodes other = Unit {0}
+abbrev pub IsLabelOfNode : ℕ → CopyLabel → Type 0
+IsLabelOfNode nodes (In side node owed) = (node < nodes) × (owed < node_limit)
+IsLabelOfNode nodes (Out side node) = node < nodes
+IsLabelOfNode nodes other = Unit {0}
 
 -- the node to which a visit within a block leads
 abbrev pub next_visited : (ℕ → Bool) → View → Option ℕ
@@ -88,7 +88,7 @@ pub record Resolved (starts : List Bool) (nodes : List Node) (old new : List ℕ
 -- the labels of a function's nodes, so many of them
 abbrev pub sheet_at : (ℕ → Bool) → (ℕ → Part) → ℕ → Sheet
 sheet_at header part zero = entry_alone
-sheet_at header part (suc count) = laid (header count) count (part count) (sheet_at header part count)
+sheet_at header part (suc count) = with_node_labels (header count) count (part count) (sheet_at header part count)
 
 -- what the clones need to know of each node, from what is owed before it
 abbrev pub parts_from : List Bool → List Node → List Bool → List ℕ → ℕ → Part
@@ -96,4 +96,4 @@ parts_from weighty nodes starts debts place = part_of_node (is_in weighty) (is_i
 
 -- a node with its label
 abbrev pub IsMade : Tables → ℕ → CopyLabel → Node → Type 0
-IsMade t place label node = view node ≡ made t place label
+IsMade t place label node = view node ≡ made_node t place label

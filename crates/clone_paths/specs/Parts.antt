@@ -34,12 +34,12 @@ is_inside starts (Marks site next) = not (starts next)
 is_inside starts other = false
 
 -- a node before which what is owed is paid by a node of its own
-abbrev pub pays : (ℕ → Bool) → ℕ → View → Bool
-pays starts owed (Marks site next) = false
-pays starts owed v = nat_lt 0 owed && is_last starts (led_to v)
+abbrev pub is_debt_paid : (ℕ → Bool) → ℕ → View → Bool
+is_debt_paid starts owed (Marks site next) = false
+is_debt_paid starts owed v = nat_lt 0 owed && is_last starts (led_to v)
 
 abbrev pub part_of_node : (ℕ → Bool) → (ℕ → Bool) → ℕ → View → Part
-part_of_node weighty starts owed v = record { inside = is_inside starts v; owed = owed; pays = pays starts owed v; outlet = outlet_of weighty v }
+part_of_node weighty starts owed v = record { inside = is_inside starts v; owed = owed; pays = is_debt_paid starts owed v; outlet = outlet_of weighty v }
 
 -- the one node of these, where no block begins there
 abbrev pub next_inside : (ℕ → Bool) → List ℕ → Option ℕ

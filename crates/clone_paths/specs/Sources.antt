@@ -12,8 +12,8 @@ use Rattle.clone_paths.specs.Made.{Tables, tables_of}
 use Rattle.clone_paths.specs.Parts.{HasOrder}
 use Rattle.flow.specs.Ready.{ArePlain}
 
-abbrev pub tables : Source → Sheet → Tables
-tables s sheet = tables_of s.weighty.now s.nodes.now s.starts.now s.weights.now sheet
+abbrev pub source_tables : Source → Sheet → Tables
+source_tables s sheet = tables_of s.weighty.now s.nodes.now s.starts.now s.weights.now sheet
 
 -- all that is known of a weighty function before it is cloned
 pub record IsPrepared (s : Source) (headers : List Bool) : Type 0 where

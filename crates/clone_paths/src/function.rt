@@ -5,9 +5,9 @@ ghost use Rattle.regions.specs.Rows.{EachFits};
 ghost use Rattle.clone_paths.specs.declared.label.CopyLabel.{CopyLabel};
 ghost use Rattle.clone_paths.specs.Cloned.{FitsLike, FunctionCloned, NodesCloned, cloned_limit};
 ghost use Rattle.clone_paths.specs.Layout.{sheet_of};
-ghost use Rattle.clone_paths.specs.Made.{IsMade, IsOf, Resolved, next_visited, parts_from, sheet_at};
+ghost use Rattle.clone_paths.specs.Made.{IsMade, IsLabelOfNode, Resolved, next_visited, parts_from, sheet_at};
 ghost use Rattle.clone_paths.specs.Parts.{HasOrder};
-ghost use Rattle.clone_paths.specs.Sources.{IsPrepared, tables};
+ghost use Rattle.clone_paths.specs.Sources.{IsPrepared, source_tables};
 
 use crate::debts::debts_of;
 use crate::layout::Layout;
@@ -64,8 +64,8 @@ fn resolve(fast: &mut [u32], nodes: &[Node], starts: &[bool])
 /// The nodes with these labels.
 fn nodes_for(alloc: Global, source: &Source, layout: &Layout) -> Result<Vec<Node>, Memory>
     requires few { length layout.now.labels.items ≤ node_limit }
-    requires of { (place : ℕ) (l : CopyLabel) → slice_get layout.now.labels.items place ≡ Some l → IsOf (length source.now.nodes.now) l }
-    ensures { IfOk result (λ nodes. EachFits (IsMade (tables source.now (sheet_of layout.now))) layout.now.labels.items nodes.items) }
+    requires of { (place : ℕ) (l : CopyLabel) → slice_get layout.now.labels.items place ≡ Some l → IsLabelOfNode (length source.now.nodes.now) l }
+    ensures { IfOk result (λ nodes. EachFits (IsMade (source_tables source.now (sheet_of layout.now))) layout.now.labels.items nodes.items) }
 {
     let mut nodes = Vec::with_capacity(alloc, layout.labels.len())?;
     for (place, label) in layout.labels.iter().enumerate() {

@@ -1,5 +1,5 @@
 ghost use Rattle.std.specs.Prelude.{◌≡◌, ◌++◌, ◌≤◌, ◌<◌, ◌^◌, IfOk, OnOk, length};
-ghost use Rattle.clone_paths.specs.Layout.{copy_labels, entry_alone, fast_labels, gate_labels, laid, out_labels, sheet_of};
+ghost use Rattle.clone_paths.specs.Layout.{copy_labels, entry_alone, fast_labels, gate_labels, with_node_labels, out_labels, sheet_of};
 
 use crate::label::{CopyLabel, Side};
 use crate::parts::{Outlet, Part};
@@ -92,7 +92,7 @@ impl Layout {
     /// Adds the labels for the next node.
     pub(crate) fn add(&mut self, header: bool, node: u32, part: Part) -> Result<(), Memory>
         requires { length self.old.labels.items ≤ 16000000 }
-        ensures { OnOk result (sheet_of self.new ≡ laid header node part (sheet_of self.old)) }
+        ensures { OnOk result (sheet_of self.new ≡ with_node_labels header node part (sheet_of self.old)) }
     {
         self.gates.push(self.labels.len() as u32)?;
         push_gate(&mut self.labels, header, node)?;

@@ -1,10 +1,9 @@
-ghost use Rattle.std.specs.Prelude.{◌≡◌, ◌+◌, ◌<◌, ◌≤◌, IfOk, length, slice_index};
+ghost use Rattle.std.specs.Prelude.{◌≡◌, ◌+◌, ◌<◌, ◌≤◌, length, slice_index};
 ghost use Rattle.flow.specs.Words.{node_limit, view};
-ghost use Rattle.regions.specs.Flags.{is_in};
 ghost use Rattle.clone_paths.specs.Form.{is_outlet};
 ghost use Rattle.clone_paths.specs.Layout.{place_in_copy, sheet_of};
-ghost use Rattle.clone_paths.specs.Made.{IsOf, made, made_in, made_out, made_paid, made_same, made_visit};
-ghost use Rattle.clone_paths.specs.Sources.{tables};
+ghost use Rattle.clone_paths.specs.Made.{IsLabelOfNode, made_node, made_in, made_out, made_paid, made_same, made_visit};
+ghost use Rattle.clone_paths.specs.Sources.{source_tables};
 
 use crate::label::{CopyLabel, Side};
 use crate::layout::Layout;
@@ -39,7 +38,7 @@ fn place_of(layout: &Layout, side: Side, node: u32) -> u32
 
 /// The same node within the copy.
 fn same_node(source: &Source, layout: &Layout, side: Side, node: Node) -> Node
-    ensures { view result ≡ made_same (tables source.now (sheet_of layout.now)) side (view node) }
+    ensures { view result ≡ made_same (source_tables source.now (sheet_of layout.now)) side (view node) }
 {
     match view_of(node) {
         View::Forks { yes, no } => Node::Fork {
@@ -79,7 +78,7 @@ fn copied_node(
 ) -> Node
     requires place { place < node_limit }
     requires owed { owed < node_limit }
-    ensures { view result ≡ made_in (tables source.now (sheet_of layout.now)) side owed place (view node) }
+    ensures { view result ≡ made_in (source_tables source.now (sheet_of layout.now)) side owed place (view node) }
 {
     match view_of(node) {
         View::Marks { site, next } => visit_node(layout, side, owed, site, next),
@@ -97,7 +96,7 @@ fn free_node(
     node: Node,
 ) -> Node
     requires { place < node_limit }
-    ensures { view result ≡ made_paid (tables source.now (sheet_of layout.now)) side owed place (view node) }
+    ensures { view result ≡ made_paid (source_tables source.now (sheet_of layout.now)) side owed place (view node) }
 {
     let next = place + 1;
     if pays(source.starts, owed, node) {
@@ -123,8 +122,8 @@ fn out_node(place: u32, node: Node) -> Node
 /// The node with this label at the place.
 pub(crate) fn node_for(source: &Source, layout: &Layout, place: u32, label: CopyLabel) -> Node
     requires place { place < node_limit }
-    requires of { IsOf (length source.now.nodes.now) label }
-    ensures { view result ≡ made (tables source.now (sheet_of layout.now)) place label }
+    requires of { IsLabelOfNode (length source.now.nodes.now) label }
+    ensures { view result ≡ made_node (source_tables source.now (sheet_of layout.now)) place label }
 {
     match label {
         CopyLabel::Enter => Node::Import {

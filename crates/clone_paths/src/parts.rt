@@ -1,8 +1,8 @@
-ghost use Rattle.std.specs.Prelude.{◌≡◌, IfOk, length, slice_index};
-ghost use Rattle.flow.specs.Words.{led_to, listed_ways, view};
+ghost use Rattle.std.specs.Prelude.{◌≡◌};
+ghost use Rattle.flow.specs.Words.{listed_ways, view};
 ghost use Rattle.regions.specs.Flags.{is_in};
 ghost use Rattle.clone_paths.specs.Form.{is_last, is_outlet};
-ghost use Rattle.clone_paths.specs.Parts.{is_inside, outlet_of, part_of_node, pays};
+ghost use Rattle.clone_paths.specs.Parts.{is_inside, outlet_of, part_of_node, is_debt_paid};
 
 use flow::{Node, View, Ways, successors, view_of};
 use regions::is_in;
@@ -64,7 +64,7 @@ fn is_last(starts: &[bool], ways: Ways) -> bool
 
 /// Whether what is owed is paid by a node of its own before this one.
 pub(crate) fn pays(starts: &[bool], owed: u32, node: Node) -> bool
-    ensures { result ≡ pays (is_in starts.now) owed (view node) }
+    ensures { result ≡ is_debt_paid (is_in starts.now) owed (view node) }
 {
     if let View::Marks { .. } = view_of(node) {
         return false;

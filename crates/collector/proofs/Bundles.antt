@@ -6,7 +6,7 @@ use Rattle.std.specs.Option.{option_to_list}
 use Rattle.std.proofs.lemmas.List.{append-nil, map-append}
 use Rattle.std.proofs.lemmas.Grind.{flat_map-append}
 use Rattle.std.specs.Global.{Global}
-use Rattle.cbi_base.specs.Words.{LeadsTo, ReadsLines, IsId, spaced, text_of}
+use Rattle.cbi_base.specs.Words.{LeadsTo, ReadsLines, IsId, line_of_fields, text_of}
 use Rattle.cbi_base.specs.declared.identity.ProgramId.{ProgramId}
 use Rattle.report_file.specs.declared.draft.Version.{Version}
 use Rattle.report_file.specs.declared.draft.Version.TheVariants as version
@@ -24,8 +24,8 @@ use Rattle.collector.specs.declared.draft.Draft.{Draft}
 use Rattle.collector.specs.declared.draft.Due.{Due}
 use Rattle.collector.specs.declared.draft.Due.TheVariants as due
 use Rattle.collector.specs.Collected.{mark_limit, marks_of, report_limit}
-use Rattle.collector.specs.Grammar.{BundleEnds, BundleLineComes, BundleLineFollows, EndFollows, RunFollows, RunSiteFollows, begun, bundle_start, closed, whole}
-use Rattle.collector.specs.Merging.{AreOf, AreReports}
+use Rattle.collector.specs.Grammar.{BundleEnds, BundleLineComes, BundleLineFollows, EndFollows, RunFollows, RunSiteFollows, report_without_sites, bundle_start, current_report_closed, draft_reports}
+use Rattle.collector.specs.Merging.{AreOfBundle, AreReports}
 use Rattle.collector.specs.Spelling.{HavePlainLabels, IsText, RunsFrom, SpellsBundle, WithLabels, Without, bundle_rows, bundle_title, report_rows}
 
 -- a report that was read
@@ -87,21 +87,21 @@ closed-kept program v reports (Some r) run site marks k =
       few_marks = k.few_marks;
     }
 
-begun-fits : (program : ProgramId) (v : Version) (x : RunLine) → IsId program → IsRunLine v x → Fits program v (begun program x)
+begun-fits : (program : ProgramId) (v : Version) (x : RunLine) → IsId program → IsRunLine v x → Fits program v (report_without_sites program x)
 begun-fits program v x id is = record {
   is_report = record { program = id; run = is.run; outcome = is.outcome; work = is.work; entries = tt; rising = tt };
   ours = refl;
   plain = is.label;
 }
 
-run-kept : (program : ProgramId) (v : Version) (reports : List Report) (run site marks : ℕ) (x : RunLine) → Kept program v reports None run site marks → IsRunLine v x → run ≤ x.run → length reports < report_limit → Kept program v reports (Some (begun program x)) (x.run + 1) 0 marks
+run-kept : (program : ProgramId) (v : Version) (reports : List Report) (run site marks : ℕ) (x : RunLine) → Kept program v reports None run site marks → IsRunLine v x → run ≤ x.run → length reports < report_limit → Kept program v reports (Some (report_without_sites program x)) (x.run + 1) 0 marks
 run-kept program v reports run site marks x k is rises room = record {
   is_id = k.is_id;
   are_all = k.are_all;
   rising = k.rising;
   fits = (begun-fits program v x k.is_id is, omega (arith, k.fits), refl, refl);
-  few = omega (arith, length-append {A = Report} reports (begun program x ∷ []));
-  marks_are = k.marks_are ∙ ap marks_of (append-nil reports) ∙ omega (arith, marks-append reports (begun program x ∷ []));
+  few = omega (arith, length-append {A = Report} reports (report_without_sites program x ∷ []));
+  marks_are = k.marks_are ∙ ap marks_of (append-nil reports) ∙ omega (arith, marks-append reports (report_without_sites program x ∷ []));
   few_marks = k.few_marks;
 }
 
@@ -135,8 +135,8 @@ site-kept program v reports r run site marks e k next room = record {
 }
 
 -- the rows with one row more
-run-rows : (v : Version) (program : ProgramId) (reports : List Report) (x : RunLine) → flat_map (report_rows v) (reports ++ begun program x ∷ []) ≡ flat_map (report_rows v) reports ++ run_line_fields v x ∷ []
-run-rows v program reports x = flat_map-append (report_rows v) reports (begun program x ∷ [])
+run-rows : (v : Version) (program : ProgramId) (reports : List Report) (x : RunLine) → flat_map (report_rows v) (reports ++ report_without_sites program x ∷ []) ≡ flat_map (report_rows v) reports ++ run_line_fields v x ∷ []
+run-rows v program reports x = flat_map-append (report_rows v) reports (report_without_sites program x ∷ [])
 
 site-rows : (v : Version) (reports : List Report) (r : Report) (e : Entry) → flat_map (report_rows v) (reports ++ with_entry r e ∷ []) ≡ flat_map (report_rows v) (reports ++ r ∷ []) ++ site_fields e ∷ []
 site-rows v reports r e =
@@ -155,7 +155,7 @@ start_rows d more = bundle_title d.version ∷ program_fields d.program ∷ more
 abbrev rows_at : Due → Draft → List (List (List ℕ))
 rows_at due.Title d = []
 rows_at due.Program d = bundle_title d.version ∷ []
-rows_at due.Runs d = start_rows d (flat_map (report_rows d.version) (whole d))
+rows_at due.Runs d = start_rows d (flat_map (report_rows d.version) (draft_reports d))
 rows_at due.Nothing d = bundle_rows d.version (bundle_of d)
 
 -- no run was read
@@ -172,7 +172,7 @@ SoFar due.Runs d = Kept d.program d.version d.reports d.current d.run d.site d.m
 SoFar due.Nothing d = Kept d.program d.version d.reports None d.run d.site d.marks
 
 record Holds (due : Due) (d : Draft) (lines : List (List ℕ)) : Type 0 where
-  lines_are : lines ≡ map spaced (rows_at due d)
+  lines_are : lines ≡ map line_of_fields (rows_at due d)
   so_far : SoFar due d
 
 blank-kept : (program : ProgramId) (v : Version) (reports : List Report) (current : Option Report) (run site marks : ℕ) → IsId program → reports ≡ [] → current ≡ None → run ≡ 0 → marks ≡ 0 → Kept program v reports current run site marks
@@ -180,20 +180,20 @@ blank-kept program v reports current run site marks id none no_current zero_run 
     let first : Kept program v [] None 0 site 0 = record { is_id = id; are_all = tt; rising = tt; fits = refl; few = omega arith; marks_are = refl; few_marks = omega arith } in
     subst (λ xs. Kept program v xs current run site marks) (sym none) (subst (λ c. Kept program v [] c run site marks) (sym no_current) (subst (λ n. Kept program v [] None n site marks) (sym zero_run) (subst (λ n. Kept program v [] None 0 site n) (sym zero_marks) first)))
 
-run-step : (d : Draft) (lines : List (List ℕ)) (line : List ℕ) (x : RunLine) → Holds due.Runs d lines → IsRunLine d.version x → d.run ≤ x.run → length (whole d) < report_limit → line ≡ spaced (run_line_fields d.version x) → Holds due.Runs (record d { reports = whole d; current = Some (begun d.program x); run = x.run + 1; site = 0 }) (lines ++ line ∷ [])
+run-step : (d : Draft) (lines : List (List ℕ)) (line : List ℕ) (x : RunLine) → Holds due.Runs d lines → IsRunLine d.version x → d.run ≤ x.run → length (draft_reports d) < report_limit → line ≡ line_of_fields (run_line_fields d.version x) → Holds due.Runs (record d { reports = draft_reports d; current = Some (report_without_sites d.program x); run = x.run + 1; site = 0 }) (lines ++ line ∷ [])
 run-step d lines line x h is rises room line_is = record {
-  lines_are = row-more lines line (rows_at due.Runs d) (run_line_fields d.version x) h.lines_are line_is ∙ ap (λ rows. map spaced (start_rows d rows)) (sym (run-rows d.version d.program (whole d) x));
-  so_far = run-kept d.program d.version (whole d) d.run d.site d.marks x (closed-kept d.program d.version d.reports d.current d.run d.site d.marks h.so_far) is rises room;
+  lines_are = row-more lines line (rows_at due.Runs d) (run_line_fields d.version x) h.lines_are line_is ∙ ap (λ rows. map line_of_fields (start_rows d rows)) (sym (run-rows d.version d.program (draft_reports d) x));
+  so_far = run-kept d.program d.version (draft_reports d) d.run d.site d.marks x (closed-kept d.program d.version d.reports d.current d.run d.site d.marks h.so_far) is rises room;
 }
 
-site-step : (d : Draft) (lines : List (List ℕ)) (line : List ℕ) (r : Report) (e : Entry) → Holds due.Runs d lines → d.current ≡ Some r → IsNextEntry d.site e → d.marks < mark_limit → line ≡ spaced (site_fields e) → Holds due.Runs (record d { current = Some (with_entry r e); site = e.site + 1; marks = d.marks + 1 }) (lines ++ line ∷ [])
+site-step : (d : Draft) (lines : List (List ℕ)) (line : List ℕ) (r : Report) (e : Entry) → Holds due.Runs d lines → d.current ≡ Some r → IsNextEntry d.site e → d.marks < mark_limit → line ≡ line_of_fields (site_fields e) → Holds due.Runs (record d { current = Some (with_entry r e); site = e.site + 1; marks = d.marks + 1 }) (lines ++ line ∷ [])
 site-step d lines line r e h is next room line_is = record {
   lines_are = row-more lines line (rows_at due.Runs d) (site_fields e) h.lines_are line_is
-      ∙ ap (λ rows. map spaced (start_rows d rows)) (ap (λ c. flat_map (report_rows d.version) (d.reports ++ option_to_list c) ++ site_fields e ∷ []) is ∙ sym (site-rows d.version d.reports r e));
+      ∙ ap (λ rows. map line_of_fields (start_rows d rows)) (ap (λ c. flat_map (report_rows d.version) (d.reports ++ option_to_list c) ++ site_fields e ∷ []) is ∙ sym (site-rows d.version d.reports r e));
   so_far = site-kept d.program d.version d.reports r d.run d.site d.marks e (subst (λ c. Kept d.program d.version d.reports c d.run d.site d.marks) is h.so_far) next room;
 }
 
-end-step : (d : Draft) (lines : List (List ℕ)) (line : List ℕ) → Holds due.Runs d lines → line ≡ codes "end" → Holds due.Nothing (record (closed d) { due = due.Nothing }) (lines ++ line ∷ [])
+end-step : (d : Draft) (lines : List (List ℕ)) (line : List ℕ) → Holds due.Runs d lines → line ≡ codes "end" → Holds due.Nothing (record (current_report_closed d) { due = due.Nothing }) (lines ++ line ∷ [])
 end-step d lines line h line_is = record {
   lines_are = row-more lines line (rows_at due.Runs d) (codes "end" ∷ []) h.lines_are line_is;
   so_far = closed-kept d.program d.version d.reports d.current d.run d.site d.marks h.so_far;
@@ -210,11 +210,11 @@ step due.Program d is lines line after h s =
     let blank = h.so_far in
     subst (λ a. Holds a.due a (lines ++ line ∷ [])) (sym s.after_is) (record {
       lines_are = row-more lines line (rows_at due.Program d) (program_fields s.value) h.lines_are s.line_is
-          ∙ ap (λ xs. map spaced (bundle_title d.version ∷ program_fields s.value ∷ flat_map (report_rows d.version) xs)) (sym (ap (λ xs. xs ++ option_to_list d.current) blank.reports ∙ ap option_to_list blank.current));
+          ∙ ap (λ xs. map line_of_fields (bundle_title d.version ∷ program_fields s.value ∷ flat_map (report_rows d.version) xs)) (sym (ap (λ xs. xs ++ option_to_list d.current) blank.reports ∙ ap option_to_list blank.current));
       so_far = blank-kept s.value d.version d.reports d.current d.run d.site d.marks s.is_id blank.reports blank.current blank.run blank.marks;
     })
 step due.Runs d is lines line after h s =
-    ⊎_elim (λ (run : RunFollows d line after). subst (λ a. Holds a.due a (lines ++ line ∷ [])) (sym run.after_is) (subst (λ x. Holds x (record d { reports = whole d; current = Some (begun d.program run.value); run = run.value.run + 1; site = 0 }) (lines ++ line ∷ [])) (sym is) (run-step d lines line run.value h run.is_line run.rises run.room run.line_is)))
+    ⊎_elim (λ (run : RunFollows d line after). subst (λ a. Holds a.due a (lines ++ line ∷ [])) (sym run.after_is) (subst (λ x. Holds x (record d { reports = draft_reports d; current = Some (report_without_sites d.program run.value); run = run.value.run + 1; site = 0 }) (lines ++ line ∷ [])) (sym is) (run-step d lines line run.value h run.is_line run.rises run.room run.line_is)))
     (λ (other : RunSiteFollows d line after ⊎ EndFollows d line after). ⊎_elim (λ (site : RunSiteFollows d line after). subst (λ a. Holds a.due a (lines ++ line ∷ [])) (sym site.after_is) (subst (λ x. Holds x (record d { current = Some (with_entry site.report site.value); site = site.value.site + 1; marks = d.marks + 1 }) (lines ++ line ∷ [])) (sym is) (site-step d lines line site.report site.value h site.is_current site.is_next site.room site.line_is)))
     (λ (over : EndFollows d line after). subst (λ a. Holds a.due a (lines ++ line ∷ [])) (sym over.after_is) (end-step d lines line h over.line_is)) other) s
 step due.Nothing d is lines line after h s = absurd s
@@ -228,7 +228,7 @@ all-reports : (program : ProgramId) (v : Version) (reports : List Report) → Ar
 all-reports program v [] are = tt
 all-reports program v (r ∷ more) are = (are.0.is_report, all-reports program v more are.1)
 
-all-ours : (b : Bundle) (v : Version) (reports : List Report) → AreAll b.program v reports → AreOf b reports
+all-ours : (b : Bundle) (v : Version) (reports : List Report) → AreAll b.program v reports → AreOfBundle b reports
 all-ours b v [] are = tt
 all-ours b v (r ∷ more) are = (are.0.ours, all-ours b v more are.1)
 
@@ -247,7 +247,7 @@ kept-text b v run site marks k =
       few_marks = subst (λ xs. marks_of xs ≤ mark_limit) nil (subst (λ n. n ≤ mark_limit) k.marks_are k.few_marks);
     }
 
-spelled-as : (text : List ℕ) (v : Version) (b : Bundle) (run site marks : ℕ) → Kept b.program v b.reports None run site marks → text ≡ text_of (map spaced (bundle_rows v b)) → SpellsBundle text b
+spelled-as : (text : List ℕ) (v : Version) (b : Bundle) (run site marks : ℕ) → Kept b.program v b.reports None run site marks → text ≡ text_of (map line_of_fields (bundle_rows v b)) → SpellsBundle text b
 spelled-as text version.First b run site marks k text_is = Without (kept-text b version.First run site marks k) (all-plain b.program b.reports k.are_all) text_is
 spelled-as text version.Second b run site marks k text_is = WithLabels (kept-text b version.Second run site marks k) text_is
 

@@ -1,6 +1,6 @@
 -- Which line a line among the runs is, by how it begins.
 use Rattle.std.proofs.Common.{◌≡◌, ◌⊎◌, ℕ, ⊎_elim, List, codes, get_or, ap, arith}
-use Rattle.cbi_base.specs.Text.{spaced}
+use Rattle.cbi_base.specs.Text.{line_of_fields}
 use Rattle.report_file.specs.declared.draft.Version.{Version}
 use Rattle.report_file.specs.declared.draft.Version.TheVariants.{First, Second}
 use Rattle.report_file.specs.declared.report.Entry.{Entry}
@@ -10,11 +10,11 @@ use Rattle.report_file.specs.Spelling.{site_fields}
 use Rattle.collector.specs.declared.draft.Draft.{Draft}
 use Rattle.collector.specs.Grammar.{EndFollows, RunFollows, RunSiteFollows}
 
-pub run-begins : (v : Version) (x : RunLine) (line : List ℕ) → line ≡ spaced (run_line_fields v x) → get_or line 0 0 ≡ 114
+pub run-begins : (v : Version) (x : RunLine) (line : List ℕ) → line ≡ line_of_fields (run_line_fields v x) → get_or line 0 0 ≡ 114
 run-begins First x line is = ap (λ l. get_or l 0 0) is
 run-begins Second x line is = ap (λ l. get_or l 0 0) is
 
-pub site-begins : (e : Entry) (line : List ℕ) → line ≡ spaced (site_fields e) → get_or line 0 0 ≡ 115
+pub site-begins : (e : Entry) (line : List ℕ) → line ≡ line_of_fields (site_fields e) → get_or line 0 0 ≡ 115
 site-begins e line is = ap (λ l. get_or l 0 0) is
 
 pub end-begins : (line : List ℕ) → line ≡ codes "end" → get_or line 0 0 ≡ 101

@@ -11,10 +11,10 @@ use Rattle.cbi_base.specs.declared.identity.ProgramId.{ProgramId}
 use Rattle.report_file.specs.declared.report.Report.{Report}
 use Rattle.collector.specs.declared.collection.Bundle.{Bundle}
 use Rattle.collector.specs.declared.collection.Held.{Held}
-use Rattle.collector.specs.Collected.{IsOurs}
-use Rattle.collector.specs.Collecting.{AreOurs, IsCollection, bundle_of}
+use Rattle.collector.specs.Collected.{IsOfCollection}
+use Rattle.collector.specs.Collecting.{AreOfCollection, IsCollection, bundle_of}
 use Rattle.collector.specs.Kept.{AreHeld}
-use Rattle.collector.specs.Merging.{AreOf, AreReports}
+use Rattle.collector.specs.Merging.{AreOfBundle, AreReports}
 use Rattle.collector.specs.Order.{IsOneOfReports}
 use Rattle.collector.specs.Spelling.{SpellsBundle, WithLabels, collection_text}
 use Rattle.collector.proofs.Keeping.{reports_in}
@@ -48,13 +48,13 @@ pub held-reports : (program : ProgramId) (branches : List Bool) (entries : List 
 held-reports program branches [] are = tt
 held-reports program branches (e ∷ more) are = (are.0.is_report, held-reports program branches more are.1)
 
-pub held-ours : (c : Held) (entries : List (ℕ × Report)) → AreHeld c.program c.branches entries → AreOurs c (reports_in entries)
+pub held-ours : (c : Held) (entries : List (ℕ × Report)) → AreHeld c.program c.branches entries → AreOfCollection c (reports_in entries)
 held-ours c [] are = λ r is. absurd is
 held-ours c (e ∷ more) are = λ r is.
-    ⊎_elim (λ (same : r ≡ e.1). subst (IsOurs c) (sym same) (record { program = are.0.program_is; sites = are.0.sites })) (λ (other : IsOneOfReports r (reports_in more)). held-ours c more are.1 r other) is
+    ⊎_elim (λ (same : r ≡ e.1). subst (IsOfCollection c) (sym same) (record { program = are.0.program_is; sites = are.0.sites })) (λ (other : IsOneOfReports r (reports_in more)). held-ours c more are.1 r other) is
 
 -- a collection's reports are a bundle's
-are-of : (b : Bundle) (reports : List Report) → ((r : Report) → IsOneOfReports r reports → r.program ≡ b.program) → AreOf b reports
+are-of : (b : Bundle) (reports : List Report) → ((r : Report) → IsOneOfReports r reports → r.program ≡ b.program) → AreOfBundle b reports
 are-of b [] all = tt
 are-of b (r ∷ more) all = (all r (inl refl), are-of b more (λ x is. all x (inr is)))
 

@@ -5,7 +5,7 @@ use Rattle.std.specs.List.{AllByRecursion, flat_map}
 use Rattle.std.specs.Option.{option_to_list}
 use Rattle.std.proofs.lemmas.List.{append-nil, map-append}
 use Rattle.std.specs.Global.{Global}
-use Rattle.cbi_base.specs.Words.{LeadsTo, ReadsLines, spaced, text_of}
+use Rattle.cbi_base.specs.Words.{LeadsTo, ReadsLines, line_of_fields, text_of}
 use Rattle.cbi_base.specs.declared.identity.ProgramId.{ProgramId}
 use Rattle.report_file.specs.declared.draft.Version.{Version}
 use Rattle.report_file.specs.declared.draft.Version.TheVariants as version
@@ -22,8 +22,8 @@ use Rattle.collector.specs.declared.collection.Bundle.{Bundle}
 use Rattle.collector.specs.declared.draft.Draft.{Draft}
 use Rattle.collector.specs.declared.draft.Due.TheVariants as due
 use Rattle.collector.specs.Collected.{mark_limit, marks_of, report_limit}
-use Rattle.collector.specs.Grammar.{BundleEnds, BundleLineFollows, RunFollows, begun, bundle_start, closed}
-use Rattle.collector.specs.Merging.{AreOf, AreReports}
+use Rattle.collector.specs.Grammar.{BundleEnds, BundleLineFollows, RunFollows, report_without_sites, bundle_start, current_report_closed}
+use Rattle.collector.specs.Merging.{AreOfBundle, AreReports}
 use Rattle.collector.specs.Spelling.{HavePlainLabels, IsText, RunsFrom, SpellsBundle, WithLabels, Without, bundle_rows, bundle_title, report_rows}
 
 leads-append : (xs ys : List (List ℕ)) (a b c : Draft) → LeadsTo BundleLineFollows a xs b → LeadsTo BundleLineFollows b ys c → LeadsTo BundleLineFollows a (xs ++ ys) c
@@ -47,7 +47,7 @@ at alloc program v reports current run site marks = record {
 abbrev with_entries : Report → List Entry → Report
 with_entries r entries = record r { entries = entries }
 
-sites-lead : (alloc : Global) (program : ProgramId) (v : Version) (reports : List Report) (r : Report) (run : ℕ) (done more : List Entry) (site marks : ℕ) → AreEntries more → RiseFrom site more → marks + length more ≤ mark_limit → LeadsTo BundleLineFollows (at alloc program v reports (Some (with_entries r done)) run site marks) (map spaced (map site_fields more)) (at alloc program v reports (Some (with_entries r (done ++ more))) run (end_of site more) (marks + length more))
+sites-lead : (alloc : Global) (program : ProgramId) (v : Version) (reports : List Report) (r : Report) (run : ℕ) (done more : List Entry) (site marks : ℕ) → AreEntries more → RiseFrom site more → marks + length more ≤ mark_limit → LeadsTo BundleLineFollows (at alloc program v reports (Some (with_entries r done)) run site marks) (map line_of_fields (map site_fields more)) (at alloc program v reports (Some (with_entries r (done ++ more))) run (end_of site more) (marks + length more))
 sites-lead alloc program v reports r run done [] site marks are rise fits =
     let same : marks ≡ marks + length (let none : List Entry = [] in none) = omega arith in
     ap (λ es. at alloc program v reports (Some (with_entries r es)) run site marks) (sym (append-nil done)) ∙ ap (λ m. at alloc program v reports (Some (with_entries r (done ++ []))) run site m) same
@@ -64,8 +64,8 @@ sites-lead alloc program v reports r run done (e ∷ more) site marks are rise f
         line_is = refl;
         after_is = refl;
       })),
-      subst (λ m. LeadsTo BundleLineFollows (at alloc program v reports (Some (with_entries r (done ++ e ∷ []))) run (e.site + 1) (marks + 1)) (map spaced (map site_fields more)) (at alloc program v reports (Some (with_entries r (done ++ e ∷ more))) run (end_of (e.site + 1) more) m)) number
-          (subst (λ es. LeadsTo BundleLineFollows (at alloc program v reports (Some (with_entries r (done ++ e ∷ []))) run (e.site + 1) (marks + 1)) (map spaced (map site_fields more)) (at alloc program v reports (Some (with_entries r es)) run (end_of (e.site + 1) more) ((marks + 1) + length more))) (append_assoc done (e ∷ []) more) rest),
+      subst (λ m. LeadsTo BundleLineFollows (at alloc program v reports (Some (with_entries r (done ++ e ∷ []))) run (e.site + 1) (marks + 1)) (map line_of_fields (map site_fields more)) (at alloc program v reports (Some (with_entries r (done ++ e ∷ more))) run (end_of (e.site + 1) more) m)) number
+          (subst (λ es. LeadsTo BundleLineFollows (at alloc program v reports (Some (with_entries r (done ++ e ∷ []))) run (e.site + 1) (marks + 1)) (map line_of_fields (map site_fields more)) (at alloc program v reports (Some (with_entries r es)) run (end_of (e.site + 1) more) ((marks + 1) + length more))) (append_assoc done (e ∷ []) more) rest),
     )
 
 -- where the lines of reports lead: all of them are there
@@ -85,7 +85,7 @@ AllOf program (r ∷ more) = (r.program ≡ program) × AllOf program more
 pub is-run-line : (v : Version) (r : Report) → IsReport r → (v ≡ version.First → r.label ≡ label_of r.outcome true) → IsRunLine v (line_of r)
 is-run-line v r is plain = record { run = is.run; outcome = is.outcome; work = is.work; label = plain }
 
-reports-lead : (alloc : Global) (program : ProgramId) (v : Version) (reports : List Report) (current : Option Report) (run site marks : ℕ) (more : List Report) → AreReports more → AllOf program more → (v ≡ version.First → HavePlainLabels more) → RunsFrom run more → length (reports ++ option_to_list current) + length more ≤ report_limit → marks + marks_of more ≤ mark_limit → Arrives alloc program v (at alloc program v reports current run site marks) (map spaced (flat_map (report_rows v) more)) ((reports ++ option_to_list current) ++ more)
+reports-lead : (alloc : Global) (program : ProgramId) (v : Version) (reports : List Report) (current : Option Report) (run site marks : ℕ) (more : List Report) → AreReports more → AllOf program more → (v ≡ version.First → HavePlainLabels more) → RunsFrom run more → length (reports ++ option_to_list current) + length more ≤ report_limit → marks + marks_of more ≤ mark_limit → Arrives alloc program v (at alloc program v reports current run site marks) (map line_of_fields (flat_map (report_rows v) more)) ((reports ++ option_to_list current) ++ more)
 reports-lead alloc program v reports current run site marks [] are ours plain rise few fits = record {
   reports = reports;
   current = current;
@@ -98,25 +98,25 @@ reports-lead alloc program v reports current run site marks [] are ours plain ri
 reports-lead alloc program v reports current run site marks (r ∷ more) are ours plain rise few fits =
     let whole = reports ++ option_to_list current in
     let x = line_of r in
-    let read = with_entries (begun program x) r.entries in
+    let read = with_entries (report_without_sites program x) r.entries in
     let same : read ≡ r = ap (λ p. record r { program = p }) (sym ours.0) in
-    let first = at alloc program v whole (Some (begun program x)) (r.run + 1) 0 marks in
+    let first = at alloc program v whole (Some (report_without_sites program x)) (r.run + 1) 0 marks in
     let second = at alloc program v whole (Some read) (r.run + 1) (end_of 0 r.entries) (marks + length r.entries) in
-    let sites : LeadsTo BundleLineFollows first (map spaced (map site_fields r.entries)) second = sites-lead alloc program v whole (begun program x) (r.run + 1) [] r.entries 0 marks are.0.entries are.0.rising (omega arith) in
+    let sites : LeadsTo BundleLineFollows first (map line_of_fields (map site_fields r.entries)) second = sites-lead alloc program v whole (report_without_sites program x) (r.run + 1) [] r.entries 0 marks are.0.entries are.0.rising (omega arith) in
     let rest = reports-lead alloc program v whole (Some read) (r.run + 1) (end_of 0 r.entries) (marks + length r.entries) more are.1 ours.1 (λ e. (plain e).1) rise.1 (omega (arith, length-append {A = Report} whole (read ∷ []))) (omega arith) in
     let to = at alloc program v rest.reports rest.current rest.run rest.site rest.marks in
-    let line : RunFollows (at alloc program v reports current run site marks) (spaced (run_line_fields v x)) first = record { value = x; is_line = is-run-line v r are.0 (λ e. (plain e).0); rises = rise.0; room = omega arith; line_is = refl; after_is = refl } in
-    let behind = leads-append (map spaced (map site_fields r.entries)) (map spaced (flat_map (report_rows v) more)) first second to sites rest.leads in record {
+    let line : RunFollows (at alloc program v reports current run site marks) (line_of_fields (run_line_fields v x)) first = record { value = x; is_line = is-run-line v r are.0 (λ e. (plain e).0); rises = rise.0; room = omega arith; line_is = refl; after_is = refl } in
+    let behind = leads-append (map line_of_fields (map site_fields r.entries)) (map line_of_fields (flat_map (report_rows v) more)) first second to sites rest.leads in record {
       reports = rest.reports;
       current = rest.current;
       run = rest.run;
       site = rest.site;
       marks = rest.marks;
-      leads = (first, inl line, subst (λ lines. LeadsTo BundleLineFollows first lines to) (sym (map-append spaced (map site_fields r.entries) (flat_map (report_rows v) more))) behind);
+      leads = (first, inl line, subst (λ lines. LeadsTo BundleLineFollows first lines to) (sym (map-append line_of_fields (map site_fields r.entries) (flat_map (report_rows v) more))) behind);
       whole_is = rest.whole_is ∙ append_assoc whole (read ∷ []) more ∙ ap (λ y. whole ++ y ∷ more) same;
     }
 
-all-of : (b : Bundle) (reports : List Report) → AreOf b reports → AllOf b.program reports
+all-of : (b : Bundle) (reports : List Report) → AreOfBundle b reports → AllOf b.program reports
 all-of b [] are = tt
 all-of b (r ∷ more) are = (are.0, all-of b more are.1)
 
@@ -144,20 +144,20 @@ pub record IsRead (alloc : Global) (text : List ℕ) (b : Bundle) : Type 0 where
   pub program_is : to.program ≡ b.program
   pub reports_are : to.reports ≡ b.reports
 
-text-reads : (alloc : Global) (v : Version) (text : List ℕ) (b : Bundle) → IsText b → (v ≡ version.First → HavePlainLabels b.reports) → text ≡ text_of (map spaced (bundle_rows v b)) → IsRead alloc text b
+text-reads : (alloc : Global) (v : Version) (text : List ℕ) (b : Bundle) → IsText b → (v ≡ version.First → HavePlainLabels b.reports) → text ≡ text_of (map line_of_fields (bundle_rows v b)) → IsRead alloc text b
 text-reads alloc v text b is plain text_is =
     let s1 : Draft = record (bundle_start alloc) { due = due.Program; version = v } in
     let s2 = at alloc b.program v [] None 0 0 0 in
     let all = reports-lead alloc b.program v [] None 0 0 0 b.reports is.reports (all-of b b.reports is.ours) plain is.rising (omega (arith, is.few)) (omega (arith, is.few_marks)) in
     let s3 = at alloc b.program v all.reports all.current all.run all.site all.marks in
-    let to : Draft = record (closed s3) { due = due.Nothing } in
+    let to : Draft = record (current_report_closed s3) { due = due.Nothing } in
     let end_row : List (List ℕ) = codes "end" ∷ [] in
     let rows = flat_map (report_rows v) b.reports in
-    let last : LeadsTo BundleLineFollows s3 (map spaced (end_row ∷ [])) to = (to, inr (inr (record { line_is = refl; after_is = refl })), refl) in
-    let body : LeadsTo BundleLineFollows s2 (map spaced (rows ++ end_row ∷ [])) to = subst (λ lines. LeadsTo BundleLineFollows s2 lines to) (sym (map-append spaced rows (end_row ∷ []))) (leads-append (map spaced rows) (map spaced (end_row ∷ [])) s2 s3 to all.leads last) in record {
+    let last : LeadsTo BundleLineFollows s3 (map line_of_fields (end_row ∷ [])) to = (to, inr (inr (record { line_is = refl; after_is = refl })), refl) in
+    let body : LeadsTo BundleLineFollows s2 (map line_of_fields (rows ++ end_row ∷ [])) to = subst (λ lines. LeadsTo BundleLineFollows s2 lines to) (sym (map-append line_of_fields rows (end_row ∷ []))) (leads-append (map line_of_fields rows) (map line_of_fields (end_row ∷ [])) s2 s3 to all.leads last) in record {
       to = to;
       reads = record {
-        lines = map spaced (bundle_rows v b);
+        lines = map line_of_fields (bundle_rows v b);
         text_is = text_is;
         are_lines = rows-lines (bundle_rows v b) (title-row v, (row-program b.program is.program, rows-append rows (end_row ∷ []) (report-rows v b.reports is.reports plain) ((refl, tt), tt)));
         leads = (s1, record { value = v; line_is = refl; after_is = refl }, (s2, record { value = b.program; is_id = is.program; line_is = refl; after_is = refl }, body));

@@ -2,12 +2,11 @@
 use Rattle.std.proofs.Common.{◌≡◌, ◌≢◌, ◌<◌, ◌≤◌, ℕ, Bool, true, false, cond, ◌==◌, inl, inr, ⊎_elim, List, [], ◌∷◌, None, Some, ap, sym, subst, ◌∙◌, refl, arith}
 use Rattle.std.specs.Prelude.{nat_lt, option_map}
 use Rattle.std.proofs.lemmas.Bool.{eqb-true, ltb-true}
-use Rattle.std.proofs.lemmas.Bool.Decides.{nat_tests}
 use Rattle.base_lists.proofs.Options.{none_some, some_is}
 use Rattle.base_lists.proofs.Numbers.{not_less, number_itself, other_number}
 use Rattle.report_file.specs.declared.label.Label.{Label}
 use Rattle.report_file.specs.declared.report.Report.{Report}
-use Rattle.collector.specs.Collected.{next_after, relabelled, report_at, with_report, without_report}
+use Rattle.collector.specs.Collected.{next_after, report_relabelled, report_at, with_report, without_report}
 use Rattle.collector.specs.Order.{IsOneOfReports}
 use Rattle.collector.proofs.Ordering.{AreAbove, AreRising, above-member, with_by}
 
@@ -57,21 +56,21 @@ at-without-other run gone (x ∷ more) other = stays-tests (gone == x.run) run g
 abbrev pub labelled : Label → Report → Report
 labelled label r = record r { label = label }
 
-label-tests : (b : Bool) (run : ℕ) (label : Label) (x : Report) (more : List Report) → (run == x.run) ≡ b → report_at run (relabelled run label more) ≡ option_map (labelled label) (report_at run more) → report_at run (cond b (labelled label x ∷ more) (x ∷ relabelled run label more)) ≡ option_map (labelled label) (cond b (Some x) (report_at run more))
+label-tests : (b : Bool) (run : ℕ) (label : Label) (x : Report) (more : List Report) → (run == x.run) ≡ b → report_at run (report_relabelled run label more) ≡ option_map (labelled label) (report_at run more) → report_at run (cond b (labelled label x ∷ more) (x ∷ report_relabelled run label more)) ≡ option_map (labelled label) (cond b (Some x) (report_at run more))
 label-tests true run label x more test rest = ap (λ b. cond b (Some (labelled label x)) (report_at run more)) test
-label-tests false run label x more test rest = ap (λ b. cond b (Some x) (report_at run (relabelled run label more))) test ∙ rest
+label-tests false run label x more test rest = ap (λ b. cond b (Some x) (report_at run (report_relabelled run label more))) test ∙ rest
 
-pub at-relabelled : (run : ℕ) (label : Label) (reports : List Report) → report_at run (relabelled run label reports) ≡ option_map (labelled label) (report_at run reports)
+pub at-relabelled : (run : ℕ) (label : Label) (reports : List Report) → report_at run (report_relabelled run label reports) ≡ option_map (labelled label) (report_at run reports)
 at-relabelled run label [] = refl
 at-relabelled run label (x ∷ more) = label-tests (run == x.run) run label x more refl (at-relabelled run label more)
 
-keeps-tests : (b : Bool) (run other : ℕ) (label : Label) (x : Report) (more : List Report) → (other == x.run) ≡ b → run ≢ other → report_at run (relabelled other label more) ≡ report_at run more → report_at run (cond b (labelled label x ∷ more) (x ∷ relabelled other label more)) ≡ report_at run (x ∷ more)
+keeps-tests : (b : Bool) (run other : ℕ) (label : Label) (x : Report) (more : List Report) → (other == x.run) ≡ b → run ≢ other → report_at run (report_relabelled other label more) ≡ report_at run more → report_at run (cond b (labelled label x ∷ more) (x ∷ report_relabelled other label more)) ≡ report_at run (x ∷ more)
 keeps-tests true run other label x more test apart rest =
     let here = other_number run x.run (λ e. apart (e ∙ sym (eqb-true other x.run test))) in
     ap (λ b. cond b (Some (labelled label x)) (report_at run more)) here ∙ ap (λ b. cond b (Some x) (report_at run more)) (sym here)
 keeps-tests false run other label x more test apart rest = ap (λ o. cond (run == x.run) (Some x) o) rest
 
-pub at-relabelled-other : (run other : ℕ) (label : Label) (reports : List Report) → run ≢ other → report_at run (relabelled other label reports) ≡ report_at run reports
+pub at-relabelled-other : (run other : ℕ) (label : Label) (reports : List Report) → run ≢ other → report_at run (report_relabelled other label reports) ≡ report_at run reports
 at-relabelled-other run other label [] apart = refl
 at-relabelled-other run other label (x ∷ more) apart = keeps-tests (other == x.run) run other label x more refl apart (at-relabelled-other run other label more apart)
 

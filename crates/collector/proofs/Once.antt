@@ -2,7 +2,7 @@
 use Rattle.std.proofs.Common.{◌≡◌, ◌⊎◌, ◌+◌, ℕ, ⊎_elim, List, [], ◌∷◌, ◌++◌, Some, codes, get_or, ap, sym, ◌∙◌, refl, arith}
 use Rattle.std.specs.Global.{Global}
 use Rattle.base_lists.proofs.Options.{some_is}
-use Rattle.cbi_base.specs.Words.{LeadsOnce, IsId, fields_of, spaced}
+use Rattle.cbi_base.specs.Words.{LeadsOnce, fields_of, line_of_fields}
 use Rattle.cbi_base.specs.declared.identity.ProgramId.{ProgramId}
 use Rattle.cbi_base.proofs.LineLemmas.{reads-once}
 use Rattle.report_file.specs.declared.draft.Draft as report
@@ -16,33 +16,33 @@ use Rattle.report_file.specs.Fields.{entry_of_fields}
 use Rattle.report_file.specs.Grammar as report_grammar
 use Rattle.report_file.specs.Report.{IsEntry}
 use Rattle.report_file.specs.RunLine.{IsRunLine, first_run_line, run_line_fields, second_of}
-use Rattle.report_file.specs.Spelling.{program_fields, site_fields}
+use Rattle.report_file.specs.Spelling.{site_fields}
 use Rattle.report_file.proofs.LineLemmas.{entry-reads}
-use Rattle.report_file.proofs.Once.{leads-once as report-leads-once, once, id-once}
+use Rattle.report_file.proofs.Once.{once, id-once}
 use Rattle.report_file.proofs.RunLines.{first-reads, second-reads}
 use Rattle.collector.specs.declared.collection.Bundle.{Bundle}
 use Rattle.collector.specs.declared.draft.Draft.{Draft}
 use Rattle.collector.specs.declared.draft.Due.{Due}
 use Rattle.collector.specs.declared.draft.Due.TheVariants as due
-use Rattle.collector.specs.Grammar.{BundleEnds, BundleLineComes, BundleLineFollows, EndFollows, RunFollows, RunSiteFollows, begun, bundle_start, whole}
+use Rattle.collector.specs.Grammar.{BundleEnds, BundleLineComes, BundleLineFollows, EndFollows, RunFollows, RunSiteFollows, report_without_sites, bundle_start, draft_reports}
 use Rattle.collector.specs.Spelling.{SpellsBundle, bundle_title}
 use Rattle.collector.proofs.Choices.{end-begins, only-end, only-run, only-site, run-begins, site-begins}
 use Rattle.collector.proofs.Leads.{spelled-reads}
 
-title-once : (line : List ℕ) (x y : Version) → line ≡ spaced (bundle_title x) → line ≡ spaced (bundle_title y) → x ≡ y
+title-once : (line : List ℕ) (x y : Version) → line ≡ line_of_fields (bundle_title x) → line ≡ line_of_fields (bundle_title y) → x ≡ y
 title-once line version.First version.First is_x is_y = refl
 title-once line version.Second version.Second is_x is_y = refl
 title-once line version.First version.Second is_x is_y = let e = ap (λ l. get_or l 15 0) (sym is_x ∙ is_y) in absurd (omega arith)
 title-once line version.Second version.First is_x is_y = let e = ap (λ l. get_or l 15 0) (sym is_x ∙ is_y) in absurd (omega arith)
 
-line-once : (v : Version) (line : List ℕ) (x y : RunLine) → IsRunLine v x → IsRunLine v y → line ≡ spaced (run_line_fields v x) → line ≡ spaced (run_line_fields v y) → x ≡ y
+line-once : (v : Version) (line : List ℕ) (x y : RunLine) → IsRunLine v x → IsRunLine v y → line ≡ line_of_fields (run_line_fields v x) → line ≡ line_of_fields (run_line_fields v y) → x ≡ y
 line-once version.First line x y is_x is_y line_x line_y = once (run_line_fields version.First) (IsRunLine version.First) line (first_run_line (fields_of line)) (first-reads line (first_run_line (fields_of line)) refl) x y is_x is_y line_x line_y
 line-once version.Second line x y is_x is_y line_x line_y = once (run_line_fields version.Second) (IsRunLine version.Second) line (second_of (fields_of line)) (second-reads line (second_of (fields_of line)) refl) x y is_x is_y line_x line_y
 
 run-same : (d : Draft) (line : List ℕ) (a b : Draft) → RunFollows d line a → RunFollows d line b → a ≡ b
 run-same d line a b s t =
     s.after_is
-    ∙ ap (λ (x : RunLine). record d { reports = whole d; current = Some (begun d.program x); run = x.run + 1; site = 0 }) (line-once d.version line s.value t.value s.is_line t.is_line s.line_is t.line_is)
+    ∙ ap (λ (x : RunLine). record d { reports = draft_reports d; current = Some (report_without_sites d.program x); run = x.run + 1; site = 0 }) (line-once d.version line s.value t.value s.is_line t.is_line s.line_is t.line_is)
     ∙ sym t.after_is
 
 site-same : (d : Draft) (line : List ℕ) (a b : Draft) → RunSiteFollows d line a → RunSiteFollows d line b → a ≡ b
@@ -54,7 +54,7 @@ site-same d line a b s t =
     ∙ ap (λ (r : Report). record d { current = Some (record r { entries = r.entries ++ t.value ∷ [] }); site = t.value.site + 1; marks = d.marks + 1 }) current
     ∙ sym t.after_is
 
-site-alone : (line : List ℕ) (e : Entry) → line ≡ spaced (site_fields e) → (get_or line 0 0 ≡ 114 → ⊥) × (line ≡ codes "end" → ⊥)
+site-alone : (line : List ℕ) (e : Entry) → line ≡ line_of_fields (site_fields e) → (get_or line 0 0 ≡ 114 → ⊥) × (line ≡ codes "end" → ⊥)
 site-alone line e is =
     let first = site-begins e line is in (λ r. omega arith, λ over. let other = end-begins line over in omega arith)
 

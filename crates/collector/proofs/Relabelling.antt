@@ -7,7 +7,7 @@ use Rattle.base_lists.proofs.Options.{none_some, some_is}
 use Rattle.cbi_base.specs.declared.identity.ProgramId.{ProgramId}
 use Rattle.report_file.specs.declared.label.Label.{Label}
 use Rattle.report_file.specs.declared.report.Report.{Report}
-use Rattle.collector.specs.Collected.{marks_of, relabelled, report_at}
+use Rattle.collector.specs.Collected.{marks_of, report_relabelled, report_at}
 use Rattle.collector.specs.Kept.{AreHeld, IsHeldReport}
 use Rattle.collector.proofs.Keeping.{is_eq-nat_cmp, reports_in}
 
@@ -18,11 +18,11 @@ set-tests : (b : Bool) (e : ℕ × Report) (w : Report) (more rest : List (ℕ �
 set-tests true e w more rest = refl
 set-tests false e w more rest = refl
 
-label-tests : (b : Bool) (run : ℕ) (label : Label) (r x : Report) (more : List Report) (rest : List Report) → cond b (Some x) (report_at run more) ≡ Some r → (report_at run more ≡ Some r → rest ≡ relabelled run label more) → cond b (with_label label r ∷ more) (x ∷ rest) ≡ cond b (with_label label x ∷ more) (x ∷ relabelled run label more)
+label-tests : (b : Bool) (run : ℕ) (label : Label) (r x : Report) (more : List Report) (rest : List Report) → cond b (Some x) (report_at run more) ≡ Some r → (report_at run more ≡ Some r → rest ≡ report_relabelled run label more) → cond b (with_label label r ∷ more) (x ∷ rest) ≡ cond b (with_label label x ∷ more) (x ∷ report_relabelled run label more)
 label-tests true run label r x more rest found others = ap (λ y. with_label label y ∷ more) (sym (some_is found))
 label-tests false run label r x more rest found others = ap (λ ys. x ∷ ys) (others found)
 
-pub values-set : (program : ProgramId) (branches : List Bool) (run : ℕ) (label : Label) (r : Report) (entries : List (ℕ × Report)) → AreHeld program branches entries → report_at run (reports_in entries) ≡ Some r → reports_in (set_value (is_at (nat_cmp run)) entries (with_label label r)) ≡ relabelled run label (reports_in entries)
+pub values-set : (program : ProgramId) (branches : List Bool) (run : ℕ) (label : Label) (r : Report) (entries : List (ℕ × Report)) → AreHeld program branches entries → report_at run (reports_in entries) ≡ Some r → reports_in (set_value (is_at (nat_cmp run)) entries (with_label label r)) ≡ report_relabelled run label (reports_in entries)
 values-set program branches run label r [] are found = refl
 values-set program branches run label r (e ∷ more) are found =
     set-tests (is_eq (nat_cmp run e.0)) e (with_label label r) more (set_value (is_at (nat_cmp run)) more (with_label label r))
@@ -57,20 +57,20 @@ held-set program branches run label r [] are found = tt
 held-set program branches run label r (e ∷ more) are found =
     set-held-tests (is_eq (nat_cmp run e.0)) (run == e.1.run) program branches run label r e more (set_value (is_at (nat_cmp run)) more (with_label label r)) (is_eq-nat_cmp run e.0 ∙ ap (λ k. run == k) are.0.run_is) found are.0 are.1 (held-set program branches run label r more are.1)
 
-marks-tests : (b : Bool) (run : ℕ) (label : Label) (x : Report) (more : List Report) → marks_of (relabelled run label more) ≡ marks_of more → marks_of (cond b (with_label label x ∷ more) (x ∷ relabelled run label more)) ≡ marks_of (x ∷ more)
+marks-tests : (b : Bool) (run : ℕ) (label : Label) (x : Report) (more : List Report) → marks_of (report_relabelled run label more) ≡ marks_of more → marks_of (cond b (with_label label x ∷ more) (x ∷ report_relabelled run label more)) ≡ marks_of (x ∷ more)
 marks-tests true run label x more rest = refl
 marks-tests false run label x more rest = ap (λ n. length x.entries + n) rest
 
 -- another label leaves the entries
-pub marks-relabelled : (run : ℕ) (label : Label) (reports : List Report) → marks_of (relabelled run label reports) ≡ marks_of reports
+pub marks-relabelled : (run : ℕ) (label : Label) (reports : List Report) → marks_of (report_relabelled run label reports) ≡ marks_of reports
 marks-relabelled run label [] = refl
 marks-relabelled run label (x ∷ more) = marks-tests (run == x.run) run label x more (marks-relabelled run label more)
 
-none-tests : (b : Bool) (run : ℕ) (label : Label) (x : Report) (more : List Report) → cond b (Some x) (report_at run more) ≡ None → (report_at run more ≡ None → relabelled run label more ≡ more) → cond b (with_label label x ∷ more) (x ∷ relabelled run label more) ≡ x ∷ more
+none-tests : (b : Bool) (run : ℕ) (label : Label) (x : Report) (more : List Report) → cond b (Some x) (report_at run more) ≡ None → (report_at run more ≡ None → report_relabelled run label more ≡ more) → cond b (with_label label x ∷ more) (x ∷ report_relabelled run label more) ≡ x ∷ more
 none-tests true run label x more none rest = absurd (none_some (sym none))
 none-tests false run label x more none rest = ap (λ ys. x ∷ ys) (rest none)
 
 -- where the run isn't there nothing changes
-pub relabelled-none : (run : ℕ) (label : Label) (reports : List Report) → report_at run reports ≡ None → relabelled run label reports ≡ reports
+pub relabelled-none : (run : ℕ) (label : Label) (reports : List Report) → report_at run reports ≡ None → report_relabelled run label reports ≡ reports
 relabelled-none run label [] none = refl
 relabelled-none run label (x ∷ more) none = none-tests (run == x.run) run label x more none (relabelled-none run label more)

@@ -1,10 +1,10 @@
 -- What the lines of a run in a text are read as.
-use Rattle.std.proofs.Common.{◌≡◌, ◌+◌, ◌-◌, ◌<◌, ◌≤◌, ℕ, List, [], ◌∷◌, ◌++◌, length, take, drop, Option, None, Some, ap, sym, subst, ◌∙◌, refl, append_assoc, length-append, length-drop, arith}
+use Rattle.std.proofs.Common.{◌≡◌, ◌+◌, ◌-◌, ◌<◌, ◌≤◌, ℕ, List, [], ◌∷◌, ◌++◌, length, drop, Option, None, Some, ap, sym, subst, ◌∙◌, refl, append_assoc, length-append, length-drop, arith}
 use Rattle.std.specs.Prelude.{map}
-use Rattle.std.proofs.lemmas.List.{append-nil, map-append, take_all}
+use Rattle.std.proofs.lemmas.List.{append-nil, map-append}
 use Rattle.std.proofs.lemmas.Grind.{common_steps, flat_map-append}
 use Rattle.base_lists.proofs.Options.{none_some, some_is}
-use Rattle.cbi_base.specs.Words.{IsId, Lacks, ended, fields_of, is_newline, spaced, text_of}
+use Rattle.cbi_base.specs.Words.{IsId, Lacks, line_with_newline, fields_of, is_newline, line_of_fields, text_of}
 use Rattle.cbi_base.specs.declared.identity.ProgramId.{ProgramId}
 use Rattle.cbi_base.proofs.LineLemmas.{same-line}
 use Rattle.report_file.specs.declared.draft.Version.TheVariants as version
@@ -25,16 +25,16 @@ use Rattle.collector.specs.RunText.{IsRunAt, ReportStands, RunStands, SiteStands
 use Rattle.collector.proofs.Leads.{is-run-line}
 
 abbrev run_spelled : RunLine → List ℕ
-run_spelled x = spaced (run_line_fields version.Second x)
+run_spelled x = line_of_fields (run_line_fields version.Second x)
 
 run-lacks : (x : RunLine) → IsRunLine version.Second x → Lacks is_newline (run_spelled x)
 run-lacks x is = (rows-lines (run_line_fields version.Second x ∷ []) (run-row version.Second x is, tt)).0
 
-site-lacks : (e : Entry) → IsEntry e → Lacks is_newline (spaced (site_fields e))
+site-lacks : (e : Entry) → IsEntry e → Lacks is_newline (line_of_fields (site_fields e))
 site-lacks e is = (rows-lines (site_fields e ∷ []) (row-site e is, tt)).0
 
 -- bytes that are cut at their first newline, and begin with a line
-cut-line : (bytes line rest want more : List ℕ) → bytes ≡ line ++ 10 ∷ rest → Lacks is_newline line → Lacks is_newline want → bytes ≡ ended want ++ more → (line ≡ want) × (rest ≡ more)
+cut-line : (bytes line rest want more : List ℕ) → bytes ≡ line ++ 10 ∷ rest → Lacks is_newline line → Lacks is_newline want → bytes ≡ line_with_newline want ++ more → (line ≡ want) × (rest ≡ more)
 cut-line bytes line rest want more is lacks lacks_want goes =
     same-line line want rest more lacks lacks_want (sym is ∙ goes ∙ append_assoc want (10 ∷ []) more)
 
@@ -45,21 +45,21 @@ no-run bytes line rest answer is lacks reads none x more stands =
 
 pub no-site : (bytes line rest : List ℕ) (site : ℕ) (answer : Option Entry) → bytes ≡ line ++ 10 ∷ rest → Lacks is_newline line → Reads site_fields IsEntry line answer → answer ≡ None → (e : Entry) (more : List ℕ) → SiteStands bytes site e more → ⊥
 no-site bytes line rest site answer is lacks reads none e more stands =
-    let cut = cut-line bytes line rest (spaced (site_fields e)) more is lacks (site-lacks e stands.is_next.is_entry) stands.text_is in
+    let cut = cut-line bytes line rest (line_of_fields (site_fields e)) more is lacks (site-lacks e stands.is_next.is_entry) stands.text_is in
     none_some (sym none ∙ reads.only e stands.is_next.is_entry cut.0)
 
 pub no-later-site : (bytes line rest : List ℕ) (site : ℕ) (answer : Option Entry) (found : Entry) → bytes ≡ line ++ 10 ∷ rest → Lacks is_newline line → Reads site_fields IsEntry line answer → answer ≡ Some found → found.site < site → (e : Entry) (more : List ℕ) → SiteStands bytes site e more → ⊥
 no-later-site bytes line rest site answer found is lacks reads some less e more stands =
-    let cut = cut-line bytes line rest (spaced (site_fields e)) more is lacks (site-lacks e stands.is_next.is_entry) stands.text_is in
+    let cut = cut-line bytes line rest (line_of_fields (site_fields e)) more is lacks (site-lacks e stands.is_next.is_entry) stands.text_is in
     let same : found ≡ e = some_is (sym some ∙ reads.only e stands.is_next.is_entry cut.0) in
     let number = ap (λ (x : Entry). x.site) same in
     omega (arith, stands.is_next.rises)
 
 -- a line at the front of bytes is the line of one site, or of one run
-site-next : (x y : Entry) (a b : List ℕ) → IsEntry x → IsEntry y → ended (spaced (site_fields x)) ++ a ≡ ended (spaced (site_fields y)) ++ b → (x ≡ y) × (a ≡ b)
+site-next : (x y : Entry) (a b : List ℕ) → IsEntry x → IsEntry y → line_with_newline (line_of_fields (site_fields x)) ++ a ≡ line_with_newline (line_of_fields (site_fields y)) ++ b → (x ≡ y) × (a ≡ b)
 site-next x y a b is_x is_y is =
-    let line = spaced (site_fields x) in
-    let cut = cut-line (ended line ++ a) line a (spaced (site_fields y)) b (append_assoc line (10 ∷ []) a) (site-lacks x is_x) (site-lacks y is_y) is in
+    let line = line_of_fields (site_fields x) in
+    let cut = cut-line (line_with_newline line ++ a) line a (line_of_fields (site_fields y)) b (append_assoc line (10 ∷ []) a) (site-lacks x is_x) (site-lacks y is_y) is in
     (once site_fields IsEntry line (entry_of_fields (fields_of line)) (entry-reads line (entry_of_fields (fields_of line)) refl) x y is_x is_y refl cut.0, cut.1)
 
 run-once : (bytes : List ℕ) (x y : RunLine) (a b : List ℕ) → RunStands bytes x a → RunStands bytes y b → (x ≡ y) × (a ≡ b)
@@ -74,9 +74,9 @@ pub entries-longest : (site : ℕ) (xs ys : List Entry) (a b : List ℕ) → Are
 entries-longest site [] [] a b are_x are_y rise is stops = omega arith
 entries-longest site (x ∷ xs) [] a b are_x are_y rise is stops = omega arith
 entries-longest site [] (y ∷ ys) a b are_x are_y rise is stops =
-    absurd (stops y (sites_text ys ++ b) (record { is_next = record { is_entry = are_y.0; rises = rise.0 }; text_is = is ∙ append_assoc (ended (spaced (site_fields y))) (sites_text ys) b }))
+    absurd (stops y (sites_text ys ++ b) (record { is_next = record { is_entry = are_y.0; rises = rise.0 }; text_is = is ∙ append_assoc (line_with_newline (line_of_fields (site_fields y))) (sites_text ys) b }))
 entries-longest site (x ∷ xs) (y ∷ ys) a b are_x are_y rise is stops =
-    let one = site-next x y (sites_text xs ++ a) (sites_text ys ++ b) are_x.0 are_y.0 (sym (append_assoc (ended (spaced (site_fields x))) (sites_text xs) a) ∙ is ∙ append_assoc (ended (spaced (site_fields y))) (sites_text ys) b) in
+    let one = site-next x y (sites_text xs ++ a) (sites_text ys ++ b) are_x.0 are_y.0 (sym (append_assoc (line_with_newline (line_of_fields (site_fields x))) (sites_text xs) a) ∙ is ∙ append_assoc (line_with_newline (line_of_fields (site_fields y))) (sites_text ys) b) in
     let rising : RiseFrom (x.site + 1) ys = subst (λ (z : Entry). RiseFrom (z.site + 1) ys) (sym one.0) rise.1 in
     let rest = entries-longest (x.site + 1) xs ys a b are_x.1 are_y.1 rising one.1 stops in
     omega (arith, rest)
@@ -87,28 +87,28 @@ entries-same [] [] a b are_x are_y is long = refl
 entries-same (x ∷ xs) [] a b are_x are_y is long = absurd (omega arith)
 entries-same [] (y ∷ ys) a b are_x are_y is long = absurd (omega arith)
 entries-same (x ∷ xs) (y ∷ ys) a b are_x are_y is long =
-    let one = site-next x y (sites_text xs ++ a) (sites_text ys ++ b) are_x.0 are_y.0 (sym (append_assoc (ended (spaced (site_fields x))) (sites_text xs) a) ∙ is ∙ append_assoc (ended (spaced (site_fields y))) (sites_text ys) b) in
+    let one = site-next x y (sites_text xs ++ a) (sites_text ys ++ b) are_x.0 are_y.0 (sym (append_assoc (line_with_newline (line_of_fields (site_fields x))) (sites_text xs) a) ∙ is ∙ append_assoc (line_with_newline (line_of_fields (site_fields y))) (sites_text ys) b) in
     let rest = entries-same xs ys a b are_x.1 are_y.1 one.1 (omega arith) in
     ap (λ e. e ∷ xs) one.0 ∙ ap (λ es. y ∷ es) rest
 
 -- one line more
-pub sites-more : (bytes : List ℕ) (es : List Entry) (rest after : List ℕ) (e : Entry) → bytes ≡ sites_text es ++ rest → rest ≡ ended (spaced (site_fields e)) ++ after → bytes ≡ sites_text (es ++ e ∷ []) ++ after
+pub sites-more : (bytes : List ℕ) (es : List Entry) (rest after : List ℕ) (e : Entry) → bytes ≡ sites_text es ++ rest → rest ≡ line_with_newline (line_of_fields (site_fields e)) ++ after → bytes ≡ sites_text (es ++ e ∷ []) ++ after
 sites-more bytes es rest after e is goes =
-    let line = ended (spaced (site_fields e)) in
-    let rows : map spaced (map site_fields (es ++ e ∷ [])) ≡ map spaced (map site_fields es) ++ spaced (site_fields e) ∷ [] = ap (λ rows. map spaced rows) (map-append site_fields es (e ∷ [])) ∙ map-append spaced (map site_fields es) (site_fields e ∷ []) in
-    let text : sites_text (es ++ e ∷ []) ≡ sites_text es ++ line = ap text_of rows ∙ flat_map-append ended (map spaced (map site_fields es)) (spaced (site_fields e) ∷ []) ∙ ap (λ l. sites_text es ++ l) (append-nil line) in
+    let line = line_with_newline (line_of_fields (site_fields e)) in
+    let rows : map line_of_fields (map site_fields (es ++ e ∷ [])) ≡ map line_of_fields (map site_fields es) ++ line_of_fields (site_fields e) ∷ [] = ap (λ rows. map line_of_fields rows) (map-append site_fields es (e ∷ [])) ∙ map-append line_of_fields (map site_fields es) (site_fields e ∷ []) in
+    let text : sites_text (es ++ e ∷ []) ≡ sites_text es ++ line = ap text_of rows ∙ flat_map-append line_with_newline (map line_of_fields (map site_fields es)) (line_of_fields (site_fields e) ∷ []) ∙ ap (λ l. sites_text es ++ l) (append-nil line) in
     is ∙ ap (λ r. sites_text es ++ r) goes ∙ sym (append_assoc (sites_text es) line after) ∙ ap (λ t. t ++ after) (sym text)
 
-pub shorter : (rest line after : List ℕ) → rest ≡ ended line ++ after → length after < length rest
+pub shorter : (rest line after : List ℕ) → rest ≡ line_with_newline line ++ after → length after < length rest
 shorter rest line after is =
     let whole = ap (λ (l : List ℕ). length l) is in
-    omega (arith, length-append (ended line) after, length-append line (10 ∷ []))
+    omega (arith, length-append (line_with_newline line) after, length-append line (10 ∷ []))
 
 -- the lines of a report begin with its run's line
 pub stands-run : (program : ProgramId) (bytes : List ℕ) (from : ℕ) (text : RunText) → ReportStands program bytes from text → RunStands (drop from bytes) (line_of text.report) (sites_text text.report.entries ++ drop text.end bytes)
 stands-run program bytes from text s = record {
   is_line = is-run-line version.Second text.report s.is_report (λ e. absurd (second-not-first e));
-  text_is = s.text_is ∙ append_assoc (ended (run_spelled (line_of text.report))) (sites_text text.report.entries) (drop text.end bytes);
+  text_is = s.text_is ∙ append_assoc (line_with_newline (run_spelled (line_of text.report))) (sites_text text.report.entries) (drop text.end bytes);
 }
 
 -- no longer list of sites stands behind the run's line
@@ -164,7 +164,7 @@ behind bytes from front rest h is =
 pub made-run : (program : ProgramId) (bytes : List ℕ) (from : ℕ) (x : RunLine) (rest left : List ℕ) (entries : List Entry) → IsId program → from ≤ length bytes → RunStands (drop from bytes) x rest → AreEntries entries → RiseFrom 0 entries → rest ≡ sites_text entries ++ left → ((es : List Entry) → SitesStand rest es → length es ≤ length entries) → IsRunAt program bytes from (let text : RunText = record { report = record { program = program; run = x.run; outcome = x.outcome; label = x.label; work = x.work; entries = entries }; end = length bytes - length left } in text)
 made-run program bytes from x rest left entries is_id h run are rising goes most =
     let r : Report = record { program = program; run = x.run; outcome = x.outcome; label = x.label; work = x.work; entries = entries } in
-    let is : drop from bytes ≡ lines_text r ++ left = run.text_is ∙ ap (λ l. ended (run_spelled x) ++ l) goes ∙ sym (append_assoc (ended (run_spelled x)) (sites_text entries) left) in
+    let is : drop from bytes ≡ lines_text r ++ left = run.text_is ∙ ap (λ l. line_with_newline (run_spelled x) ++ l) goes ∙ sym (append_assoc (line_with_newline (run_spelled x)) (sites_text entries) left) in
     let b = behind bytes from (lines_text r) left h is in record {
       stands = record {
         is_report = record { program = is_id; run = run.is_line.run; outcome = run.is_line.outcome; work = run.is_line.work; entries = are; rising = rising };

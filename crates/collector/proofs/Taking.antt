@@ -2,7 +2,6 @@
 use Rattle.std.proofs.Common.{◌≡◌, ◌≢◌, ◌⊎◌, ◌+◌, ◌≤◌, ℕ, Bool, true, false, cond, ◌==◌, inl, inr, ⊎_elim, List, [], ◌∷◌, ◌++◌, length, None, Some, Result, Ok, Err, ap, sym, subst, ◌∙◌, refl, arith}
 use Rattle.std.specs.Prelude.{nat_lt}
 use Rattle.std.proofs.lemmas.Bool.{eqb-true}
-use Rattle.std.proofs.lemmas.Bool.Decides.{nat_tests}
 use Rattle.base_lists.proofs.Options.{none_some, some_is}
 use Rattle.base_lists.proofs.Numbers.{not_number}
 use Rattle.report_file.specs.declared.report.Report.{Report}
@@ -12,8 +11,8 @@ use Rattle.collector.specs.declared.answers.AddFault.{AddFault}
 use Rattle.collector.specs.declared.answers.AddFault.TheVariants.{Foreign, NoSite, Conflict, TooManyReports, TooManyMarks, Memory}
 use Rattle.collector.specs.declared.answers.Merged.{Merged}
 use Rattle.collector.specs.declared.collection.Held.{Held}
-use Rattle.collector.specs.Collected.{Adds, IsOurs, mark_limit, marks_of, report_at, report_limit, with_report}
-use Rattle.collector.specs.Collecting.{AreOurs, IsCollection, MayTake, both, with_reports}
+use Rattle.collector.specs.Collected.{Adds, IsOfCollection, mark_limit, marks_of, report_at, report_limit, with_report}
+use Rattle.collector.specs.Collecting.{AreOfCollection, IsCollection, MayTake, counts_of_both, with_reports}
 use Rattle.collector.specs.Merging.{AddsAll}
 use Rattle.collector.specs.Order.{AreAlike, IsOneOfReports, SameReports, map_of}
 use Rattle.collector.proofs.Keeping.{marks-with}
@@ -116,7 +115,7 @@ pub record AreTaken (c : Held) (reports : List Report) (added repeated : ℕ) (m
   pub rising : AreRising after.reports
   pub to : (y : Report) → IsOneOfReports y after.reports → IsOneOfReports y (reports ++ c.reports)
   pub from : (y : Report) → IsOneOfReports y (reports ++ c.reports) → IsOneOfReports y after.reports
-  pub ours : AreOurs c reports
+  pub ours : AreOfCollection c reports
   pub same : after ≡ record c { reports = after.reports }
   pub new : merged.added + length c.reports ≡ added + length after.reports
   pub old : merged.added + merged.repeated ≡ (added + repeated) + length reports
@@ -139,7 +138,7 @@ taken-none c added repeated merged after rising adds =
       few_marks = λ h. h;
     }))
 
-ours-before : (c : Held) (reports : List Report) (r : Report) → IsOurs (record c { reports = reports }) r → IsOurs c r
+ours-before : (c : Held) (reports : List Report) (r : Report) → IsOfCollection (record c { reports = reports }) r → IsOfCollection c r
 ours-before c reports r is = record { program = is.program; sites = is.sites }
 
 to-front : (c next : Held) (r y : Report) (more : List Report) → IsAfter c r next → IsOneOfReports y (more ++ next.reports) → IsOneOfReports y ((r ∷ more) ++ c.reports)
@@ -152,9 +151,9 @@ from-front c next r y more a is =
     ⊎_elim (λ (same : y ≡ r). subst (λ z. IsOneOfReports z (more ++ next.reports)) (sym same) (in-back r more next.reports a.here))
     (λ (other : IsOneOfReports y (more ++ c.reports)). ⊎_elim (λ (front : IsOneOfReports y more). in-front y more next.reports front) (λ (back : IsOneOfReports y c.reports). in-back y more next.reports (a.stays y back)) (either y more c.reports other)) is
 
-ours-front : (c next : Held) (r : Report) (more : List Report) → IsAfter c r next → IsOurs c r → AreOurs next more → AreOurs c (r ∷ more)
+ours-front : (c next : Held) (r : Report) (more : List Report) → IsAfter c r next → IsOfCollection c r → AreOfCollection next more → AreOfCollection c (r ∷ more)
 ours-front c next r more a is others = λ y one.
-    ⊎_elim (λ (same : y ≡ r). subst (IsOurs c) (sym same) is) (λ (other : IsOneOfReports y more). ours-before c next.reports y (subst (λ h. IsOurs h y) a.same (others y other))) one
+    ⊎_elim (λ (same : y ≡ r). subst (IsOfCollection c) (sym same) is) (λ (other : IsOneOfReports y more). ours-before c next.reports y (subst (λ h. IsOfCollection h y) a.same (others y other))) one
 
 same-front : (c next after : Held) (r : Report) → IsAfter c r next → after ≡ record next { reports = after.reports } → after ≡ record c { reports = after.reports }
 same-front c next after r a same = same ∙ ap (λ (h : Held). record h { reports = after.reports }) a.same
@@ -252,7 +251,7 @@ may-more c next r more a may =
     let left = more ++ next.reports in
     let same : SameReports all left = λ y. (from-front c next r y more a, to-front c next r y more a) in
     let map : map_of all ≡ map_of left = map-same all left may.alike same in record {
-      ours = λ y is. let old = may.ours y (inr is) in subst (λ h. IsOurs h y) (sym a.same) (record { program = old.program; sites = old.sites });
+      ours = λ y is. let old = may.ours y (inr is) in subst (λ h. IsOfCollection h y) (sym a.same) (record { program = old.program; sites = old.sites });
       alike = alike-same all left may.alike same;
       few = subst (λ rs. length rs ≤ report_limit) map may.few;
       few_marks = subst (λ rs. marks_of rs ≤ mark_limit) map may.few_marks;
@@ -338,11 +337,11 @@ joined [] ys c via after a b first result adds behind =
 joined (r ∷ xs) ys c via after a b first result adds behind =
     (adds.0, adds.1, adds.2, joined-step adds.1 via xs (xs ++ ys) a b first result after adds.0 (λ from s t goes. joined xs ys from via after s t first result goes behind) adds.3)
 
-pub groups-taken : (c via after : Held) (xs ys : List Report) (first second : Merged) → AddsAll c xs 0 0 (Ok first) via → AddsAll via ys 0 0 (Ok second) after → AddsAll c (xs ++ ys) 0 0 (Ok (both first second)) after
+pub groups-taken : (c via after : Held) (xs ys : List Report) (first second : Merged) → AddsAll c xs 0 0 (Ok first) via → AddsAll via ys 0 0 (Ok second) after → AddsAll c (xs ++ ys) 0 0 (Ok (counts_of_both first second)) after
 groups-taken c via after xs ys first second adds more =
     let shifted = counted ys via after first.added first.repeated 0 0 second more in
-    let added : AddsAll via ys first.added (first.repeated + 0) (Ok (both first second)) after = subst (λ k. AddsAll via ys k (first.repeated + 0) (Ok (both first second)) after) (omega arith) shifted in
-    joined xs ys c via after 0 0 first (Ok (both first second)) adds (subst (λ k. AddsAll via ys first.added k (Ok (both first second)) after) (omega arith) added)
+    let added : AddsAll via ys first.added (first.repeated + 0) (Ok (counts_of_both first second)) after = subst (λ k. AddsAll via ys k (first.repeated + 0) (Ok (counts_of_both first second)) after) (omega arith) shifted in
+    joined xs ys c via after 0 0 first (Ok (counts_of_both first second)) adds (subst (λ k. AddsAll via ys first.added k (Ok (counts_of_both first second)) after) (omega arith) added)
 
 pub groups-refused : (c via after : Held) (xs ys : List Report) (first : Merged) (why : AddFault) → AddsAll c xs 0 0 (Ok first) via → AddsAll via ys 0 0 (Err why) after → AddsAll c (xs ++ ys) 0 0 (Err why) after
 groups-refused c via after xs ys first why adds more =

@@ -32,9 +32,9 @@ without_report run [] = []
 without_report run (x ∷ more) = if run == x.run then more else x ∷ without_report run more
 
 -- the reports with another label for that of a run
-abbrev pub relabelled : ℕ → Label → List Report → List Report
-relabelled run label [] = []
-relabelled run label (x ∷ more) = if run == x.run then record x { label = label } ∷ more else x ∷ relabelled run label more
+abbrev pub report_relabelled : ℕ → Label → List Report → List Report
+report_relabelled run label [] = []
+report_relabelled run label (x ∷ more) = if run == x.run then record x { label = label } ∷ more else x ∷ report_relabelled run label more
 
 -- the report with the least run above another one, where the runs rise
 abbrev pub next_after : ℕ → List Report → Option Report
@@ -46,7 +46,7 @@ marks_of [] = 0
 marks_of (r ∷ more) = length r.entries + marks_of more
 
 -- the report is of this program, and of its sites
-pub record IsOurs (c : Held) (r : Report) : Type 0 where
+pub record IsOfCollection (c : Held) (r : Report) : Type 0 where
   pub program : r.program ≡ c.program
   pub sites : first_bad c.branches r.entries ≡ None
 
@@ -54,15 +54,17 @@ pub record IsOurs (c : Held) (r : Report) : Type 0 where
 -- another report, and last one that passes a limit. A refused one changes nothing.
 abbrev pub Adds : Held → Report → Result Added AddFault → Held → Type 0
 Adds c r (Ok New) after =
-    IsOurs c r × (report_at r.run c.reports ≡ None) × (length c.reports < report_limit) × (marks_of c.reports + length r.entries ≤ mark_limit)
+    IsOfCollection c r × (report_at r.run c.reports ≡ None) × (length c.reports < report_limit) × (marks_of c.reports + length r.entries ≤ mark_limit)
     × (after ≡ record c { reports = with_report r c.reports })
-Adds c r (Ok Repeated) after = IsOurs c r × (report_at r.run c.reports ≡ Some r) × (after ≡ c)
+Adds c r (Ok Repeated) after = IsOfCollection c r × (report_at r.run c.reports ≡ Some r) × (after ≡ c)
 Adds c r (Err (Foreign ours theirs)) after = (ours ≡ c.program) × (theirs ≡ r.program) × (ours ≢ theirs) × (after ≡ c)
 Adds c r (Err (NoSite run site)) after = (r.program ≡ c.program) × (run ≡ r.run) × (first_bad c.branches r.entries ≡ Some site) × (after ≡ c)
-Adds c r (Err (Conflict run)) after = IsOurs c r × (run ≡ r.run) × ((held : Report) × (report_at run c.reports ≡ Some held) × (held ≢ r)) × (after ≡ c)
-Adds c r (Err (TooManyReports run)) after = IsOurs c r × (run ≡ r.run) × (report_at run c.reports ≡ None) × (report_limit ≤ length c.reports) × (after ≡ c)
+Adds c r (Err (Conflict run)) after = IsOfCollection c r × (run ≡ r.run) × ((held : Report) × (report_at run c.reports ≡ Some held) × (held ≢ r)) × (after ≡ c)
+Adds c r (Err (TooManyReports run)) after =
+    IsOfCollection c r × (run ≡ r.run) × (report_at run c.reports ≡ None) × (report_limit ≤ length c.reports) × (after ≡ c)
 Adds c r (Err (TooManyMarks run)) after =
-    IsOurs c r × (run ≡ r.run) × (report_at run c.reports ≡ None) × (length c.reports < report_limit)
+    IsOfCollection c r × (run ≡ r.run) × (report_at run c.reports ≡ None) × (length c.reports < report_limit)
     × (mark_limit < marks_of c.reports + length r.entries) × (after ≡ c)
 Adds c r (Err Memory) after =
-    IsOurs c r × (report_at r.run c.reports ≡ None) × (length c.reports < report_limit) × (marks_of c.reports + length r.entries ≤ mark_limit) × (after ≡ c)
+    IsOfCollection c r × (report_at r.run c.reports ≡ None) × (length c.reports < report_limit) × (marks_of c.reports + length r.entries ≤ mark_limit)
+    × (after ≡ c)

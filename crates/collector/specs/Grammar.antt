@@ -2,7 +2,7 @@
 use Rattle.std.specs.Prelude.{◌≡◌, ◌⊎◌, ◌+◌, ◌<◌, ◌≤◌, ℕ, List, [], ◌∷◌, ◌++◌, length, None, Some, codes, replicate}
 use Rattle.std.specs.Global.{Global}
 use Rattle.std.specs.Option.{option_to_list}
-use Rattle.cbi_base.specs.Words.{IsId, spaced}
+use Rattle.cbi_base.specs.Words.{IsId, line_of_fields}
 use Rattle.cbi_base.specs.declared.identity.ProgramId.{ProgramId}
 use Rattle.report_file.specs.declared.draft.Version.{Version}
 use Rattle.report_file.specs.declared.draft.Version.TheVariants as version
@@ -33,35 +33,35 @@ bundle_start alloc = record {
 }
 
 -- the reports so far, with the one that goes on
-abbrev pub whole : Draft → List Report
-whole d = d.reports ++ option_to_list d.current
+abbrev pub draft_reports : Draft → List Report
+draft_reports d = d.reports ++ option_to_list d.current
 
-abbrev pub closed : Draft → Draft
-closed d = record d { reports = whole d; current = None }
+abbrev pub current_report_closed : Draft → Draft
+current_report_closed d = record d { reports = draft_reports d; current = None }
 
 pub record TitleFollows (d : Draft) (line : List ℕ) (after : Draft) : Type 0 where
   pub value : Version
-  pub line_is : line ≡ spaced (bundle_title value)
+  pub line_is : line ≡ line_of_fields (bundle_title value)
   pub after_is : after ≡ record d { due = due.Program; version = value }
 
 pub record ProgramFollows (d : Draft) (line : List ℕ) (after : Draft) : Type 0 where
   pub value : ProgramId
   pub is_id : IsId value
-  pub line_is : line ≡ spaced (program_fields value)
+  pub line_is : line ≡ line_of_fields (program_fields value)
   pub after_is : after ≡ record d { due = due.Runs; program = value }
 
 -- a report whose sites are still to come
-abbrev pub begun : ProgramId → RunLine → Report
-begun program x = record { program = program; run = x.run; outcome = x.outcome; label = x.label; work = x.work; entries = [] }
+abbrev pub report_without_sites : ProgramId → RunLine → Report
+report_without_sites program x = record { program = program; run = x.run; outcome = x.outcome; label = x.label; work = x.work; entries = [] }
 
 -- the line of a run, which is greater than those before it, where a report more may come
 pub record RunFollows (d : Draft) (line : List ℕ) (after : Draft) : Type 0 where
   pub value : RunLine
   pub is_line : IsRunLine d.version value
   pub rises : d.run ≤ value.run
-  pub room : length (whole d) < report_limit
-  pub line_is : line ≡ spaced (run_line_fields d.version value)
-  pub after_is : after ≡ record d { reports = whole d; current = Some (begun d.program value); run = value.run + 1; site = 0 }
+  pub room : length (draft_reports d) < report_limit
+  pub line_is : line ≡ line_of_fields (run_line_fields d.version value)
+  pub after_is : after ≡ record d { reports = draft_reports d; current = Some (report_without_sites d.program value); run = value.run + 1; site = 0 }
 
 -- the line of a site of the run before it, where a site line more may come
 pub record RunSiteFollows (d : Draft) (line : List ℕ) (after : Draft) : Type 0 where
@@ -70,12 +70,12 @@ pub record RunSiteFollows (d : Draft) (line : List ℕ) (after : Draft) : Type 0
   pub is_current : d.current ≡ Some report
   pub is_next : IsNextEntry d.site value
   pub room : d.marks < mark_limit
-  pub line_is : line ≡ spaced (site_fields value)
+  pub line_is : line ≡ line_of_fields (site_fields value)
   pub after_is : after ≡ record d { current = Some (record report { entries = report.entries ++ value ∷ [] }); site = value.site + 1; marks = d.marks + 1 }
 
 pub record EndFollows (d : Draft) (line : List ℕ) (after : Draft) : Type 0 where
   pub line_is : line ≡ codes "end"
-  pub after_is : after ≡ record (closed d) { due = due.Nothing }
+  pub after_is : after ≡ record (current_report_closed d) { due = due.Nothing }
 
 -- the line that is due
 abbrev pub BundleLineComes : Due → Draft → List ℕ → Draft → Type 0

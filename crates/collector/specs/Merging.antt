@@ -16,13 +16,13 @@ abbrev pub AreReports : List Report → Type 0
 AreReports [] = Unit {0}
 AreReports (r ∷ more) = IsReport r × AreReports more
 
-abbrev pub AreOf : Bundle → List Report → Type 0
-AreOf bundle [] = Unit {0}
-AreOf bundle (r ∷ more) = (r.program ≡ bundle.program) × AreOf bundle more
+abbrev pub AreOfBundle : Bundle → List Report → Type 0
+AreOfBundle bundle [] = Unit {0}
+AreOfBundle bundle (r ∷ more) = (r.program ≡ bundle.program) × AreOfBundle bundle more
 
 pub record IsBundle (bundle : Bundle) : Type 0 where
   pub reports : AreReports bundle.reports
-  pub program : AreOf bundle bundle.reports
+  pub program : AreOfBundle bundle bundle.reports
   pub few : length bundle.reports < 2 ^ 32
 
 -- so many were new and so many repeated before these

@@ -1,6 +1,6 @@
 -- The lines of one run within a text: its line, in the second version, and behind it the longest list of its sites' lines.
 use Rattle.std.specs.Prelude.{◌≡◌, ◌+◌, ◌≤◌, ℕ, List, ◌++◌, length, map, drop}
-use Rattle.cbi_base.specs.Text.{ended, spaced, text_of}
+use Rattle.cbi_base.specs.Text.{line_with_newline, line_of_fields, text_of}
 use Rattle.cbi_base.specs.declared.identity.ProgramId.{ProgramId}
 use Rattle.report_file.specs.declared.draft.Version.TheVariants.{Second}
 use Rattle.report_file.specs.declared.report.Entry.{Entry}
@@ -15,15 +15,15 @@ use Rattle.collector.specs.declared.run_text.RunText.{RunText}
 -- the bytes begin with a run's line, and go on so
 pub record RunStands (bytes : List ℕ) (value : RunLine) (rest : List ℕ) : Type 0 where
   pub is_line : IsRunLine Second value
-  pub text_is : bytes ≡ ended (spaced (run_line_fields Second value)) ++ rest
+  pub text_is : bytes ≡ line_with_newline (line_of_fields (run_line_fields Second value)) ++ rest
 
 -- the bytes begin with the line of a site with this number or a greater one, and go on so
 pub record SiteStands (bytes : List ℕ) (site : ℕ) (value : Entry) (rest : List ℕ) : Type 0 where
   pub is_next : IsNextEntry site value
-  pub text_is : bytes ≡ ended (spaced (site_fields value)) ++ rest
+  pub text_is : bytes ≡ line_with_newline (line_of_fields (site_fields value)) ++ rest
 
 abbrev pub sites_text : List Entry → List ℕ
-sites_text entries = text_of (map spaced (map site_fields entries))
+sites_text entries = text_of (map line_of_fields (map site_fields entries))
 
 -- the bytes begin with the lines of these sites, whose numbers rise
 pub record SitesStand (bytes : List ℕ) (entries : List Entry) : Type 0 where
@@ -33,7 +33,7 @@ pub record SitesStand (bytes : List ℕ) (entries : List Entry) : Type 0 where
   pub text_is : bytes ≡ sites_text entries ++ rest
 
 abbrev pub lines_text : Report → List ℕ
-lines_text r = text_of (map spaced (line_rows r))
+lines_text r = text_of (map line_of_fields (line_rows r))
 
 -- the lines of this report of the program stand from the one place to the other
 pub record ReportStands (program : ProgramId) (bytes : List ℕ) (from : ℕ) (text : RunText) : Type 0 where

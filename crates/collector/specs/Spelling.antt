@@ -1,7 +1,7 @@
 -- The text of a collection: its reports by rising run, each with its line and those of its sites.
 use Rattle.std.specs.Prelude.{◌≡◌, ◌+◌, ◌≤◌, ℕ, true, List, [], ◌∷◌, ◌++◌, length, map, codes}
 use Rattle.std.specs.List.{flat_map}
-use Rattle.cbi_base.specs.Words.{spaced, text_of, IsId}
+use Rattle.cbi_base.specs.Words.{line_of_fields, text_of, IsId}
 use Rattle.report_file.specs.RunLine.{line_of, line_rows, run_line_fields}
 use Rattle.report_file.specs.Spelling.{program_fields, site_fields}
 use Rattle.report_file.specs.declared.draft.Version.{Version}
@@ -11,13 +11,13 @@ use Rattle.report_file.specs.Label.{label_of}
 use Rattle.collector.specs.declared.collection.Bundle.{Bundle}
 use Rattle.collector.specs.declared.collection.Held.{Held}
 use Rattle.collector.specs.Collected.{mark_limit, marks_of, report_limit}
-use Rattle.collector.specs.Merging.{AreOf, AreReports}
+use Rattle.collector.specs.Merging.{AreOfBundle, AreReports}
 
 abbrev pub collection_rows : Held → List (List (List ℕ))
 collection_rows c = (codes "cbi-collection" ∷ codes "2" ∷ []) ∷ program_fields c.program ∷ (flat_map line_rows c.reports ++ (codes "end" ∷ []) ∷ [])
 
 abbrev pub collection_text : Held → List ℕ
-collection_text c = text_of (map spaced (collection_rows c))
+collection_text c = text_of (map line_of_fields (collection_rows c))
 
 -- the text of a bundle in either version
 abbrev pub bundle_title : Version → List (List ℕ)
@@ -31,7 +31,7 @@ abbrev pub bundle_rows : Version → Bundle → List (List (List ℕ))
 bundle_rows version b = bundle_title version ∷ program_fields b.program ∷ (flat_map (report_rows version) b.reports ++ (codes "end" ∷ []) ∷ [])
 
 abbrev pub bundle_text : Version → Bundle → List ℕ
-bundle_text version b = text_of (map spaced (bundle_rows version b))
+bundle_text version b = text_of (map line_of_fields (bundle_rows version b))
 
 -- each report has this run or a greater one, and a greater one than the report before it
 abbrev pub RunsFrom : ℕ → List Report → Type 0
@@ -47,7 +47,7 @@ HavePlainLabels (r ∷ more) = (r.label ≡ label_of r.outcome true) × HavePlai
 pub record IsText (b : Bundle) : Type 0 where
   pub program : IsId b.program
   pub reports : AreReports b.reports
-  pub ours : AreOf b b.reports
+  pub ours : AreOfBundle b b.reports
   pub rising : RunsFrom 0 b.reports
   pub few : length b.reports ≤ report_limit
   pub few_marks : marks_of b.reports ≤ mark_limit

@@ -1,12 +1,13 @@
 ghost use Rattle.std.specs.Prelude.{◌≡◌, ◌↔◌, false, is_some, ◌+◌, ◌<◌, ◌≤◌, [], length, IfOk, IfSome, map, None, OnErr, OnOk, IsTrue};
 ghost use Rattle.std.specs.Option.{option_copied};
 ghost use Rattle.std.specs.List.{flat_map};
-ghost use Rattle.cbi_base.specs.Words.{IsId, spaced, text_of};
+ghost use Rattle.cbi_base.specs.Words.{IsId, line_of_fields, text_of};
 ghost use Rattle.collector.specs.Collecting.{IsCollection};
 ghost use Rattle.collector.specs.Merging.{IsBundle, Merges};
 ghost use Rattle.collector.specs.Spelling.{collection_text};
 ghost use Rattle.report_file.specs.RunLine.{line_rows};
-ghost use Rattle.collector.specs.Collected.{Adds, IsOurs, mark_limit, marks_of, next_after, relabelled, report_at, report_limit, with_report, without_report};
+ghost use Rattle.collector.specs.Collected.{Adds, IsOfCollection, mark_limit, marks_of, next_after, report_relabelled, report_at, report_limit, with_report};
+ghost use Rattle.collector.specs.Collected.{without_report};
 ghost use Rattle.collector.specs.Sites.{branches_of, first_bad};
 ghost use Rattle.report_file.specs.Report.{IsReport};
 
@@ -149,7 +150,7 @@ impl Collection {
     /// Gives the report of a run another label; false exactly where the run isn't held.
     pub fn relabel(&mut self, run: u32, label: Label) -> bool
         ensures found { result ≡ is_some (report_at run self.old.reports) }
-        ensures after { self.new ≡ record self.old { reports = relabelled run label self.old.reports } }
+        ensures after { self.new ≡ record self.old { reports = report_relabelled run label self.old.reports } }
         ensures absent { result ≡ false → self.new ≡ self.old }
     {
         let Some(report) = self.reports.get_mut(&run) else {
@@ -164,7 +165,7 @@ impl Collection {
         ensures value { option_copied result ≡ next_after after self.now.reports }
         // It can be spelled, and is of the program and its sites.
         ensures is_report { IfSome result (λ r. IsReport r.now) }
-        ensures ours { IfSome result (λ r. IsOurs self.now r.now) }
+        ensures ours { IfSome result (λ r. IsOfCollection self.now r.now) }
     {
         let above = (Bound::Excluded(after), Bound::Unbounded);
         match self.reports.range(above).next() {
@@ -207,7 +208,7 @@ impl Collection {
 
     // The lines of all reports.
     fn report_texts(&self, alloc: Global) -> Result<Vec<u8>, Memory>
-        ensures { IfOk result (λ text. text.items ≡ text_of (map spaced (flat_map line_rows self.now.reports))) }
+        ensures { IfOk result (λ text. text.items ≡ text_of (map line_of_fields (flat_map line_rows self.now.reports))) }
     {
         let mut out = Vec::new(alloc);
         for report in self.reports.values() {
@@ -260,7 +261,7 @@ impl Collection {
     // Puts a report in its place, where it is of the program and there is room.
     fn put(&mut self, report: Report) -> Result<(), Memory>
         requires is_report { IsReport report }
-        requires ours { IsOurs self.old report }
+        requires ours { IsOfCollection self.old report }
         requires absent { report_at report.run self.old.reports ≡ None }
         requires room { length self.old.reports < report_limit }
         requires fits { marks_of self.old.reports + length report.entries ≤ mark_limit }

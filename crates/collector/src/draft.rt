@@ -1,7 +1,8 @@
 ghost use Rattle.std.specs.Prelude.{◌≡◌, ◌⊎◌, ◌↔◌, ◌≤◌, OnOk, IsTrue, None, length, slice_index};
 ghost use Rattle.collector.specs.Collected.{report_limit};
 ghost use Rattle.cbi_base.specs.LineFaults.{TakenWith};
-ghost use Rattle.collector.specs.Grammar.{EndFollows, RunFollows, RunSiteFollows, ProgramFollows, TitleFollows, closed, bundle_start, whole};
+ghost use Rattle.collector.specs.Grammar.{EndFollows, RunFollows, RunSiteFollows, ProgramFollows, TitleFollows, current_report_closed, bundle_start};
+ghost use Rattle.collector.specs.Grammar.{draft_reports};
 ghost use Rattle.collector.specs.declared.draft.Draft.{Draft};
 ghost use Rattle.report_file.specs.Reading.{Reads};
 ghost use Rattle.collector.specs.Spelling.{bundle_title};
@@ -125,7 +126,7 @@ impl Draft {
 
     // The report that goes on is whole.
     fn close(&mut self) -> Result<(), Memory>
-        ensures { OnOk result (self.new ≡ closed self.old) }
+        ensures { OnOk result (self.new ≡ current_report_closed self.old) }
     {
         let Some(report) = self.current.take() else {
             return Ok(());
@@ -135,7 +136,7 @@ impl Draft {
 
     // Whether there are as many reports as may be.
     fn is_full(&self) -> bool
-        ensures { IsTrue result ↔ (report_limit ≤ length (whole self.now)) }
+        ensures { IsTrue result ↔ (report_limit ≤ length (draft_reports self.now)) }
     {
         match self.current {
             None => self.reports.len() >= MOST_REPORTS,

@@ -1,8 +1,8 @@
-ghost use Rattle.std.specs.Prelude.{◌≡◌, ◌≢◌, ◌↔◌, ◌+◌, ◌<◌, ◌≤◌, ◌++◌, ℕ, List, Option, None, Some, Result, Ok, Err, length, option_map};
+ghost use Rattle.std.specs.Prelude.{◌≡◌, ◌≢◌, ◌↔◌, ◌+◌, ◌<◌, ◌≤◌, ◌++◌, ℕ, List, None, Some, Ok, Err, length, option_map};
 ghost use Rattle.cbi_base.specs.Lines.{LeadsOnce};
 ghost use Rattle.cbi_base.specs.declared.identity.ProgramId.{ProgramId};
-ghost use Rattle.collector.specs.Collected.{next_after, relabelled, report_at, with_report, without_report};
-ghost use Rattle.collector.specs.Collecting.{IsCollection, MayTake, both, bundle_of, with_reports};
+ghost use Rattle.collector.specs.Collected.{next_after, report_relabelled, report_at, with_report, without_report};
+ghost use Rattle.collector.specs.Collecting.{IsCollection, MayTake, counts_of_both, bundle_of, with_reports};
 ghost use Rattle.collector.specs.Grammar.{BundleLineFollows};
 ghost use Rattle.collector.specs.Merging.{AddsAll};
 ghost use Rattle.collector.specs.Order.{AreAlike, IsOneOfReports, SameReports, map_of};
@@ -46,7 +46,7 @@ pub fn reports_are_taken_whole()
 pub fn groups_do_not_matter()
     ensures taken { (c via after : Held) (xs ys : List Report) (first second : Merged) → AddsAll c xs 0 0 (Ok first) via
         → AddsAll via ys 0 0 (Ok second) after
-        → AddsAll c (xs ++ ys) 0 0 (Ok (both first second)) after }
+        → AddsAll c (xs ++ ys) 0 0 (Ok (counts_of_both first second)) after }
     ensures refused { (c via after : Held) (xs ys : List Report) (first : Merged) (why : AddFault) → AddsAll c xs 0 0 (Ok first) via
         → AddsAll via ys 0 0 (Err why) after
         → AddsAll c (xs ++ ys) 0 0 (Err why) after }
@@ -81,9 +81,9 @@ pub fn collections_are_maps()
     ensures without { (run : ℕ) (reports : List Report) → RunsFrom 0 reports → report_at run (without_report run reports) ≡ None }
     ensures without_other { (run gone : ℕ) (reports : List Report) → run ≢ gone → report_at run (without_report gone reports) ≡ report_at run reports }
     ensures relabelled { (run : ℕ) (label : Label) (reports : List Report) →
-        report_at run (relabelled run label reports) ≡ option_map (λ (r : Report). record r { label = label }) (report_at run reports) }
+        report_at run (report_relabelled run label reports) ≡ option_map (λ (r : Report). record r { label = label }) (report_at run reports) }
     ensures relabelled_other { (run other : ℕ) (label : Label) (reports : List Report) → run ≢ other
-        → report_at run (relabelled other label reports) ≡ report_at run reports }
+        → report_at run (report_relabelled other label reports) ≡ report_at run reports }
     // The next report is the one with the least run above.
     ensures next { (run : ℕ) (reports : List Report) (next : Report) → RunsFrom 0 reports → next_after run reports ≡ Some next
         → IsOneOfReports next reports × (run < next.run) × ((other : Report) → IsOneOfReports other reports → run < other.run → next.run ≤ other.run) }

@@ -1,4 +1,4 @@
-ghost use Rattle.std.specs.Prelude.{◌≡◌, slice_get, map, IfOk};
+ghost use Rattle.std.specs.Prelude.{◌≡◌, IfOk};
 ghost use Rattle.collector.specs.Sites.{branches_of, has_site, is_branch, first_bad};
 
 use cbi_base::{Memory, Seq};

@@ -1,6 +1,6 @@
 ghost use Rattle.std.specs.Prelude.{◌≡◌, ◌≤◌, IfOk, OnOk, IfErr};
-ghost use Rattle.cbi_base.specs.Words.{Rose, Takes};
-ghost use Rattle.command_base.specs.Faults.{Caused, LeftBy};
+ghost use Rattle.cbi_base.specs.Words.{CountHasRisen};
+ghost use Rattle.command_base.specs.Faults.{HasCause, LeftBy};
 ghost use Rattle.command_base.specs.Outside.{TookDue, TookWithin};
 ghost use Rattle.command_base.specs.declared.done.Done.TheVariants.{Nothing};
 ghost use Rattle.command_bank.specs.MadeBank.{IsMadeText};
@@ -29,7 +29,7 @@ pub fn make_bank<O: Sink>(alloc: Global, words: BankWords, out: &mut O) -> Resul
     requires count { (1 ≤ words.count) × (words.count ≤ 65536) }
     ensures took { OnOk result (TookDue (IsMadeText words) (O.taken out.old) (O.taken out.new)) }
     ensures said { IfOk result (λ said. said ≡ Nothing) }
-    ensures fault { IfErr result (λ e. Caused e (λ n. ⊥) (Rose (O.faults out.old) (O.faults out.new)) (λ r. ⊥)) }
+    ensures fault { IfErr result (λ e. HasCause e (λ n. ⊥) (CountHasRisen (O.faults out.old) (O.faults out.new)) (λ r. ⊥)) }
     ensures left { IfErr result (λ e. LeftBy e ⊥ (TookWithin (IsMadeText words) (O.taken out.old) (O.taken out.new))
         (λ r. ⊥) (O.taken out.new ≡ O.taken out.old)) }
     ensures out_rises { O.faults out.old ≤ O.faults out.new }

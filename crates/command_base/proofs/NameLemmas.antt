@@ -2,8 +2,8 @@
 use Rattle.std.proofs.Common.{inl, inr, ℕ, List, [], ◌∷◌, ◌++◌, Option}
 use Rattle.cbi_base.specs.Store.{Held}
 use Rattle.command_base.specs.declared.fault.Fault.{Fault}
-use Rattle.command_base.specs.declared.fault.Fault.TheVariants.{Read, Write, Refused, Memory}
-use Rattle.command_base.specs.Faults.{OfRead}
+use Rattle.command_base.specs.declared.fault.Fault.TheVariants.{Read}
+use Rattle.command_base.specs.Faults.{IfReadFault}
 use Rattle.command_base.specs.Names.{AreHeld, IsFirstMissing, IsOneOf}
 
 pub one-in-first : (xs ys : List (List ℕ)) (name : List ℕ) → IsOneOf xs name → IsOneOf (xs ++ ys) name
@@ -36,6 +36,6 @@ pub held-both : (held : Option Held) (xs ys : List (List ℕ)) → AreHeld held 
 held-both held [] ys first rest = rest
 held-both held (x ∷ xs) ys first rest = (first.0, held-both held xs ys first.1 rest)
 
-pub of-read-as : (e : Fault) (P Q : List ℕ → Type 0) → OfRead e P → ((name : List ℕ) → P name → Q name) → OfRead e Q
+pub of-read-as : (e : Fault) (P Q : List ℕ → Type 0) → IfReadFault e P → ((name : List ℕ) → P name → Q name) → IfReadFault e Q
 of-read-as (Read name) P Q h k = k name h
 of-read-as e P Q h k = tt

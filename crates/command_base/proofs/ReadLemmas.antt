@@ -1,6 +1,5 @@
 -- A store that tells what it holds has one answer to each read.
-use Rattle.std.specs.Option.{unwrap_or}
-use Rattle.std.proofs.Common.{◌≡◌, ℕ, List, Option, Some, None, IsSome, ap, sym, ◌∙◌}
+use Rattle.std.proofs.Common.{◌≡◌, ℕ, List, Option, Some, None, IsSome, ◌∙◌}
 use Rattle.std.proofs.lemmas.Bool.{false≢true}
 use Rattle.base_lists.proofs.Options.{one_some}
 use Rattle.cbi_base.specs.Store.{Held, IsReadOf, read_of}

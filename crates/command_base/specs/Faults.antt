@@ -6,26 +6,26 @@ use Rattle.command_base.specs.declared.fault.Fault.{Fault}
 use Rattle.command_base.specs.declared.fault.Fault.TheVariants.{Read, Write, Refused, Memory}
 
 -- the cause of each fault, by the name that wasn't read and by the refusal; want of memory has none
-abbrev pub Caused : Fault → (read : List ℕ → Type 0) → (write : Type 0) → (refused : Refusal → Type 0) → Type 0
-Caused (Read name) read write refused = read name
-Caused Write read write refused = write
-Caused (Refused refusal) read write refused = refused refusal
-Caused Memory read write refused = Unit {0}
+abbrev pub HasCause : Fault → (read : List ℕ → Type 0) → (write : Type 0) → (refused : Refusal → Type 0) → Type 0
+HasCause (Read name) read write refused = read name
+HasCause Write read write refused = write
+HasCause (Refused refusal) read write refused = refused refusal
+HasCause Memory read write refused = Unit {0}
 
 -- a fact of the name that wasn't read
-abbrev pub OfRead : Fault → (List ℕ → Type 0) → Type 0
-OfRead (Read name) P = P name
-OfRead fault P = Unit {0}
+abbrev pub IfReadFault : Fault → (List ℕ → Type 0) → Type 0
+IfReadFault (Read name) P = P name
+IfReadFault fault P = Unit {0}
 
 -- a fact where the bytes read are refused
-abbrev pub OfRefusal : Fault → Type 0 → Type 0
-OfRefusal (Refused refusal) P = P
-OfRefusal fault P = Unit {0}
+abbrev pub IfRefusal : Fault → Type 0 → Type 0
+IfRefusal (Refused refusal) P = P
+IfRefusal fault P = Unit {0}
 
 -- a fact where memory was wanting
-abbrev pub OfMemory : Fault → Type 0 → Type 0
-OfMemory Memory P = P
-OfMemory fault P = Unit {0}
+abbrev pub IfMemoryFault : Fault → Type 0 → Type 0
+IfMemoryFault Memory P = P
+IfMemoryFault fault P = Unit {0}
 
 -- the status of each fault
 abbrev pub status_of : Fault → ℕ
@@ -54,20 +54,20 @@ Precedes (Refused refusal) = Unit {0}
 Precedes Memory = Unit {0}
 
 -- a fact of each answer that comes after the files were read
-abbrev pub Passed : {A : Type 0} → Result A Fault → Type 0 → Type 0
-Passed (Ok done) P = P
-Passed (Err (Read name)) P = Unit {0}
-Passed (Err Write) P = P
-Passed (Err (Refused refusal)) P = P
-Passed (Err Memory) P = Unit {0}
+abbrev pub IfFilesRead : {A : Type 0} → Result A Fault → Type 0 → Type 0
+IfFilesRead (Ok done) P = P
+IfFilesRead (Err (Read name)) P = Unit {0}
+IfFilesRead (Err Write) P = P
+IfFilesRead (Err (Refused refusal)) P = P
+IfFilesRead (Err Memory) P = Unit {0}
 
 -- a fact of each answer that comes after all was read that is to be read
-abbrev pub Finished : {A : Type 0} → Result A Fault → Type 0 → Type 0
-Finished (Ok done) P = P
-Finished (Err (Read name)) P = Unit {0}
-Finished (Err Write) P = P
-Finished (Err (Refused refusal)) P = Unit {0}
-Finished (Err Memory) P = Unit {0}
+abbrev pub IfAllRead : {A : Type 0} → Result A Fault → Type 0 → Type 0
+IfAllRead (Ok done) P = P
+IfAllRead (Err (Read name)) P = Unit {0}
+IfAllRead (Err Write) P = P
+IfAllRead (Err (Refused refusal)) P = Unit {0}
+IfAllRead (Err Memory) P = Unit {0}
 
 -- a write met a fault: one to out, or one to the store of a command that writes a report there
 abbrev pub WriteFaultOf : (report : Option (List ℕ)) → (out store : Type 0) → Type 0

@@ -8,8 +8,8 @@ pub record Outside (B : Type 0) : Type 0 where
   pub out : Option (List ℕ)
   pub boxes : List B
 
-abbrev pub outside : {B : Type 0} → Option Held → Option (List ℕ) → List B → Outside B
-outside held out boxes = record { held = held; out = out; boxes = boxes }
+abbrev pub outside_state : {B : Type 0} → Option Held → Option (List ℕ) → List B → Outside B
+outside_state held out boxes = record { held = held; out = out; boxes = boxes }
 
 -- Out has taken nothing more, no name holds anything else, and no watcher was told anything.
 pub record IsUnmoved {B : Type 0} (before after : Outside B) : Type 0 where

@@ -1,6 +1,6 @@
 ghost use Rattle.std.specs.Prelude.{◌≡◌, ◌≤◌, ◌∷◌, [], IfOk, OnOk, OnErr, IfErr};
-ghost use Rattle.cbi_base.specs.Words.{Rose, Takes, TakesPrefix, IsReadOf, MayReplace, OthersStay, Replaces};
-ghost use Rattle.command_base.specs.Faults.{Caused, OfMemory};
+ghost use Rattle.cbi_base.specs.Words.{CountHasRisen, Takes, TakesPrefix, IsReadOf, MayReplace, OthersStay, Replaces};
+ghost use Rattle.command_base.specs.Faults.{HasCause, IfMemoryFault};
 ghost use Rattle.command_base.specs.Reading.{HasRead};
 
 use crate::fault::Fault;
@@ -35,7 +35,7 @@ pub fn write_file<S: Store>(
     bytes: &[u8],
 ) -> Result<(), Fault>
     ensures bytes { OnOk result (Replaces (S.holds store.old) (S.holds store.new) name.now bytes.now) }
-    ensures fault { IfErr result (λ e. Caused e (λ n. ⊥) (Rose (S.write_faults store.old) (S.write_faults store.new)) (λ r. ⊥)) }
+    ensures fault { IfErr result (λ e. HasCause e (λ n. ⊥) (CountHasRisen (S.write_faults store.old) (S.write_faults store.new)) (λ r. ⊥)) }
     ensures part { OnErr result (MayReplace (S.holds store.old) (S.holds store.new) name.now bytes.now) }
     ensures others { OthersStay (S.holds store.old) (S.holds store.new) name.now }
     ensures reads { S.read_faults store.new ≡ S.read_faults store.old }
@@ -53,9 +53,9 @@ pub fn write_file<S: Store>(
 /// Hands the piece to out.
 pub fn put<O: Sink>(out: &mut O, piece: &[u8]) -> Result<(), Fault>
     ensures whole { OnOk result (Takes (O.taken out.old) (O.taken out.new) piece.now) }
-    ensures fault { IfErr result (λ e. Caused e (λ n. ⊥) (Rose (O.faults out.old) (O.faults out.new)) (λ r. ⊥)) }
+    ensures fault { IfErr result (λ e. HasCause e (λ n. ⊥) (CountHasRisen (O.faults out.old) (O.faults out.new)) (λ r. ⊥)) }
     ensures part { OnErr result (TakesPrefix (O.taken out.old) (O.taken out.new) piece.now) }
-    ensures wanting { IfErr result (λ e. OfMemory e (O.taken out.new ≡ O.taken out.old)) }
+    ensures wanting { IfErr result (λ e. IfMemoryFault e (O.taken out.new ≡ O.taken out.old)) }
     ensures never_falls { O.faults out.old ≤ O.faults out.new }
     ensures sound { O.is_sound out.old → O.is_sound out.new }
     ensures sound_count { O.is_sound out.old → O.faults out.new ≡ O.faults out.old }

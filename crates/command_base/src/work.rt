@@ -1,9 +1,9 @@
 ghost use Rattle.std.specs.Prelude.{◌≡◌, ◌≤◌, ℕ, List, Option, IfOk, IfErr, IsErrAnd, IsSome};
-ghost use Rattle.cbi_base.specs.Words.{Rose, Held};
+ghost use Rattle.cbi_base.specs.Words.{CountHasRisen, Held};
 ghost use Rattle.cbi_base.specs.declared.refusal.Refusal.{Refusal};
 ghost use Rattle.command_base.specs.declared.done.Done.{Done};
 ghost use Rattle.command_base.specs.declared.done.Done.TheVariants.{Nothing};
-ghost use Rattle.command_base.specs.Faults.{Caused, LeftOnOut, OfRead, OfRefusal, Passed, Precedes};
+ghost use Rattle.command_base.specs.Faults.{HasCause, LeftOnOut, IfReadFault, IfRefusal, IfFilesRead, Precedes};
 ghost use Rattle.command_base.specs.Names.{AreHeld, IsFirstMissing, IsOneOf};
 ghost use Rattle.command_base.specs.Outside.{TookDue};
 ghost use Rattle.command_base.specs.Reading.{HasRead};
@@ -50,7 +50,7 @@ pub trait Work {
         ensures due { IfOk result (λ made. due self.now (S.holds store.old) made.text.items) }
         ensures due_said { IfOk result (λ made. due_said self.now (S.holds store.old) made.said made.text.items) }
         ensures said { IfOk result (λ made. says self.now made.said) }
-        ensures was_refused { IfErr result (λ e. OfRefusal e (refused self.now (S.holds store.old))) }
+        ensures was_refused { IfErr result (λ e. IfRefusal e (refused self.now (S.holds store.old))) }
         ensures is_refused { refused self.now (S.holds store.old) → IsSome (S.holds store.old) → IsErrAnd result Precedes }
         ensures read { HasRead S.holds S.read_faults S.write_faults S.is_sound store.old store.new
             (names self.now) (refused_by self.now (S.holds store.old)) result };
@@ -66,16 +66,16 @@ pub fn do_work<W: Work, S: Store, O: Sink>(
     requires { W.may work.now }
     ensures took { IfOk result (λ said. TookDue (W.due_said work.now (S.holds store.old) said) (O.taken out.old) (O.taken out.new)) }
     ensures said { IfOk result (W.says work.now) }
-    ensures fault { IfErr result (λ e. Caused e
-        (λ name. IsOneOf (W.names work.now) name × Rose (S.read_faults store.old) (S.read_faults store.new))
-        (Rose (O.faults out.old) (O.faults out.new)) (W.refused_by work.now (S.holds store.old))) }
-    ensures was_refused { IfErr result (λ e. OfRefusal e (W.refused work.now (S.holds store.old))) }
+    ensures fault { IfErr result (λ e. HasCause e
+        (λ name. IsOneOf (W.names work.now) name × CountHasRisen (S.read_faults store.old) (S.read_faults store.new))
+        (CountHasRisen (O.faults out.old) (O.faults out.new)) (W.refused_by work.now (S.holds store.old))) }
+    ensures was_refused { IfErr result (λ e. IfRefusal e (W.refused work.now (S.holds store.old))) }
     ensures refused { W.refused work.now (S.holds store.old) → IsSome (S.holds store.old) → IsErrAnd result Precedes }
 
     // What is left after a fault, and which names were held.
     ensures left { IfErr result (λ e. LeftOnOut (W.due work.now (S.holds store.old)) e (O.taken out.old) (O.taken out.new)) }
-    ensures was_held { Passed result (AreHeld (S.holds store.old) (W.names work.now)) }
-    ensures missing { S.is_sound store.old → IfErr result (λ e. OfRead e (IsFirstMissing (S.holds store.old) (W.names work.now))) }
+    ensures was_held { IfFilesRead result (AreHeld (S.holds store.old) (W.names work.now)) }
+    ensures missing { S.is_sound store.old → IfErr result (λ e. IfReadFault e (IsFirstMissing (S.holds store.old) (W.names work.now))) }
     ensures held { S.holds store.new ≡ S.holds store.old }
     ensures writes { S.write_faults store.new ≡ S.write_faults store.old }
 

@@ -1,5 +1,5 @@
 ghost use Rattle.std.specs.Prelude.{◌≡◌, ◌≤◌, ◌-◌, length, IfOk, OnOk, IfErr, IsErrAnd};
-ghost use Rattle.command_base.specs.Faults.{Caused, Precedes};
+ghost use Rattle.command_base.specs.Faults.{HasCause, Precedes};
 ghost use Rattle.command_base.specs.declared.done.Done.TheVariants.{Added};
 ghost use Rattle.command_collect.specs.Collect.{AreBundles, AreRefusedTexts, RefusesTexts, StopsWith, TakesAll, reports_in};
 ghost use Rattle.command_collect.specs.Gathered.{HasGathered};
@@ -36,7 +36,7 @@ fn count(bundles: &[Bundle]) -> u128
 fn add_all(collection: &mut Collection, bundles: Seq<Bundle>) -> Result<(), Fault>
     requires { AreBundles bundles }
     ensures taken { OnOk result (TakesAll collection.old bundles collection.new) }
-    ensures fault { IfErr result (λ e. Caused e (λ n. ⊥) ⊥ (StopsWith collection.old bundles)) }
+    ensures fault { IfErr result (λ e. HasCause e (λ n. ⊥) ⊥ (StopsWith collection.old bundles)) }
 {
     let mut rest = bundles.into_vec();
     rest.reverse();
@@ -66,7 +66,7 @@ impl Gathered {
 /// The collection of the program, to which the reports of all files were added.
 pub fn gather(alloc: Global, texts: &CollectTexts) -> Result<Gathered, Fault>
     ensures gathered { IfOk result (HasGathered texts.now) }
-    ensures fault { IfErr result (λ e. Caused e (λ n. ⊥) ⊥ (λ r. RefusesTexts r texts.now)) }
+    ensures fault { IfErr result (λ e. HasCause e (λ n. ⊥) ⊥ (λ r. RefusesTexts r texts.now)) }
     ensures refused { AreRefusedTexts texts.now → IsErrAnd result Precedes }
 {
     let program = match load_program(alloc, texts.program.as_slice()) {

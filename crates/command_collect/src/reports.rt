@@ -2,7 +2,7 @@ ghost use Rattle.std.specs.Prelude.{◌≡◌, ◌∷◌, [], true, false, List,
 ghost use Rattle.report_file.specs.Report.{IsReport};
 ghost use Rattle.collector.specs.Merging.{IsBundle};
 ghost use Rattle.collector.specs.declared.collection.Bundle.{Bundle};
-ghost use Rattle.command_base.specs.Faults.{Caused};
+ghost use Rattle.command_base.specs.Faults.{HasCause};
 ghost use Rattle.command_base.specs.Reading.{HasRead};
 ghost use Rattle.command_collect.specs.Collect.{AreBundles, AreCollectTexts, AreReadOf, AreSpelled, RefusesFile, RefusesFiles, SpellsFile, collect_names};
 ghost use Rattle.command_collect.specs.Collect.{is_collection};
@@ -75,7 +75,7 @@ fn read_bundle(alloc: Global, number: u64, text: &[u8]) -> Result<Bundle, Fault>
     ensures spells { IfOk result (SpellsFile text.now) }
     ensures only { (b : Bundle) → SpellsFile text.now b → IfOk result (λ r. b ≡ r) }
     ensures is_bundle { IfOk result IsBundle }
-    ensures fault { IfErr result (λ e. Caused e (λ n. ⊥) ⊥ (RefusesFile number text.now)) }
+    ensures fault { IfErr result (λ e. HasCause e (λ n. ⊥) ⊥ (RefusesFile number text.now)) }
 {
     match load_collection(alloc, number, text) {
         Ok(bundle) => Ok(bundle),
@@ -89,7 +89,7 @@ fn read_one(alloc: Global, number: u64, text: &[u8]) -> Result<Bundle, Fault>
     ensures spells { IfOk result (SpellsFile text.now) }
     ensures only { (b : Bundle) → SpellsFile text.now b → IfOk result (λ r. b ≡ r) }
     ensures is_bundle { IfOk result IsBundle }
-    ensures fault { IfErr result (λ e. Caused e (λ n. ⊥) ⊥ (RefusesFile number text.now)) }
+    ensures fault { IfErr result (λ e. HasCause e (λ n. ⊥) ⊥ (RefusesFile number text.now)) }
 {
     match read_report(alloc, text) {
         Ok(report) => Ok(bundle_of(alloc, report)?),
@@ -105,7 +105,7 @@ fn read_reports(alloc: Global, number: u64, text: &[u8]) -> Result<Bundle, Fault
     ensures spells { IfOk result (SpellsFile text.now) }
     ensures only { (b : Bundle) → SpellsFile text.now b → IfOk result (λ r. b ≡ r) }
     ensures is_bundle { IfOk result IsBundle }
-    ensures fault { IfErr result (λ e. Caused e (λ n. ⊥) ⊥ (RefusesFile number text.now)) }
+    ensures fault { IfErr result (λ e. HasCause e (λ n. ⊥) ⊥ (RefusesFile number text.now)) }
 {
     if is_collection(text) {
         read_bundle(alloc, number, text)
@@ -119,7 +119,7 @@ pub fn read_all(alloc: Global, texts: &[Seq<u8>]) -> Result<Seq<Bundle>, Fault>
     ensures spelled { IfOk result (AreSpelled texts.now) }
     ensures only { (others : List Bundle) → AreSpelled texts.now others → IfOk result (λ r. others ≡ r) }
     ensures are_bundles { IfOk result AreBundles }
-    ensures fault { IfErr result (λ e. Caused e (λ n. ⊥) ⊥ (RefusesFiles 1 texts.now)) }
+    ensures fault { IfErr result (λ e. HasCause e (λ n. ⊥) ⊥ (RefusesFiles 1 texts.now)) }
 {
     let mut bundles = Seq::new(alloc);
     let mut number: u64 = 0;

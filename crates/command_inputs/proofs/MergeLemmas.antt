@@ -1,9 +1,8 @@
 -- What a collection that holds nothing comes to, where a bundle that has a text is added to it: it holds the bundle's reports, or the fault tells of
 -- another program or of the first site that isn't there.
 use Rattle.std.specs.Prelude.{is_err}
-use Rattle.std.proofs.Common.{◌≡◌, ◌≢◌, ◌≤◌, ◌<◌, inl, inr, ℕ, ◌+◌, Bool, false, cond, ◌==◌, List, [], ◌∷◌, ◌++◌, length, Result, Ok, Err, Some, None, refl, ap, sym, subst, ◌∙◌, arith, append-nil, append_assoc}
+use Rattle.std.proofs.Common.{◌≡◌, ◌≢◌, ◌≤◌, ◌<◌, inl, inr, ℕ, ◌+◌, Bool, cond, ◌==◌, List, [], ◌∷◌, ◌++◌, length, Ok, Err, Some, None, refl, ap, sym, subst, ◌∙◌, arith, append-nil, append_assoc}
 use Rattle.std.proofs.lemmas.Bool.{false≢true, le-ltb}
-use Rattle.std.proofs.lemmas.Bool.Decides.{nat_tests}
 use Rattle.collector.proofs.Taking.{err-is}
 use Rattle.base_lists.proofs.Options.{none_some}
 use Rattle.base_lists.proofs.Numbers.{other_number}
@@ -16,7 +15,7 @@ use Rattle.collector.specs.declared.answers.Merged.{Merged}
 use Rattle.collector.specs.declared.collection.Bundle.{Bundle}
 use Rattle.collector.specs.declared.collection.Held.{Held}
 use Rattle.collector.specs.Collected.{Adds, mark_limit, marks_of, report_at, report_limit, with_report}
-use Rattle.collector.specs.Merging.{AddsAll, AreOf, Merges, OfAnother, OfThis}
+use Rattle.collector.specs.Merging.{AddsAll, AreOfBundle, Merges, OfAnother, OfThis}
 use Rattle.collector.specs.Sites.{first_bad}
 use Rattle.collector.specs.Spelling.{IsText, RunsFrom}
 use Rattle.command_inputs.specs.Runs.{HaveSites, IsFirstBad}
@@ -111,7 +110,7 @@ one-stops id branches xs more r from (TooManyMarks run) next h same adds = absur
 one-stops id branches xs more r from Memory next h same adds = tt
 
 -- reports of the program that stop
-all-stop : (bundle : Bundle) (id : ProgramId) (branches : List Bool) (xs ys : List Report) (from a p : ℕ) (f : AddFault) (after : Held) → bundle.program ≡ id → AreOf bundle ys → IsRoom from xs ys
+all-stop : (bundle : Bundle) (id : ProgramId) (branches : List Bool) (xs ys : List Report) (from a p : ℕ) (f : AddFault) (after : Held) → bundle.program ≡ id → AreOfBundle bundle ys → IsRoom from xs ys
     → AddsAll (holding id branches xs) ys a p (Err f) after → TellsOf branches ys f
 all-stop bundle id branches xs [] from a p f after same are h adds = absurd (false≢true (sym (ap is_err adds.0)))
 all-stop bundle id branches xs (r ∷ more) from a p f after same are h (Ok Repeated, next, adds, rest) = absurd (none_some (sym (not-held r.run xs (below-next from xs more r h)) ∙ adds.1))

@@ -2,7 +2,7 @@ ghost use Rattle.std.specs.Prelude.{◌≡◌, IfOk, IfErr, Some};
 ghost use Rattle.collector.specs.Merging.{IsBundle};
 ghost use Rattle.collector.specs.Spelling.{IsText, SpellsBundle};
 ghost use Rattle.collector.specs.declared.collection.Bundle.{Bundle};
-ghost use Rattle.command_base.specs.Faults.{Caused, Precedes};
+ghost use Rattle.command_base.specs.Faults.{HasCause, Precedes};
 ghost use Rattle.command_inputs.specs.Collections.{IsBadCollection, fault_of};
 
 use cbi_base::Refusal;
@@ -19,7 +19,7 @@ pub fn load_collection(alloc: Global, number: u64, text: &[u8]) -> Result<Bundle
     ensures is_text { IfOk result IsText }
     ensures is_bundle { IfOk result IsBundle }
     ensures only { (b : Bundle) → SpellsBundle text.now b → IfOk result (λ r. r ≡ b) }
-    ensures fault { IfErr result (λ e. Caused e (λ n. ⊥) ⊥ (IsBadCollection number text.now)) }
+    ensures fault { IfErr result (λ e. HasCause e (λ n. ⊥) ⊥ (IsBadCollection number text.now)) }
     ensures precedes { IfErr result Precedes }
 {
     match read_collection(alloc, text) {
@@ -33,7 +33,7 @@ pub fn load_collection(alloc: Global, number: u64, text: &[u8]) -> Result<Bundle
 
 /// What a fault of an addition is to a command.
 pub fn fault_of(fault: AddFault) -> Fault
-    ensures cause { Caused result (λ n. ⊥) ⊥ (λ r. fault_of r ≡ Some fault) }
+    ensures cause { HasCause result (λ n. ⊥) ⊥ (λ r. fault_of r ≡ Some fault) }
     ensures precedes { Precedes result }
 {
     let refusal = match fault {

@@ -1,5 +1,5 @@
 ghost use Rattle.std.specs.Prelude.{IfOk, IfErr, IsErrAnd, IsSome};
-ghost use Rattle.command_base.specs.Faults.{Caused, OfRefusal, Precedes};
+ghost use Rattle.command_base.specs.Faults.{HasCause, IfRefusal, Precedes};
 ghost use Rattle.command_base.specs.Reading.{HasRead};
 ghost use Rattle.command_inputs.specs.Runs.{AreRefusedRuns, AreRunsOf, AreRunsTexts, HoldsRuns, RefusesRuns, RunsRefused, RunsRefusedBy, runs_names};
 
@@ -42,7 +42,7 @@ fn read_runs_texts<S: Store>(
 /// The program that the texts spell, and the collection of its runs.
 fn load_runs(alloc: Global, texts: &RunsTexts) -> Result<(Program, Collection), Fault>
     ensures runs { IfOk result (λ (program, collection). HoldsRuns texts.now program collection) }
-    ensures fault { IfErr result (λ e. Caused e (λ n. ⊥) ⊥ (λ r. RefusesRuns r texts.now)) }
+    ensures fault { IfErr result (λ e. HasCause e (λ n. ⊥) ⊥ (λ r. RefusesRuns r texts.now)) }
     ensures refused { AreRefusedRuns texts.now → IsErrAnd result Precedes }
 {
     let program = match load_program(alloc, texts.program.as_slice()) {
@@ -71,7 +71,7 @@ pub fn read_runs<S: Store>(
     collection: &Word,
 ) -> Result<(Program, Collection), Fault>
     ensures runs { IfOk result (λ (parts, held). AreRunsOf (S.holds store.old) program.now collection.now parts held) }
-    ensures was_refused { IfErr result (λ e. OfRefusal e (RunsRefused (S.holds store.old) program.now collection.now)) }
+    ensures was_refused { IfErr result (λ e. IfRefusal e (RunsRefused (S.holds store.old) program.now collection.now)) }
     ensures refused { RunsRefused (S.holds store.old) program.now collection.now → IsSome (S.holds store.old) → IsErrAnd result Precedes }
     ensures read { HasRead S.holds S.read_faults S.write_faults S.is_sound store.old store.new
         (runs_names program.now collection.now) (RunsRefusedBy (S.holds store.old) program.now collection.now) result }

@@ -3,14 +3,14 @@ use Rattle.std.proofs.Common.{◌≡◌, ◌≤◌, ◌<◌, ◌⊎◌, inl, inr
 use Rattle.cbi_base.specs.declared.observation.Observation.{Observation}
 use Rattle.cbi_base.specs.Words.{Held, Takes}
 use Rattle.cbi_base.specs.declared.refusal.Refusal.{Refusal}
-use Rattle.cbi_base.specs.declared.refusal.Refusal.TheVariants.{BadByte, BadToken, Syntax, BadType, TooLarge, TooManySites, BadProgram, BadBank, BadReport, Foreign, Conflict, TooManyReports, TooManyMarks, BadCollection, InputTooLarge, NoSite, BadEdits, Absent, NotPart, BadList, LargeInput}
+use Rattle.cbi_base.specs.declared.refusal.Refusal.TheVariants.{BadProgram, BadBank, InputTooLarge}
 use Rattle.flow.specs.declared.program.ProgramParts.{ProgramParts}
 use Rattle.flow.specs.declared.result.RunResult.{RunResult}
-use Rattle.flow.specs.Words.{code_of, MachineEnds, begin, SpellsProgram}
+use Rattle.flow.specs.Words.{code_of, MachineEnds, run_start, SpellsProgram}
 use Rattle.probes.specs.Told.{AllGrewByPrefix}
 use Rattle.countdown_bank.specs.Bank.{BankState, number_after}
 use Rattle.machine.specs.Going.{HasRun, IsWanting}
-use Rattle.machine.specs.Reached.{went, seen_in}
+use Rattle.machine.specs.Reached.{next_after_steps, seen_in}
 use Rattle.planned_runs.proofs.Adding.{length_counts}
 use Rattle.command_base.specs.Limits.{program_limit}
 use Rattle.command_base.specs.Outside.{Outside}
@@ -83,7 +83,7 @@ broke told r before after files parts bank rest slice same l out held w = record
   out = out;
   held = held;
   steps = w.steps;
-  so_far = subst (λ i. AllGrewByPrefix told (seen_in (went (code_of parts (number_after bank)) w.steps (begin parts i (number_after bank) r.turns))) before.boxes after.boxes) same w.so_far;
+  so_far = subst (λ i. AllGrewByPrefix told (seen_in (next_after_steps (code_of parts (number_after bank)) w.steps (run_start parts i (number_after bank) r.turns))) before.boxes after.boxes) same w.so_far;
   prefix = λ ending ends. w.prefix ending (subst (λ i. MachineEnds parts i (number_after bank) r.turns ending) (sym same) ends);
 }
 

@@ -8,12 +8,12 @@ use Rattle.cbi_base.specs.declared.refusal.Refusal.{Refusal}
 use Rattle.cbi_base.specs.declared.refusal.Refusal.TheVariants.{BadProgram, BadBank, InputTooLarge}
 use Rattle.flow.specs.declared.program.ProgramParts.{ProgramParts}
 use Rattle.flow.specs.declared.result.RunResult.{RunResult}
-use Rattle.flow.specs.Words.{code_of, run_result, MachineEnds, begin, Ending, SpellsProgram}
+use Rattle.flow.specs.Words.{code_of, run_result, MachineEnds, run_start, Ending, SpellsProgram}
 use Rattle.probes.specs.Told.{AllGrew, AllGrewByPrefix}
 use Rattle.countdown_bank.specs.Bank.{BankState, AreNumbers, number_after}
 use Rattle.countdown_bank.specs.BankFile.{bank_text, IsBadBankLine}
 use Rattle.program_file.specs.WrongLine.{IsWrongAt}
-use Rattle.machine.specs.Reached.{went, seen_in}
+use Rattle.machine.specs.Reached.{next_after_steps, seen_in}
 use Rattle.report_file.specs.declared.report.Report.{Report}
 use Rattle.report_file.specs.Label.{label_of}
 use Rattle.report_file.specs.Report.{IsReport, entries_of}
@@ -25,7 +25,7 @@ use Rattle.command_inputs.specs.Programs.{IsNoProgram, IsSpelled}
 use Rattle.cbi_options.specs.declared.words.RunWords.{RunWords}
 use Rattle.command_run.specs.declared.files.RunFiles.{RunFiles}
 use Rattle.command_run.specs.Files.{AreFiles, input_limit}
-pub use Rattle.expected.specs.Expected.{agrees}
+pub use Rattle.expected.specs.Expected.{is_expected_output}
 
 -- the bank whose text the bytes are, drawn from its first number on
 pub record IsBankOf (bytes : List ℕ) (bank : BankState) : Type 0 where
@@ -59,7 +59,7 @@ report_of r files ran = record {
   program = record { bytes = sha256 files.program };
   run = r.run;
   outcome = ran.outcome;
-  label = label_of ran.outcome (agrees files.expect ran.output);
+  label = label_of ran.outcome (is_expected_output files.expect ran.output);
   work = ran.work;
   entries = entries_of ran.counts;
 }
@@ -113,7 +113,8 @@ pub record BrokeOff {B : Type 0} (told : B → List Observation) (r : RunWords) 
   pub out : after.out ≡ before.out
   pub held : after.held ≡ before.held
   pub steps : ℕ
-  pub so_far : AllGrewByPrefix told (seen_in (went (code_of parts (number_after bank)) steps (begin parts files.input (number_after bank) r.turns)))
+  pub so_far : AllGrewByPrefix told (seen_in
+      (next_after_steps (code_of parts (number_after bank)) steps (run_start parts files.input (number_after bank) r.turns)))
       before.boxes after.boxes
   pub prefix : (ending : Ending) → MachineEnds parts files.input (number_after bank) r.turns ending → AllGrewByPrefix told ending.seen before.boxes after.boxes
 

@@ -1,8 +1,8 @@
 ghost use Rattle.std.specs.Prelude.{◌≡◌, ◌≤◌, IfOk, OnOk, IfErr, IsErrAnd, IsNone, IsSome};
-ghost use Rattle.cbi_base.specs.Faults.{Rose};
-ghost use Rattle.command_base.specs.Faults.{WriteFaultOf, Caused, OfRead, OfRefusal, Precedes, Passed};
+ghost use Rattle.cbi_base.specs.Faults.{CountHasRisen};
+ghost use Rattle.command_base.specs.Faults.{WriteFaultOf, HasCause, IfReadFault, IfRefusal, Precedes, IfFilesRead};
 ghost use Rattle.command_base.specs.Names.{IsOneOf, IsFirstMissing, AreHeld};
-ghost use Rattle.command_base.specs.Outside.{outside, AllStayBut};
+ghost use Rattle.command_base.specs.Outside.{outside_state, AllStayBut};
 ghost use Rattle.command_base.specs.declared.done.Done.TheVariants.{Lines};
 ghost use Rattle.command_run.specs.Files.{run_names};
 ghost use Rattle.command_run.specs.Run.{LeftByRun, Ran, RunRefused, RunRefusedBy};
@@ -28,20 +28,21 @@ pub fn run_file<S: Store, O: Sink>(
     requires turns { words.now.turns ≤ 100000000 }
     requires run { 1 ≤ words.now.run }
     ensures ran { OnOk result (Ran (λ b. seen b) words.now
-        (outside (S.holds store.old) (O.taken out.old) probes.old.items) (outside (S.holds store.new) (O.taken out.new) probes.new.items)) }
+        (outside_state (S.holds store.old) (O.taken out.old) probes.old.items) (outside_state (S.holds store.new) (O.taken out.new) probes.new.items)) }
     ensures said { IfOk result (λ said. said ≡ Lines) }
-    ensures fault { IfErr result (λ e. Caused e
-        (λ name. IsOneOf (run_names words.now) name × Rose (S.read_faults store.old) (S.read_faults store.new))
-        (WriteFaultOf words.now.report (Rose (O.faults out.old) (O.faults out.new)) (Rose (S.write_faults store.old) (S.write_faults store.new)))
+    ensures fault { IfErr result (λ e. HasCause e
+        (λ name. IsOneOf (run_names words.now) name × CountHasRisen (S.read_faults store.old) (S.read_faults store.new))
+        (WriteFaultOf words.now.report (CountHasRisen (O.faults out.old) (O.faults out.new))
+        (CountHasRisen (S.write_faults store.old) (S.write_faults store.new)))
         (RunRefusedBy words.now (S.holds store.old))) }
-    ensures was_refused { IfErr result (λ e. OfRefusal e (RunRefused words.now (S.holds store.old))) }
+    ensures was_refused { IfErr result (λ e. IfRefusal e (RunRefused words.now (S.holds store.old))) }
     ensures refused { RunRefused words.now (S.holds store.old) → IsSome (S.holds store.old) → IsErrAnd result Precedes }
 
     // What is left after a fault, and which names were held.
     ensures left { IfErr result (λ e. LeftByRun (λ b. seen b) words.now e
-        (outside (S.holds store.old) (O.taken out.old) probes.old.items) (outside (S.holds store.new) (O.taken out.new) probes.new.items)) }
-    ensures was_held { Passed result (AreHeld (S.holds store.old) (run_names words.now)) }
-    ensures missing { S.is_sound store.old → IfErr result (λ e. OfRead e (IsFirstMissing (S.holds store.old) (run_names words.now))) }
+        (outside_state (S.holds store.old) (O.taken out.old) probes.old.items) (outside_state (S.holds store.new) (O.taken out.new) probes.new.items)) }
+    ensures was_held { IfFilesRead result (AreHeld (S.holds store.old) (run_names words.now)) }
+    ensures missing { S.is_sound store.old → IfErr result (λ e. IfReadFault e (IsFirstMissing (S.holds store.old) (run_names words.now))) }
     ensures held { AllStayBut words.now.report (S.holds store.old) (S.holds store.new) }
     ensures no_write { IsNone words.now.report → S.write_faults store.new ≡ S.write_faults store.old }
 

@@ -1,7 +1,7 @@
 ghost use Rattle.std.specs.Prelude.{◌≤◌, length, IfOk, OnOk, IfErr, IsErrAnd};
 ghost use Rattle.std.specs.Option.{option_to_list};
 ghost use Rattle.flow.specs.Spelling.{SpellsProgram};
-ghost use Rattle.command_base.specs.Faults.{Caused, Precedes};
+ghost use Rattle.command_base.specs.Faults.{HasCause, Precedes};
 ghost use Rattle.command_base.specs.Reading.{HasRead};
 ghost use Rattle.command_run.specs.Files.{AreFiles, IsReadOr, IsReadWhere, run_names};
 ghost use Rattle.command_run.specs.Run.{IsBankOf, AreRefused, RefusesBytes};
@@ -106,7 +106,7 @@ pub fn look(alloc: Global, files: &RunFiles) -> Result<(Program, Bank), Fault>
     ensures found { IfOk result (λ (program, bank). SpellsProgram files.now.program program) }
     ensures bank { IfOk result (λ (program, bank). IsBankOf files.now.bank bank) }
     ensures fits { OnOk result (length files.now.input ≤ 16777216) }
-    ensures fault { IfErr result (λ e. Caused e (λ n. ⊥) ⊥ (λ r. RefusesBytes r files.now)) }
+    ensures fault { IfErr result (λ e. HasCause e (λ n. ⊥) ⊥ (λ r. RefusesBytes r files.now)) }
     ensures refused { AreRefused files.now → IsErrAnd result Precedes }
 {
     let program = match load_program(alloc, files.program.as_slice()) {

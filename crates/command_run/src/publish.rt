@@ -1,9 +1,9 @@
 ghost use Rattle.std.specs.Prelude.{◌≡◌, ◌≤◌, length, IfOk, OnOk, OnErr, IfErr, IsNone};
-ghost use Rattle.cbi_base.specs.Words.{Rose, Takes};
+ghost use Rattle.cbi_base.specs.Words.{CountHasRisen, Takes};
 ghost use Rattle.machine.specs.Going.{IsBounded};
 ghost use Rattle.report_file.specs.Report.{IsReport, IsSummary};
 ghost use Rattle.report_file.specs.Spelling.{report_text};
-ghost use Rattle.command_base.specs.Faults.{WriteFaultOf, Caused};
+ghost use Rattle.command_base.specs.Faults.{WriteFaultOf, HasCause};
 ghost use Rattle.command_base.specs.Outside.{AllStayBut};
 ghost use Rattle.command_run.specs.Run.{PublishesPart, Reports, report_of};
 
@@ -65,8 +65,9 @@ pub fn publish<S: Store, O: Sink>(
     requires few { length ran.now.counts ≤ 65536 }
     ensures took { OnOk result (Takes (O.taken out.old) (O.taken out.new) ran.now.output) }
     ensures reported { OnOk result (Reports words.now.report (S.holds store.old) (S.holds store.new) (report_of words.now files.now ran.now)) }
-    ensures fault { IfErr result (λ e. Caused e (λ n. ⊥)
-        (WriteFaultOf words.now.report (Rose (O.faults out.old) (O.faults out.new)) (Rose (S.write_faults store.old) (S.write_faults store.new))) (λ r. ⊥)) }
+    ensures fault { IfErr result (λ e. HasCause e (λ n. ⊥)
+        (WriteFaultOf words.now.report (CountHasRisen (O.faults out.old) (O.faults out.new))
+        (CountHasRisen (S.write_faults store.old) (S.write_faults store.new))) (λ r. ⊥)) }
     ensures part { OnErr result (PublishesPart words.now files.now ran.now (O.taken out.old) (O.taken out.new) (S.holds store.old) (S.holds store.new)) }
     ensures held { AllStayBut words.now.report (S.holds store.old) (S.holds store.new) }
     ensures no_write { IsNone words.now.report → S.write_faults store.new ≡ S.write_faults store.old }

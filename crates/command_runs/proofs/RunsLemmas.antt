@@ -2,13 +2,13 @@
 use Rattle.std.proofs.Common.{◌≡◌, ◌≤◌, inl, inr, ℕ, List, [], ◌∷◌, length, Option, Some, None, Err, IsSome, ap, sym, subst, refl, ◌∙◌, arith}
 use Rattle.planned_runs.proofs.Going.{rose-before}
 use Rattle.cbi_base.specs.declared.refusal.Refusal.{Refusal}
-use Rattle.cbi_base.specs.Words.{Rose, Held}
+use Rattle.cbi_base.specs.Words.{CountHasRisen, Held}
 use Rattle.flow.specs.declared.program.ProgramParts.{ProgramParts}
 use Rattle.planned_runs.specs.Left.{PlanRefusedBy}
 use Rattle.planned_runs.specs.Runs.{names_from}
 use Rattle.command_base.specs.declared.fault.Fault.{Fault}
 use Rattle.command_base.specs.declared.fault.Fault.TheVariants.{Read, Write, Refused, Memory}
-use Rattle.command_base.specs.Faults.{Caused, Finished, OfRefusal, Precedes}
+use Rattle.command_base.specs.Faults.{HasCause, IfAllRead, IfRefusal, Precedes}
 use Rattle.command_base.specs.Limits.{program_limit}
 use Rattle.command_base.specs.Names.{AreHeld, IsFirstMissing, IsOneOf}
 use Rattle.command_base.proofs.ReadLemmas.{read-once}
@@ -108,9 +108,9 @@ bad-same r held texts tells are refused = subst (AreBadTexts r) (texts-once held
 -- what a fault of the runs is to the call
 pub fault-of-runs : (e : Fault) (r : RunsWords) (held now : Option Held) (texts : ListTexts) (parts : ProgramParts) (plan : ListedPlan) (count before then after : ℕ) (write : Type 0)
     → IsLinesPlan held r texts parts plan → now ≡ held → count ≡ length plan.inputs → before ≤ then
-    → Caused e (λ name. IsOneOf (names_from (names_of_line plan) plan.first count) name × Rose then after) ⊥
+    → HasCause e (λ name. IsOneOf (names_from (names_of_line plan) plan.first count) name × CountHasRisen then after) ⊥
     (PlanRefusedBy parts (IsMadeOn plan now) plan.first count r.turns (RefusesLine plan now))
-    → Caused e (λ name. IsRunsName r held name × Rose before after) write (ListedRefusedBy r held)
+    → HasCause e (λ name. IsRunsName r held name × CountHasRisen before after) write (ListedRefusedBy r held)
 fault-of-runs (Read name) r held now texts parts plan count before then after write is_plan same counted never h =
     (line-name r held texts parts plan count name is_plan counted h.0, rose-before before then after never h.1)
 fault-of-runs Write r held now texts parts plan count before then after write is_plan same counted never h = absurd h
@@ -118,8 +118,8 @@ fault-of-runs (Refused refusal) r held now texts parts plan count before then af
 fault-of-runs Memory r held now texts parts plan count before then after write is_plan same counted never h = tt
 
 -- a fault of the look at the first texts
-pub fault-of-look : (e : Fault) (r : RunsWords) (held : Option Held) (texts : ListTexts) (read : List ℕ → Type 0) (write : Type 0) → AreListTexts held r texts → Caused e (λ name. ⊥) ⊥ (RefusesFirst r texts)
-    → Caused e read write (ListedRefusedBy r held)
+pub fault-of-look : (e : Fault) (r : RunsWords) (held : Option Held) (texts : ListTexts) (read : List ℕ → Type 0) (write : Type 0) → AreListTexts held r texts → HasCause e (λ name. ⊥) ⊥ (RefusesFirst r texts)
+    → HasCause e read write (ListedRefusedBy r held)
 fault-of-look (Read name) r held texts read write are h = absurd h
 fault-of-look Write r held texts read write are h = absurd h
 fault-of-look (Refused refusal) r held texts read write are h = inl (record { texts = texts; are_texts = are; refused = h })
@@ -141,17 +141,17 @@ refuses-bad r texts refusal (inr (p, inl h)) = inr (inl h.none)
 refuses-bad r texts refusal (inr (p, inr (inl (q, h)))) = inr (inr (inl (bad-where r.first texts.expect refusal h)))
 refuses-bad r texts refusal (inr (p, inr (inr h))) = inr (inr (inr (record { inputs = h.inputs; expects = h.expects; spell = h.spell; unequal = uneven-unequal h.inputs h.expects refusal h.uneven })))
 
-pub first-refused : (e : Fault) (r : RunsWords) (held : Option Held) (texts : ListTexts) → AreListTexts held r texts → Caused e (λ name. ⊥) ⊥ (RefusesFirst r texts) → OfRefusal e (ListedRefused r held)
+pub first-refused : (e : Fault) (r : RunsWords) (held : Option Held) (texts : ListTexts) → AreListTexts held r texts → HasCause e (λ name. ⊥) ⊥ (RefusesFirst r texts) → IfRefusal e (ListedRefused r held)
 first-refused (Refused refusal) r held texts are h = inl (record { texts = texts; are_texts = are; bad = refuses-bad r texts refusal h })
 first-refused e r held texts are h = tt
 
 -- a fault that no write met comes before a refusal, or is one
-pub precedes-of : (e : Fault) (read : List ℕ → Type 0) (refused : Refusal → Type 0) → Caused e read ⊥ refused → Precedes e
+pub precedes-of : (e : Fault) (read : List ℕ → Type 0) (refused : Refusal → Type 0) → HasCause e read ⊥ refused → Precedes e
 precedes-of Write read refused h = h
 precedes-of e read refused h = tt
 
 -- what is so when all was read is so after a fault of out
-pub finished-as : (A : Type 0) (e : Fault) (P : Type 0) → P → Finished {A = A} (Err e) P
+pub finished-as : (A : Type 0) (e : Fault) (P : Type 0) → P → IfAllRead {A = A} (Err e) P
 finished-as A Write P h = h
 finished-as A e P h = tt
 

@@ -18,7 +18,7 @@ use Rattle.command_base.specs.declared.done.Done.{Done}
 use Rattle.command_base.specs.declared.done.Done.TheVariants.{Counted}
 use Rattle.command_base.specs.declared.fault.Fault.{Fault}
 use Rattle.command_base.specs.declared.fault.Fault.TheVariants.{Read, Write, Refused, Memory}
-use Rattle.command_base.specs.Faults.{Caused}
+use Rattle.command_base.specs.Faults.{HasCause}
 use Rattle.command_base.specs.Outside.{IsUnmoved, Outside}
 use Rattle.command_runs.specs.Line.{IsMadeOn, RefusesLine, names_of_line}
 use Rattle.command_runs.specs.Lists.{AreListTexts, IsLinesPlan, RefusesFirst}
@@ -32,7 +32,7 @@ collected program branches reports = record { program = program; branches = bran
 
 module _ {B : Type 0} (told : B → List Observation) (r : RunsWords) (before after : Outside B) where
   -- the first texts were refused
-  pub left-refused : (e : Fault) (texts : ListTexts) → AreListTexts before.held r texts → Caused e (λ n. ⊥) ⊥ (RefusesFirst r texts) → IsUnmoved before after → LeftByRuns told r before after e
+  pub left-refused : (e : Fault) (texts : ListTexts) → AreListTexts before.held r texts → HasCause e (λ n. ⊥) ⊥ (RefusesFirst r texts) → IsUnmoved before after → LeftByRuns told r before after e
   left-refused (Read name) texts are h same = absurd h
   left-refused Write texts are h same = absurd h
   left-refused (Refused refusal) texts are h same = inl (same, record { texts = texts; are_texts = are; refused = h })
@@ -46,7 +46,7 @@ module _ {B : Type 0} (told : B → List Observation) (r : RunsWords) (before af
   left-of Memory s = inr (inl s)
 
   -- all runs were made, and out didn't take the whole text
-  pub left-taken : (e : Fault) (write : Type 0) → Caused e (λ n. ⊥) write (λ refusal. ⊥) → RunsTaken told r before after → LeftByRuns told r before after e
+  pub left-taken : (e : Fault) (write : Type 0) → HasCause e (λ n. ⊥) write (λ refusal. ⊥) → RunsTaken told r before after → LeftByRuns told r before after e
   left-taken (Read name) write h s = absurd h
   left-taken Write write h s = s
   left-taken (Refused refusal) write h s = absurd h

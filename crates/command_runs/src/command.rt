@@ -1,10 +1,10 @@
 ghost use Rattle.std.specs.Prelude.{◌≡◌, ◌≤◌, IfOk, IfErr, IsErrAnd, IsSome};
-ghost use Rattle.cbi_base.specs.Faults.{Rose};
+ghost use Rattle.cbi_base.specs.Faults.{CountHasRisen};
 ghost use Rattle.collector.specs.Collecting.{IsCollection};
 ghost use Rattle.collector.specs.Spelling.{collection_text};
-ghost use Rattle.command_base.specs.Faults.{Caused, Finished, OfRead, OfRefusal, Precedes, Passed};
+ghost use Rattle.command_base.specs.Faults.{HasCause, IfAllRead, IfReadFault, IfRefusal, Precedes, IfFilesRead};
 ghost use Rattle.command_base.specs.Names.{AreHeld};
-ghost use Rattle.command_base.specs.Outside.{outside};
+ghost use Rattle.command_base.specs.Outside.{outside_state};
 ghost use Rattle.command_base.specs.declared.done.Done.TheVariants.{Counted};
 ghost use Rattle.command_runs.specs.Lists.{first_names};
 ghost use Rattle.command_runs.specs.Runs.{AreRunsHeld, IsRunsMissing, IsRunsName, LeftByRuns, ListedRefused, ListedRefusedBy, RunsDone};
@@ -49,19 +49,19 @@ pub fn make_runs<S: Store, O: Sink>(
     requires first { 1 ≤ words.now.first }
     requires turns { words.now.turns ≤ 100000000 }
     ensures done { IfOk result (RunsDone (λ b. seen b) words.now
-        (outside (S.holds store.old) (O.taken out.old) probes.old.items) (outside (S.holds store.new) (O.taken out.new) probes.new.items)) }
-    ensures fault { IfErr result (λ e. Caused e
-        (λ name. IsRunsName words.now (S.holds store.old) name × Rose (S.read_faults store.old) (S.read_faults store.new))
-        (Rose (O.faults out.old) (O.faults out.new)) (ListedRefusedBy words.now (S.holds store.old))) }
-    ensures was_refused { IfErr result (λ e. OfRefusal e (ListedRefused words.now (S.holds store.old))) }
+        (outside_state (S.holds store.old) (O.taken out.old) probes.old.items) (outside_state (S.holds store.new) (O.taken out.new) probes.new.items)) }
+    ensures fault { IfErr result (λ e. HasCause e
+        (λ name. IsRunsName words.now (S.holds store.old) name × CountHasRisen (S.read_faults store.old) (S.read_faults store.new))
+        (CountHasRisen (O.faults out.old) (O.faults out.new)) (ListedRefusedBy words.now (S.holds store.old))) }
+    ensures was_refused { IfErr result (λ e. IfRefusal e (ListedRefused words.now (S.holds store.old))) }
     ensures refused { ListedRefused words.now (S.holds store.old) → IsSome (S.holds store.old) → IsErrAnd result Precedes }
 
     // What is left after a fault, and which names were held: the first of them where the bytes read are refused, and else all.
     ensures left { IfErr result (LeftByRuns (λ b. seen b) words.now
-        (outside (S.holds store.old) (O.taken out.old) probes.old.items) (outside (S.holds store.new) (O.taken out.new) probes.new.items)) }
-    ensures was_held { Passed result (AreHeld (S.holds store.old) (first_names words.now)) }
-    ensures lines_held { Finished result (AreRunsHeld words.now (S.holds store.old)) }
-    ensures missing { S.is_sound store.old → IfErr result (λ e. OfRead e (IsRunsMissing words.now (S.holds store.old))) }
+        (outside_state (S.holds store.old) (O.taken out.old) probes.old.items) (outside_state (S.holds store.new) (O.taken out.new) probes.new.items)) }
+    ensures was_held { IfFilesRead result (AreHeld (S.holds store.old) (first_names words.now)) }
+    ensures lines_held { IfAllRead result (AreRunsHeld words.now (S.holds store.old)) }
+    ensures missing { S.is_sound store.old → IfErr result (λ e. IfReadFault e (IsRunsMissing words.now (S.holds store.old))) }
     ensures held { S.holds store.new ≡ S.holds store.old }
     ensures writes { S.write_faults store.new ≡ S.write_faults store.old }
 

@@ -1,7 +1,7 @@
 ghost use Rattle.std.specs.Prelude.{◌≡◌, ◌≤◌, length, IfOk, IfSome, OnOk, IfErr, IsErrAnd};
 ghost use Rattle.flow.specs.declared.program.ProgramParts.{ProgramParts};
 ghost use Rattle.name_lists.specs.List.{SpellsList};
-ghost use Rattle.command_base.specs.Faults.{Caused, Precedes};
+ghost use Rattle.command_base.specs.Faults.{HasCause, Precedes};
 ghost use Rattle.command_runs.specs.Lists.{AreBadTexts, AreUneven, IsBadList, IsBadWhere, RefusesFirst, RefusesLists, SpellLists, SpellPlan, SpellsWhere};
 ghost use Rattle.command_runs.specs.Line.{AreAsMany};
 ghost use Rattle.command_runs.specs.declared.plan.ListedPlan.{ListedPlan};
@@ -20,7 +20,7 @@ use std::alloc::Global;
 fn load_list(alloc: Global, file: u64, first: u32, text: &[u8]) -> Result<Seq<Word>, Fault>
     requires { 1 ≤ first }
     ensures found { IfOk result (SpellsList first text.now) }
-    ensures fault { IfErr result (λ e. Caused e (λ n. ⊥) ⊥ (IsBadList file first text.now)) }
+    ensures fault { IfErr result (λ e. HasCause e (λ n. ⊥) ⊥ (IsBadList file first text.now)) }
     ensures precedes { IfErr result Precedes }
 {
     match read_list(alloc, first, text) {
@@ -36,7 +36,7 @@ fn load_list(alloc: Global, file: u64, first: u32, text: &[u8]) -> Result<Seq<Wo
 fn load_where(alloc: Global, first: u32, text: &Option<Seq<u8>>) -> Result<Option<Seq<Word>>, Fault>
     requires { 1 ≤ first }
     ensures found { IfOk result (SpellsWhere first text.now) }
-    ensures fault { IfErr result (λ e. Caused e (λ n. ⊥) ⊥ (IsBadWhere first text.now)) }
+    ensures fault { IfErr result (λ e. HasCause e (λ n. ⊥) ⊥ (IsBadWhere first text.now)) }
     ensures precedes { IfErr result Precedes }
 {
     match text {
@@ -53,7 +53,7 @@ fn compare(inputs: &Seq<Word>, expects: &Option<Seq<Word>>) -> Result<(), Fault>
     requires inputs { length inputs.now ≤ 100000 }
     requires expects { IfSome expects.now (λ names. length names ≤ 100000) }
     ensures equal { OnOk result (AreAsMany inputs.now expects.now) }
-    ensures fault { IfErr result (λ e. Caused e (λ n. ⊥) ⊥ (AreUneven inputs.now expects.now)) }
+    ensures fault { IfErr result (λ e. HasCause e (λ n. ⊥) ⊥ (AreUneven inputs.now expects.now)) }
     ensures precedes { IfErr result Precedes }
 {
     let Some(expects) = expects else {
@@ -78,7 +78,7 @@ fn compare(inputs: &Seq<Word>, expects: &Option<Seq<Word>>) -> Result<(), Fault>
 fn load_plan(alloc: Global, words: &RunsWords, texts: &ListTexts) -> Result<ListedPlan, Fault>
     requires { 1 ≤ words.now.first }
     ensures found { IfOk result (SpellLists words.now texts.now) }
-    ensures fault { IfErr result (λ e. Caused e (λ n. ⊥) ⊥ (RefusesLists words.now texts.now)) }
+    ensures fault { IfErr result (λ e. HasCause e (λ n. ⊥) ⊥ (RefusesLists words.now texts.now)) }
     ensures precedes { IfErr result Precedes }
 {
     let inputs = load_list(alloc, 1, words.first, texts.inputs.as_slice())?;
@@ -109,7 +109,7 @@ pub fn look(
     ensures found { IfOk result (λ (program, plan). SpellPlan words.now texts.now program plan) }
     ensures only { (parts : ProgramParts) (plan : ListedPlan) → SpellPlan words.now texts.now parts plan
         → IfOk result (λ (program, found). (program ≡ parts) × (found ≡ plan)) }
-    ensures fault { IfErr result (λ e. Caused e (λ n. ⊥) ⊥ (RefusesFirst words.now texts.now)) }
+    ensures fault { IfErr result (λ e. HasCause e (λ n. ⊥) ⊥ (RefusesFirst words.now texts.now)) }
     ensures refused { AreBadTexts words.now texts.now → IsErrAnd result Precedes }
 {
     // A law, for the clauses `only` and `refused`: a text spells one list.

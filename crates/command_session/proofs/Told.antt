@@ -3,7 +3,7 @@ use Rattle.std.proofs.Common.{◌≡◌, ℕ, refl, List, [], ◌∷◌, ◌++�
 use Rattle.base_lists.proofs.Options.{none_some, some_is}
 use Rattle.cbi_base.specs.declared.identity.ProgramId.{ProgramId}
 use Rattle.cbi_base.specs.declared.refusal.Refusal.{Refusal}
-use Rattle.cbi_base.specs.declared.refusal.Refusal.TheVariants.{BadByte, BadToken, Syntax, BadType, TooLarge, TooManySites, BadProgram, BadBank, BadReport, Foreign, Conflict, TooManyReports, TooManyMarks, BadCollection, InputTooLarge, NoSite, BadEdits, Absent, NotPart, BadList, LargeInput}
+use Rattle.cbi_base.specs.declared.refusal.Refusal.TheVariants.{Foreign, Conflict, TooManyReports, TooManyMarks, NoSite, Absent}
 use Rattle.flow.specs.Program.{table_of}
 use Rattle.collector.specs.Collected.{Adds}
 use Rattle.collector.specs.declared.answers.AddFault.{AddFault}
@@ -12,7 +12,7 @@ use Rattle.collector.specs.declared.collection.Held.{Held}
 use Rattle.command_inputs.specs.Collections.{fault_of}
 use Rattle.session_edits.specs.Spelling.{AreEdits, IsEdit}
 use Rattle.session_edits.specs.declared.edit.Edit.{Edit}
-use Rattle.session_edits.specs.declared.edit.Edit.TheVariants.{Add, Remove, Relabel, Rank}
+use Rattle.session_edits.specs.declared.edit.Edit.TheVariants.{Add}
 use Rattle.session_replay.specs.declared.fault.EditFault.{EditFault}
 use Rattle.session_replay.specs.declared.fault.EditFault.TheVariants as fault
 use Rattle.session_replay.specs.Replay.{FaultsAt, no_runs}

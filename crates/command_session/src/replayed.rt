@@ -1,5 +1,5 @@
 ghost use Rattle.std.specs.Prelude.{◌≡◌, List, IfErr, IfOk, IsErrAnd};
-ghost use Rattle.command_base.specs.Faults.{Caused, Precedes};
+ghost use Rattle.command_base.specs.Faults.{HasCause, Precedes};
 ghost use Rattle.command_base.specs.Reading.{HasRead};
 ghost use Rattle.command_session.specs.Session.{AreRefusedTexts, AreSessionTexts, AreTextsReplayed, IsBadEdits, RefusesTexts, TellsOf, session_names};
 ghost use Rattle.session_edits.specs.Spelling.{SpellsEdits};
@@ -39,7 +39,7 @@ pub fn read_texts<S: Store>(
 fn load_edits(alloc: Global, program: &ProgramId, text: &[u8]) -> Result<Seq<Edit>, Fault>
     ensures found { IfOk result (SpellsEdits program.now text.now) }
     ensures only { (edits : List Edit) → SpellsEdits program.now text.now edits → IfOk result (λ r. r ≡ edits) }
-    ensures fault { IfErr result (λ e. Caused e (λ n. ⊥) ⊥ (IsBadEdits program.now text.now)) }
+    ensures fault { IfErr result (λ e. HasCause e (λ n. ⊥) ⊥ (IsBadEdits program.now text.now)) }
     ensures precedes { IfErr result Precedes }
 {
     match read_edits(alloc, program, text) {
@@ -53,7 +53,7 @@ fn load_edits(alloc: Global, program: &ProgramId, text: &[u8]) -> Result<Seq<Edi
 
 // What a faulty edit is to the command.
 fn fault_of_edit(fault: EditFault) -> Fault
-    ensures cause { Caused result (λ n. ⊥) ⊥ (TellsOf fault) }
+    ensures cause { HasCause result (λ n. ⊥) ⊥ (TellsOf fault) }
     ensures precedes { Precedes result }
 {
     match fault {
@@ -68,7 +68,7 @@ fn fault_of_edit(fault: EditFault) -> Fault
 /// The rankings that the texts ask for.
 pub fn replay_texts(alloc: Global, texts: &SessionTexts, policy: Policy) -> Result<Vec<u8>, Fault>
     ensures text { IfOk result (λ text. AreTextsReplayed texts.now policy text.items) }
-    ensures fault { IfErr result (λ e. Caused e (λ n. ⊥) ⊥ (λ r. RefusesTexts r texts.now)) }
+    ensures fault { IfErr result (λ e. HasCause e (λ n. ⊥) ⊥ (λ r. RefusesTexts r texts.now)) }
     ensures refused { AreRefusedTexts texts.now → IsErrAnd result Precedes }
 {
     let program = match load_program(alloc, texts.program.as_slice()) {

@@ -3,7 +3,7 @@
 use Rattle.std.specs.Prelude.{◌≡◌, ◌⊎◌, ℕ, List, [], ◌∷◌, ◌++◌, codes, decimal, Option}
 use Rattle.cbi_base.specs.declared.observation.Observation.{Observation}
 use Rattle.cbi_base.specs.declared.refusal.Refusal.{Refusal}
-use Rattle.cbi_base.specs.Words.{Held, IsReadOf, ended, spaced}
+use Rattle.cbi_base.specs.Words.{Held, IsReadOf, line_with_newline, line_of_fields}
 use Rattle.study_runs.specs.declared.plan.StudyPlan.{StudyPlan}
 use Rattle.study_runs.specs.Sums.{Sums}
 use Rattle.study.specs.declared.ranked.StudyFault.{StudyFault}
@@ -31,7 +31,7 @@ summary_fields runs s =
     ∷ codes "fast" ∷ decimal s.fast ∷ codes "slow" ∷ decimal s.slow ∷ codes "tests" ∷ decimal s.tests ∷ []
 
 abbrev pub summary_line : (runs : ℕ) → Sums → List ℕ
-summary_line runs s = ended (spaced (summary_fields runs s))
+summary_line runs s = line_with_newline (line_of_fields (summary_fields runs s))
 
 -- what is written of a study: the text of its ranking, and then that line
 abbrev pub study_text : StudyPlan → StudyResult → List ℕ

@@ -1,8 +1,8 @@
 ghost use Rattle.std.specs.Prelude.{◌≡◌, ◌≤◌, ◌++◌, decimal, IfOk, OnOk, IfErr, IsErrAnd, IsSome};
-ghost use Rattle.cbi_base.specs.Faults.{Rose};
-ghost use Rattle.command_base.specs.Faults.{Caused, OfRead, OfRefusal, Precedes, Passed};
+ghost use Rattle.cbi_base.specs.Faults.{CountHasRisen};
+ghost use Rattle.command_base.specs.Faults.{HasCause, IfReadFault, IfRefusal, Precedes, IfFilesRead};
 ghost use Rattle.command_base.specs.Names.{IsOneOf, IsFirstMissing, AreHeld};
-ghost use Rattle.command_base.specs.Outside.{outside};
+ghost use Rattle.command_base.specs.Outside.{outside_state};
 ghost use Rattle.command_base.specs.declared.done.Done.TheVariants.{Lines};
 ghost use Rattle.command_study.specs.Study.{StudyDone, StudyLeftByFault, StudyRefused, StudyRefusedBy, study_names, study_text, summary_line};
 
@@ -60,19 +60,19 @@ pub fn study_text<S: Store, O: Sink>(
     requires rate { (1 ≤ words.now.rate) × (words.now.rate ≤ 65536) }
     requires turns { words.now.turns ≤ 100000000 }
     ensures done { OnOk result (StudyDone (λ b. seen b) words.now
-        (outside (S.holds store.old) (O.taken out.old) probes.old.items) (outside (S.holds store.new) (O.taken out.new) probes.new.items)) }
+        (outside_state (S.holds store.old) (O.taken out.old) probes.old.items) (outside_state (S.holds store.new) (O.taken out.new) probes.new.items)) }
     ensures said { IfOk result (λ said. said ≡ Lines) }
-    ensures fault { IfErr result (λ e. Caused e
-        (λ name. IsOneOf (study_names words.now) name × Rose (S.read_faults store.old) (S.read_faults store.new))
-        (Rose (O.faults out.old) (O.faults out.new)) (StudyRefusedBy words.now (S.holds store.old))) }
-    ensures was_refused { IfErr result (λ e. OfRefusal e (StudyRefused words.now (S.holds store.old))) }
+    ensures fault { IfErr result (λ e. HasCause e
+        (λ name. IsOneOf (study_names words.now) name × CountHasRisen (S.read_faults store.old) (S.read_faults store.new))
+        (CountHasRisen (O.faults out.old) (O.faults out.new)) (StudyRefusedBy words.now (S.holds store.old))) }
+    ensures was_refused { IfErr result (λ e. IfRefusal e (StudyRefused words.now (S.holds store.old))) }
     ensures refused { StudyRefused words.now (S.holds store.old) → IsSome (S.holds store.old) → IsErrAnd result Precedes }
 
     // What is left after a fault, and which names were held.
     ensures left { IfErr result (λ e. StudyLeftByFault (λ b. seen b) words.now e
-        (outside (S.holds store.old) (O.taken out.old) probes.old.items) (outside (S.holds store.new) (O.taken out.new) probes.new.items)) }
-    ensures was_held { Passed result (AreHeld (S.holds store.old) (study_names words.now)) }
-    ensures missing { S.is_sound store.old → IfErr result (λ e. OfRead e (IsFirstMissing (S.holds store.old) (study_names words.now))) }
+        (outside_state (S.holds store.old) (O.taken out.old) probes.old.items) (outside_state (S.holds store.new) (O.taken out.new) probes.new.items)) }
+    ensures was_held { IfFilesRead result (AreHeld (S.holds store.old) (study_names words.now)) }
+    ensures missing { S.is_sound store.old → IfErr result (λ e. IfReadFault e (IsFirstMissing (S.holds store.old) (study_names words.now))) }
     ensures held { S.holds store.new ≡ S.holds store.old }
     ensures writes { S.write_faults store.new ≡ S.write_faults store.old }
 

@@ -2,7 +2,7 @@ ghost use Rattle.std.specs.Prelude.{◌≡◌, IfOk, IfErr, IsErrAnd};
 ghost use Rattle.flow.specs.Sites.{MayPart};
 ghost use Rattle.compiler.specs.Planned.{part_in};
 ghost use Rattle.compiler.specs.Refused.{IsRefusedText, RefusesText};
-ghost use Rattle.command_base.specs.Faults.{Caused, Precedes};
+ghost use Rattle.command_base.specs.Faults.{HasCause, Precedes};
 ghost use Rattle.command_transform.specs.Transform.{IsFileOf, IsTransformed, TransformRefused, TransformRefusedBy, plan_of, transform_names};
 
 use cbi_base::{Memory, Store};
@@ -31,7 +31,7 @@ fn plan_of(words: &TransformWords) -> Plan
 fn file_of(alloc: Global, words: &TransformWords, text: &[u8]) -> Result<Vec<u8>, Fault>
     requires { MayPart words.now.part }
     ensures is_file { IfOk result (λ file. IsFileOf words.now text.now file.items) }
-    ensures fault { IfErr result (λ e. Caused e (λ n. ⊥) ⊥ (λ r. RefusesText (plan_of words.now) r text.now)) }
+    ensures fault { IfErr result (λ e. HasCause e (λ n. ⊥) ⊥ (λ r. RefusesText (plan_of words.now) r text.now)) }
     ensures refused { IsRefusedText (plan_of words.now) text.now → IsErrAnd result Precedes }
 {
     let program = match compile(alloc, text, plan_of(words)) {

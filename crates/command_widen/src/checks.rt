@@ -1,7 +1,7 @@
 ghost use Rattle.std.specs.Prelude.{◌≡◌, IfErr, OnOk};
 ghost use Rattle.flow.specs.Sites.{PartFits};
 ghost use Rattle.collector.specs.Sites.{branches_of, first_bad, has_site};
-ghost use Rattle.command_base.specs.Faults.{Caused, Precedes};
+ghost use Rattle.command_base.specs.Faults.{HasCause, Precedes};
 ghost use Rattle.command_inputs.specs.Runs.{HaveSites};
 ghost use Rattle.command_widen.specs.Loading.{AreSpelled, RefusesSites};
 ghost use Rattle.command_widen.specs.Widen.{RefusesTexts, SpellPart};
@@ -45,7 +45,7 @@ fn first_bad(sites: &[Site], entries: &[Entry]) -> Option<u32>
 // Refused by the first report that has an entry of a site that isn't there, and by the first such site of it.
 fn check_sites(sites: &[Site], reports: &[Report]) -> Result<(), Fault>
     ensures there { OnOk result (HaveSites (branches_of sites.now) reports.now) }
-    ensures fault { IfErr result (λ e. Caused e (λ n. ⊥) ⊥ (RefusesSites (branches_of sites.now) reports.now)) }
+    ensures fault { IfErr result (λ e. HasCause e (λ n. ⊥) ⊥ (RefusesSites (branches_of sites.now) reports.now)) }
     ensures precedes { IfErr result Precedes }
 {
     let mut rest = reports;
@@ -65,7 +65,7 @@ pub fn check_loaded(texts: &WidenTexts, loaded: &Loaded, part: Part) -> Result<(
     requires part { PartFits part }
     requires spelled { AreSpelled texts.now loaded.now }
     ensures spell { OnOk result (SpellPart part texts.now loaded.now.whole loaded.now.program loaded.now.bundle) }
-    ensures fault { IfErr result (λ e. Caused e (λ n. ⊥) ⊥ (λ r. RefusesTexts part r texts.now)) }
+    ensures fault { IfErr result (λ e. HasCause e (λ n. ⊥) ⊥ (λ r. RefusesTexts part r texts.now)) }
     ensures precedes { IfErr result Precedes }
 {
     if !is_part(loaded.whole.table(), loaded.program.table(), part) {

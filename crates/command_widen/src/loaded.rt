@@ -1,7 +1,7 @@
 ghost use Rattle.std.specs.Prelude.{◌≡◌, IfOk, IfErr};
 ghost use Rattle.collector.specs.Merging.{IsBundle};
 ghost use Rattle.collector.specs.Spelling.{IsText};
-ghost use Rattle.command_base.specs.Faults.{Caused, Precedes};
+ghost use Rattle.command_base.specs.Faults.{HasCause, Precedes};
 ghost use Rattle.command_widen.specs.Loading.{AreSpelled};
 ghost use Rattle.command_widen.specs.Widen.{RefusesTexts};
 ghost use Rattle.flow.specs.declared.choice.Part.{Part};
@@ -26,7 +26,7 @@ pub fn load_texts(alloc: Global, texts: &WidenTexts) -> Result<Loaded, Fault>
     ensures spelled { IfOk result (AreSpelled texts.now) }
     ensures is_text { IfOk result (λ l. IsText l.bundle) }
     ensures is_bundle { IfOk result (λ l. IsBundle l.bundle) }
-    ensures fault { (part : Part) → IfErr result (λ e. Caused e (λ n. ⊥) ⊥ (λ r. RefusesTexts part r texts.now)) }
+    ensures fault { (part : Part) → IfErr result (λ e. HasCause e (λ n. ⊥) ⊥ (λ r. RefusesTexts part r texts.now)) }
     ensures precedes { IfErr result Precedes }
 {
     let whole = match load_program(alloc, texts.whole.as_slice()) {

@@ -2,7 +2,7 @@ ghost use Rattle.std.specs.Prelude.{◌≡◌, IfOk, IfErr, IsErrAnd};
 ghost use Rattle.flow.specs.Sites.{PartFits};
 ghost use Rattle.collector.specs.Merging.{IsBundle};
 ghost use Rattle.collector.specs.Spelling.{IsText};
-ghost use Rattle.command_base.specs.Faults.{Caused, Precedes};
+ghost use Rattle.command_base.specs.Faults.{HasCause, Precedes};
 ghost use Rattle.command_widen.specs.Loading.{HoldsTexts, HoldsWide, IsOfPart};
 ghost use Rattle.command_widen.specs.Widen.{AreRefusedTexts, RefusesTexts};
 
@@ -30,7 +30,7 @@ fn widen_loaded(
     requires is_text { IsText loaded.bundle }
     requires is_bundle { IsBundle loaded.bundle }
     ensures holds { IfOk result (HoldsWide part whole_id loaded) }
-    ensures fault { IfErr result (λ e. Caused e (λ n. ⊥) ⊥ (λ r. ⊥)) }
+    ensures fault { IfErr result (λ e. HasCause e (λ n. ⊥) ⊥ (λ r. ⊥)) }
     ensures precedes { IfErr result Precedes }
 {
     fitting_reports_may_widen();
@@ -55,7 +55,7 @@ fn widen_loaded(
 pub fn widen_texts(alloc: Global, texts: &WidenTexts, part: Part) -> Result<Collection, Fault>
     requires { PartFits part }
     ensures holds { IfOk result (HoldsTexts part texts.now) }
-    ensures fault { IfErr result (λ e. Caused e (λ n. ⊥) ⊥ (λ r. RefusesTexts part r texts.now)) }
+    ensures fault { IfErr result (λ e. HasCause e (λ n. ⊥) ⊥ (λ r. RefusesTexts part r texts.now)) }
     ensures refused { AreRefusedTexts part texts.now → IsErrAnd result Precedes }
 {
     one_program(alloc);

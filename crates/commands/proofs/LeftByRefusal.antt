@@ -3,7 +3,7 @@ use Rattle.std.proofs.Common.{◌≡◌, ◌⊎◌, inl, inr, ℕ, List, Option,
 use Rattle.cbi_base.specs.declared.observation.Observation.{Observation}
 use Rattle.cbi_base.specs.declared.refusal.Refusal.{Refusal}
 use Rattle.cbi_words.specs.declared.command.Command.{Command}
-use Rattle.cbi_words.specs.declared.command.Command.TheVariants.{Transform, Run, Bank, Collect, Rank, Study, Session, Widen, Cards, Pairs, Runs}
+use Rattle.cbi_words.specs.declared.command.Command.TheVariants.{Study, Runs}
 use Rattle.command_base.specs.Outside.{IsUnmoved, Outside}
 use Rattle.command_study.proofs.StudyLemmas.{refused-left}
 use Rattle.commands.proofs.LeftByRuns.{left-stopped, left-unwritten, unread-stopped, unread-unwritten as runs-unread-unwritten}

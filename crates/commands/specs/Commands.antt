@@ -60,18 +60,8 @@ IsReadMissing command held name = IsFirstMissing held (command_names command) na
 
 -- the name that it writes, where there is one
 abbrev pub written_by : Option Command → Option (List ℕ)
-written_by None = None
-written_by (Some (Transform words)) = None
 written_by (Some (Run words)) = words.report
-written_by (Some (Bank words)) = None
-written_by (Some (Collect words)) = None
-written_by (Some (Rank words)) = None
-written_by (Some (Study words)) = None
-written_by (Some (Session words)) = None
-written_by (Some (Widen words)) = None
-written_by (Some (Cards words)) = None
-written_by (Some (Pairs words)) = None
-written_by (Some (Runs words)) = None
+written_by command = None
 
 -- what it does where nothing goes wrong, and what it says of it
 abbrev pub Did : {B : Type 0} → (told : B → List Observation) → Option Command → (before after : Outside B) → (said : Done) → Type 0
@@ -113,24 +103,16 @@ LeftOn told (Some (Runs words)) before after = RunsTaken told words before after
 
 -- what it leaves where memory is wanting before it is done
 abbrev pub LeftWithin : {B : Type 0} → (told : B → List Observation) → Option Command → (before after : Outside B) → Type 0
-LeftWithin told None before after = ⊥
-LeftWithin told (Some (Transform words)) before after = ⊥
 LeftWithin told (Some (Run words)) before after =
     BrokeOff told words before after
     ⊎ StoppedWithin told words before after
-LeftWithin told (Some (Bank words)) before after = ⊥
-LeftWithin told (Some (Collect words)) before after = ⊥
-LeftWithin told (Some (Rank words)) before after = ⊥
 LeftWithin told (Some (Study words)) before after =
     StudyLeft told words faults.Memory before after
     ⊎ StudyTaken told words before after
-LeftWithin told (Some (Session words)) before after = ⊥
-LeftWithin told (Some (Widen words)) before after = ⊥
-LeftWithin told (Some (Cards words)) before after = ⊥
-LeftWithin told (Some (Pairs words)) before after = ⊥
 LeftWithin told (Some (Runs words)) before after =
     RunsStopped told words before after command_fault.Memory
     ⊎ RunsTaken told words before after
+LeftWithin told command before after = ⊥
 
 -- what it leaves where memory is wanting before it is done, or when what came of it is to be told
 abbrev pub LeftWanting : {B : Type 0} → (told : B → List Observation) → Option Command → (before after : Outside B) → Type 0
@@ -158,10 +140,8 @@ LeftByFault told command command_fault.Memory before after = IsUnmoved before af
 
 -- the bytes read are refused
 abbrev pub IsRefused : Option Command → Option Held → Type 0
-IsRefused None held = ⊥
 IsRefused (Some (Transform words)) held = TransformRefused words held
 IsRefused (Some (Run words)) held = RunRefused words held
-IsRefused (Some (Bank words)) held = ⊥
 IsRefused (Some (Collect words)) held = CollectRefused words held
 IsRefused (Some (Rank words)) held = RankRefused words held
 IsRefused (Some (Study words)) held = StudyRefused words held
@@ -170,13 +150,12 @@ IsRefused (Some (Widen words)) held = WidenRefused words held
 IsRefused (Some (Cards words)) held = CardsRefused words held
 IsRefused (Some (Pairs words)) held = PairsRefused words held
 IsRefused (Some (Runs words)) held = ListedRefused words held
+IsRefused command held = ⊥
 
 -- the refusal that is told of them
 abbrev pub IsRefusedBy : Option Command → Option Held → Refusal → Type 0
-IsRefusedBy None held refusal = ⊥
 IsRefusedBy (Some (Transform words)) held refusal = TransformRefusedBy words held refusal
 IsRefusedBy (Some (Run words)) held refusal = RunRefusedBy words held refusal
-IsRefusedBy (Some (Bank words)) held refusal = ⊥
 IsRefusedBy (Some (Collect words)) held refusal = CollectRefusedBy words held refusal
 IsRefusedBy (Some (Rank words)) held refusal = RankRefusedBy words held refusal
 IsRefusedBy (Some (Study words)) held refusal = StudyRefusedBy words held refusal
@@ -185,6 +164,7 @@ IsRefusedBy (Some (Widen words)) held refusal = WidenRefusedBy words held refusa
 IsRefusedBy (Some (Cards words)) held refusal = CardsRefusedBy words held refusal
 IsRefusedBy (Some (Pairs words)) held refusal = PairsRefusedBy words held refusal
 IsRefusedBy (Some (Runs words)) held refusal = ListedRefusedBy words held refusal
+IsRefusedBy command held refusal = ⊥
 
 -- a write met a fault: one to out, or one to the store of a command that writes there
 abbrev pub WriteFault : Option Command → (out store : Type 0) → Type 0

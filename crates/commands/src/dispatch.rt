@@ -1,9 +1,9 @@
 ghost use Rattle.std.specs.Prelude.{◌≡◌, ◌≤◌, [], IfOk, IfErr, IsErrAnd, IsNone, IsSome, Some};
-ghost use Rattle.cbi_base.specs.Faults.{Rose};
+ghost use Rattle.cbi_base.specs.Faults.{CountHasRisen};
 ghost use Rattle.cbi_words.specs.Within.{IsWithin};
-ghost use Rattle.command_base.specs.Outside.{outside, AllStayBut};
+ghost use Rattle.command_base.specs.Outside.{outside_state, AllStayBut};
 ghost use Rattle.command_base.specs.Names.{AreHeld};
-ghost use Rattle.command_base.specs.Faults.{Caused, Finished, OfRead, OfRefusal, Precedes, Passed};
+ghost use Rattle.command_base.specs.Faults.{HasCause, IfAllRead, IfReadFault, IfRefusal, Precedes, IfFilesRead};
 ghost use Rattle.commands.specs.Commands.{
   command_names,
   written_by,
@@ -44,20 +44,20 @@ pub fn obey<S: Store, O: Sink>(
 ) -> Result<Done, Fault>
     requires { IsWithin command }
     ensures ok { IfOk result (Did (λ b. seen b) (Some command)
-        (outside (S.holds store.old) (O.taken out.old) probes.old.items) (outside (S.holds store.new) (O.taken out.new) probes.new.items)) }
-    ensures fault { IfErr result (λ e. Caused e
-        (λ name. IsReadName (Some command) (S.holds store.old) name × Rose (S.read_faults store.old) (S.read_faults store.new))
-        (WriteFault (Some command) (Rose (O.faults out.old) (O.faults out.new)) (Rose (S.write_faults store.old) (S.write_faults store.new)))
+        (outside_state (S.holds store.old) (O.taken out.old) probes.old.items) (outside_state (S.holds store.new) (O.taken out.new) probes.new.items)) }
+    ensures fault { IfErr result (λ e. HasCause e
+        (λ name. IsReadName (Some command) (S.holds store.old) name × CountHasRisen (S.read_faults store.old) (S.read_faults store.new))
+        (WriteFault (Some command) (CountHasRisen (O.faults out.old) (O.faults out.new)) (CountHasRisen (S.write_faults store.old) (S.write_faults store.new)))
         (IsRefusedBy (Some command) (S.holds store.old))) }
-    ensures was_refused { IfErr result (λ e. OfRefusal e (IsRefused (Some command) (S.holds store.old))) }
+    ensures was_refused { IfErr result (λ e. IfRefusal e (IsRefused (Some command) (S.holds store.old))) }
     ensures refused { IsRefused (Some command) (S.holds store.old) → IsSome (S.holds store.old) → IsErrAnd result Precedes }
 
     // What is left after a fault, and which names were held.
     ensures left { IfErr result (λ e. LeftByFault (λ b. seen b) (Some command) e
-        (outside (S.holds store.old) (O.taken out.old) probes.old.items) (outside (S.holds store.new) (O.taken out.new) probes.new.items)) }
-    ensures was_held { Passed result (AreHeld (S.holds store.old) (command_names (Some command))) }
-    ensures all_held { Finished result (AreReadHeld (Some command) (S.holds store.old)) }
-    ensures missing { S.is_sound store.old → IfErr result (λ e. OfRead e (IsReadMissing (Some command) (S.holds store.old))) }
+        (outside_state (S.holds store.old) (O.taken out.old) probes.old.items) (outside_state (S.holds store.new) (O.taken out.new) probes.new.items)) }
+    ensures was_held { IfFilesRead result (AreHeld (S.holds store.old) (command_names (Some command))) }
+    ensures all_held { IfAllRead result (AreReadHeld (Some command) (S.holds store.old)) }
+    ensures missing { S.is_sound store.old → IfErr result (λ e. IfReadFault e (IsReadMissing (Some command) (S.holds store.old))) }
     ensures held { AllStayBut (written_by (Some command)) (S.holds store.old) (S.holds store.new) }
     ensures no_read { command_names (Some command) ≡ [] → S.read_faults store.new ≡ S.read_faults store.old }
     ensures no_write { IsNone (written_by (Some command)) → S.write_faults store.new ≡ S.write_faults store.old }

@@ -1,6 +1,5 @@
 -- What is left of the sites and of the visits of a text where its program has a part of the sites.
 use Rattle.std.specs.Prelude.{List, Option, None, Some}
-use Rattle.flow.specs.Sites.{PartFits}
 use Rattle.cbi_base.specs.declared.observation.Observation.{Observation}
 use Rattle.flow.specs.declared.site.Site.{Site}
 use Rattle.flow.specs.declared.choice.Part.{Part}

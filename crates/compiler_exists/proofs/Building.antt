@@ -8,8 +8,8 @@ use Rattle.flow.specs.declared.node.Node.TheVariants as node
 use Rattle.flow.specs.declared.node.View.{View}
 use Rattle.flow.specs.declared.node.View.TheVariants as view
 use Rattle.flow.specs.Words.{is_again, led_to, view as view_of}
-use Rattle.lower_relation.specs.Functions.{standing}
-use Rattle.lower_relation.specs.Paths.{Graph, Path, ◌then◌, Ways, Either, OneOf, Nothing, Does, HaltsAt, Stuck, MarksAll, ForkTo, Tests, Truly, Only}
+use Rattle.lower_relation.specs.Functions.{graph_of_nodes}
+use Rattle.lower_relation.specs.Paths.{Graph, Path, ◌then◌, Ways, Either, OneOf, Nothing, Does, HaltsAt, Stuck, MarksAll, ForkTo, ValueTruth, AlwaysTrue, PathOrStuck}
 use Rattle.compiler_exists.specs.Built.{Built, Builds, LeadBackWithin, StandAlong}
 use Rattle.lower_nodes.specs.Ends.{AllBelow, one_end, two_ends}
 
@@ -42,7 +42,7 @@ pub carried : {K : Type 0} {ends : K → List ℕ} {R S : Graph → Path K} {a :
 carried r into = record {
   build = λ at k.
       let p = r.build at k in
-      record { nodes = p.nodes; entry = p.entry; does = λ all s. into (standing all) p.entry k (p.does all s); few = p.few; inside = p.inside; back = p.back };
+      record { nodes = p.nodes; entry = p.entry; does = λ all s. into (graph_of_nodes all) p.entry k (p.does all s); few = p.few; inside = p.inside; back = p.back };
 }
 
 pub nothing : Builds one_end (λ G. Nothing) 0
@@ -105,7 +105,7 @@ pub ◌before◌ : {K : Type 0} {ends : K → List ℕ} {R : Graph → Path ℕ}
     Builds ends (λ G. R G then S G) (a + b)
 r before s = record { build = λ at k. let q = s.build at k in then_at at k q (r.build (at + length q.nodes) q.entry) }
 
-pub tests : {R : Graph → Path ℕ} {a : ℕ} → Builds one_end R a → Builds two_ends (λ G. Tests G (R G)) (a + 1)
+pub tests : {R : Graph → Path ℕ} {a : ℕ} → Builds one_end R a → Builds two_ends (λ G. ValueTruth G (R G)) (a + 1)
 tests r = r before fork
 
 -- no run comes there
@@ -121,7 +121,7 @@ stuck = record {
   };
 }
 
-pub only : {K : Type 0} {ends : K → List ℕ} {R : Graph → Path K} {a n : ℕ} (b : Bool) → Builds ends R a → a ≤ n → 2 ≤ n → Builds ends (λ G. Only G b (R G)) n
+pub only : {K : Type 0} {ends : K → List ℕ} {R : Graph → Path K} {a n : ℕ} (b : Bool) → Builds ends R a → a ≤ n → 2 ≤ n → Builds ends (λ G. PathOrStuck G b (R G)) n
 only true r le two = fits r le
 only false r le two = fits stuck two
 
@@ -176,7 +176,7 @@ either d r s = record {
       either_at at k q p (d.build (at + length q.nodes + length p.nodes) (record { yes_to = p.entry; no_to = q.entry }));
 }
 
-pub truly : Builds two_ends (λ G. Truly) 0
+pub truly : Builds two_ends (λ G. AlwaysTrue) 0
 truly = record {
   build = λ at k. record {
     nodes = [];

@@ -12,10 +12,10 @@ use Rattle.c_meaning.specs.declared.value_type.Called.{Called}
 use Rattle.c_meaning.specs.declared.value_type.Called.TheVariants as called
 use Rattle.c_meaning.specs.declared.value_type.ValueType.{ValueType}
 use Rattle.c_meaning.specs.declared.value_type.ValueType.TheVariants as type
-use Rattle.c_meaning.specs.Words.{as_type, types_taken, as_used, Facts, Signature, Sites, has_value, listed}
+use Rattle.c_meaning.specs.Words.{as_type, types_taken, as_used, Facts, Signature, Sites, has_value, site_list}
 use Rattle.lower_relation.specs.Calls as c
 use Rattle.lower_relation.specs.Paths.{Graph, Path}
-use Rattle.lower_relation.specs.Room.{returns}
+use Rattle.lower_relation.specs.Room.{return_visits}
 use Rattle.compiler_exists.specs.Built.{Builds}
 use Rattle.lower_nodes.specs.Ends.{one_end}
 use Rattle.compiler_exists.specs.Emits.{BuildsAll}
@@ -36,18 +36,18 @@ calls : (number : ℕ) → Builds one_end (λ (G : Graph) i k. G i (view.Calls n
 calls number = view_built (λ k. view.Calls number k) (node.Call number) (λ k. refl) (λ count at k b. b)
 
 module _ (facts : Facts) (sites : Sites) where
-  returned : {R : Graph → Path ℕ} {a n : ℕ} (token : ℕ) → Builds one_end R a → (a + returns sites token + 1 ≤ n) × (2 ≤ n) →
+  returned : {R : Graph → Path ℕ} {a n : ℕ} (token : ℕ) → Builds one_end R a → (a + return_visits sites token + 1 ≤ n) × (2 ≤ n) →
       BuildsAll (λ G. c.Returned G facts sites token (R G)) n
-  returned token r le = valued (r before marks (listed (sites.return_at token))) le
+  returned token r le = valued (r before marks (site_list (sites.return_at token))) le
 
-  with_result : {R : Graph → Path ℕ} {a n : ℕ} (token : ℕ) (has : Bool) → Builds one_end R a → (a + returns sites token + 1 ≤ n) × (2 ≤ n) →
+  with_result : {R : Graph → Path ℕ} {a n : ℕ} (token : ℕ) (has : Bool) → Builds one_end R a → (a + return_visits sites token + 1 ≤ n) × (2 ≤ n) →
       BuildsAll (λ G. c.WithResult G facts sites token has (R G)) n
   with_result token true r le = returned token r le
   with_result token false r le = effected r (omega (arith, le.0, le.1))
 
   module _ {R : Graph → c.ArgumentsPath} {a : ℕ} (r : (types : List ValueType) → Builds one_end (λ G. R G types) a) where
     call_function : (token number : ℕ) (signature : Option Signature) (n : ℕ) →
-        BuildsAll (λ G. c.CallFunction G facts sites token number signature n (R G)) (5 + returns sites token + a)
+        BuildsAll (λ G. c.CallFunction G facts sites token number signature n (R G)) (5 + return_visits sites token + a)
     call_function token number None n = valued stuck (omega arith)
     call_function token number (Some one) n =
         with_result {a =
@@ -56,7 +56,7 @@ module _ (facts : Facts) (sites : Sites) where
     module _ {A : Graph → c.ArgumentPath} {P : Graph → Path ℕ} (l : (want : Option ValueType → Option ValueType) → Builds one_end (λ G. A G want) (2 + a))
         (p : Builds one_end P (2 + a)) where
       call_library : (token : ℕ) (function : Library) (n : ℕ) →
-          BuildsAll (λ G. c.CallLibrary G facts sites token function n (A G) (P G)) (5 + returns sites token + a)
+          BuildsAll (λ G. c.CallLibrary G facts sites token function n (A G) (P G)) (5 + return_visits sites token + a)
       call_library token library.Getchar n = returned {a = 2} token (only (n == 0) (does node.Get (λ k. refl)) (omega arith) (omega arith)) (omega arith)
       call_library token library.Putchar n = valued (l (as_type (type.Number Int)) before does node.Put (λ k. refl)) (omega arith)
       call_library token library.Puts n = valued (l (as_type (type.Pointer 1)) before does node.Puts (λ k. refl)) (omega arith)
@@ -68,7 +68,7 @@ module _ (facts : Facts) (sites : Sites) where
       call_library token library.Printf n = effected p (omega arith)
 
       pub call_does : (token : ℕ) (callee : Called) (n : ℕ) →
-          BuildsAll (λ G. c.CallDoes G facts sites token callee n (R G) (A G) (P G)) (5 + returns sites token + a)
+          BuildsAll (λ G. c.CallDoes G facts sites token callee n (R G) (A G) (P G)) (5 + return_visits sites token + a)
       call_does token (called.Function number) n = call_function token number (facts.signature number) n
       call_does token (called.Library function) n = call_library token function n
       call_does token called.Unknown n = valued stuck (omega arith)

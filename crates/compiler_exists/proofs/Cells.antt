@@ -11,7 +11,7 @@ use Rattle.cbi_base.specs.declared.scalar.Scalar.{Scalar}
 use Rattle.cbi_base.specs.declared.scalar.Scalar.TheVariants.{Number, Place, Null, Undefined}
 use Rattle.cbi_base.specs.declared.trap.Trap.{Trap}
 use Rattle.cbi_base.specs.declared.trap.Trap.TheVariants as trap
-use Rattle.cbi_base.specs.Words.{lies_in, wrapped, Object, applied_to_one, as_number, converted, char_of}
+use Rattle.cbi_base.specs.Words.{lies_in, wrapped_value, Object, applied_to_one, as_number, converted_number, char_of}
 use Rattle.c_syntax.specs.declared.expr.PrefixOperator.TheVariants as prefix
 use Rattle.c_syntax.specs.ExprTree as e
 use Rattle.c_syntax.specs.Words.{ExprTree, ExprList, InitialTree, StartTree}
@@ -30,10 +30,10 @@ use Rattle.c_meaning.specs.declared.conversion.Conversion.{Conversion}
 use Rattle.c_meaning.specs.declared.conversion.Conversion.TheVariants.{Keep, To, Misfit}
 use Rattle.c_meaning.specs.declared.value_type.ValueType.{ValueType}
 use Rattle.c_meaning.specs.declared.value_type.ValueType.TheVariants as type
-use Rattle.c_meaning.specs.Words.{as_wanted, conversion, converts, is_null_as, Sense, one_operand, wanted_value, Facts, before_all, before_cells, constant}
-use Rattle.c_meaning.specs.Words.{constants, filled_up, given_by, given_to, global_object, global_objects, nowhere, object_with, one_more, spelled_cells}
+use Rattle.c_meaning.specs.Words.{as_wanted, conversion, conversion_result, is_null_as, Sense, one_operand, wanted_value, Facts, before_all, before_cells, constant_value}
+use Rattle.c_meaning.specs.Words.{constant_values, filled_up, given_by, given_to, global_object, global_objects, empty_world, object_with, one_more, spelled_cells}
 use Rattle.c_meaning.specs.Words.{static_object, zeros_of, computed_type, element_type, expr, text_of_string, text_place, type_of, Out, Go, Stop, World}
-use Rattle.c_meaning.specs.Words.{answered, bind}
+use Rattle.c_meaning.specs.Words.{answer_or_trap, bind}
 use Rattle.c_meaning_laws.specs.TypedText.{GlobalInitial, GlobalItems, IsConstant, TypedGlobal, TypedGlobals}
 use Rattle.lower_fits.proofs.Values.{AllCells, Firsts, IsCell, zeros_cells}
 
@@ -77,28 +77,28 @@ module _ (g : ℕ) where
   no_places (v ∷ cells) are = (no_place v are.0, no_places cells are.1)
 
   -- what a conversion gives
-  converted_has : (c : Conversion) (v : Scalar) → HasCell g v → IfGives g (converts c v)
-  unfolding converted
+  converted_has : (c : Conversion) (v : Scalar) → HasCell g v → IfGives g (conversion_result c v)
+  unfolding converted_number
   converted_has Keep v h = h
-  converted_has (To k) (Number from n) h = number k (wrapped k n)
+  converted_has (To k) (Number from n) h = number k (wrapped_value k n)
   converted_has (To k) (Place object offset) h = tt
   converted_has (To k) Null h = tt
   converted_has (To k) Undefined h = tt
   converted_has Misfit v h = tt
 
-  answered_has : (r : Result Scalar Trap) (w : World) → IfGives g r → IfHas g (given_by (answered r w))
+  answered_has : (r : Result Scalar Trap) (w : World) → IfGives g r → IfHas g (given_by (answer_or_trap r w))
   answered_has (Ok v) w h = h
   answered_has (Err t) w h = tt
 
   -- a value as one of a type
   bound_has : (o : Out Scalar) (c : Conversion) → IfHas g (given_by o) → IfHas g (given_by (bind o (as_wanted c)))
-  bound_has (Go v w) c h = answered_has (converts c v) w (converted_has c v h)
+  bound_has (Go v w) c h = answered_has (conversion_result c v) w (converted_has c v h)
   bound_has (Stop outcome w) c h = tt
 
-  sensed_has : (is_null : Bool) (own of : Option ValueType) (m : Sense) → IfHas g (given_by (m.value nowhere)) →
-      IfHas g (given_by (wanted_value is_null own of m nowhere))
+  sensed_has : (is_null : Bool) (own of : Option ValueType) (m : Sense) → IfHas g (given_by (m.value empty_world)) →
+      IfHas g (given_by (wanted_value is_null own of m empty_world))
   sensed_has true own of m h = (cell.Null, refl)
-  sensed_has false own of m h = bound_has (m.value nowhere) (conversion own of) h
+  sensed_has false own of m h = bound_has (m.value empty_world) (conversion own of) h
 
   -- the negative of a number
   fitted_has : (n : ℤ) (b : Bool) → IfGives g (as_number kind.Int (if b then Ok n else Err trap.Overflow))
@@ -109,12 +109,12 @@ module _ (g : ℕ) where
   unfolding applied_to_one
   applied_has kind.Char n = tt
   applied_has kind.Int n = fitted_has (neg_ℤ n) (lies_in kind.Int (neg_ℤ n))
-  applied_has kind.Unsigned n = number kind.Unsigned (wrapped kind.Unsigned (neg_ℤ n))
+  applied_has kind.Unsigned n = number kind.Unsigned (wrapped_value kind.Unsigned (neg_ℤ n))
 
-  negated_has : (k : Kind) (n : ℤ) → IfHas g (given_by (one_operand (Some (type.Number k)) (Some (type.Number k)) unary.Neg (Number k n) nowhere))
-  negated_has kind.Char n = answered_has (applied_to_one unary.Neg (Number kind.Char n)) nowhere (applied_has kind.Char n)
-  negated_has kind.Int n = answered_has (applied_to_one unary.Neg (Number kind.Int n)) nowhere (applied_has kind.Int n)
-  negated_has kind.Unsigned n = answered_has (applied_to_one unary.Neg (Number kind.Unsigned n)) nowhere (applied_has kind.Unsigned n)
+  negated_has : (k : Kind) (n : ℤ) → IfHas g (given_by (one_operand (Some (type.Number k)) (Some (type.Number k)) unary.Neg (Number k n) empty_world))
+  negated_has kind.Char n = answered_has (applied_to_one unary.Neg (Number kind.Char n)) empty_world (applied_has kind.Char n)
+  negated_has kind.Int n = answered_has (applied_to_one unary.Neg (Number kind.Int n)) empty_world (applied_has kind.Int n)
+  negated_has kind.Unsigned n = answered_has (applied_to_one unary.Neg (Number kind.Unsigned n)) empty_world (applied_has kind.Unsigned n)
 
   before_have : (v : Option Scalar) (cells : Option (List Scalar)) → IfHas g v → IfHave g cells → IfHave g (before_cells v cells)
   before_have None cells h k = tt
@@ -127,7 +127,7 @@ module _ (g : ℕ) where
 
   bytes_have : (bytes : List ℕ) → AllHave g (map char_of bytes)
   bytes_have [] = tt
-  bytes_have (b ∷ bytes) = (number kind.Char (wrapped kind.Char (pos b)), bytes_have bytes)
+  bytes_have (b ∷ bytes) = (number kind.Char (wrapped_value kind.Char (pos b)), bytes_have bytes)
 
   spelled_have : (text : Option Text) → IfHave g (spelled_cells text)
   spelled_have None = tt
@@ -149,12 +149,12 @@ module _ (facts : Facts) where
   abbrev count : ℕ
   count = facts.statics.globals
 
-  placed_has : (o : Option ℕ) → IfHas count (given_by (text_place facts o nowhere))
+  placed_has : (o : Option ℕ) → IfHas count (given_by (text_place facts o empty_world))
   placed_has None = tt
   placed_has (Some n) = (cell.Text n, refl)
 
   -- the value of a constant, as one of a type
-  constant_has : (of : Option ValueType) (x : ExprTree) → IsConstant facts x → IfHas count (constant facts of x)
+  constant_has : (of : Option ValueType) (x : ExprTree) → IsConstant facts x → IfHas count (constant_value facts of x)
   constant_has of (e.Constant token k n) h =
       sensed_has count (is_null_as of (e.Constant token k n)) (type_of facts (e.Constant token k n)) of (expr (before_all facts) (e.Constant token k n))
       (number count k n)
@@ -168,10 +168,10 @@ module _ (facts : Facts) where
       sensed_has count (is_null_as of (e.Null token)) (type_of facts (e.Null token)) of (expr (before_all facts) (e.Null token)) (cell.Null, refl)
   constant_has of x h = absurd h
 
-  constants_have : (of : Option ValueType) (xs : ExprList) → GlobalItems facts of xs → IfHave count (constants facts of xs)
+  constants_have : (of : Option ValueType) (xs : ExprList) → GlobalItems facts of xs → IfHave count (constant_values facts of xs)
   constants_have of e.no_exprs h = tt
   constants_have of (e.more_exprs x rest) h =
-      before_have count (constant facts of x) (constants facts of rest) (constant_has of x h.0) (constants_have of rest h.2)
+      before_have count (constant_value facts of x) (constant_values facts of rest) (constant_has of x h.0) (constants_have of rest h.2)
 
   -- what an initialiser gives
   given_have : (of : ValueType) (element : Option ValueType) (x : Option InitialTree) → GlobalInitial facts of element x →
@@ -179,7 +179,7 @@ module _ (facts : Facts) where
   given_have of element None h = tt
   given_have (type.Array size) element (Some (s.Value x)) h = spelled_have count (text_of_string facts x)
   given_have of element (Some (s.Braced token items comma)) h = constants_have element items h
-  given_have of element (Some (s.Value x)) h = alone_have count (constant facts (Some of) x) (constant_has (Some of) x h.0)
+  given_have of element (Some (s.Value x)) h = alone_have count (constant_value facts (Some of) x) (constant_has (Some of) x h.0)
 
   -- if there is an object, a global of a program begins with it
   abbrev IfGlobal : Option Object → Type 0

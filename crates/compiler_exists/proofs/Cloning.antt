@@ -27,6 +27,7 @@ use Rattle.compiler_exists.proofs.Copying.{all_made}
 use Rattle.compiler_exists.proofs.Owing.{debts_there, places_there}
 use Rattle.compiler_exists.proofs.Preparing.{headers_there, starts_there, weights_there}
 use Rattle.compiler_exists.proofs.Weighing.{weighty_flags}
+use Rattle.base_lists.proofs.Options.{some_is}
 
 -- copies of the nodes of a weighty function
 record Copies (weighty : List Bool) (nodes : List Node) : Type 0 where
@@ -117,9 +118,6 @@ module _ (p : ProgramParts) (is : IsProgram p) (may : MayClone p) (weighty : Lis
     fits : (i : ℕ) (f g : Function) → slice_get fs i ≡ Some f → slice_get copies i ≡ Some g → FitsLike f.nodes g.nodes
     small : sum_by size copies ≤ 8 * sum_by size fs
 
-  one_thing : {X : Type 0} (x y : X) → Some x ≡ Some y → x ≡ y
-  one_thing x y e = cc
-
   more_copied : (first : ℕ) (f : Function) (fs : List Function) → Copied first f → AllCopied (suc first) fs → AllCopied first (f ∷ fs)
   more_copied first f fs one rest = record {
     copies = one.copy ∷ rest.copies;
@@ -134,14 +132,14 @@ module _ (p : ProgramParts) (is : IsProgram p) (may : MayClone p) (weighty : Lis
       cloned_each zero number h g e a b =
           let same : first ≡ number = omega (arith, e) in
           subst (λ n. FunctionCloned (is_in weighty) n h g) same
-          (subst (λ x. FunctionCloned (is_in weighty) first x g) (one_thing f h a)
-          (subst (λ x. FunctionCloned (is_in weighty) first f x) (one_thing one.copy g b) one.cloned))
+          (subst (λ x. FunctionCloned (is_in weighty) first x g) (some_is a)
+          (subst (λ x. FunctionCloned (is_in weighty) first f x) (some_is b) one.cloned))
       cloned_each (suc i) number h g e a b = rest.cloned i number h g (omega (arith, e)) a b
 
       fits_each : (i : ℕ) (h g : Function) → slice_get (f ∷ fs) i ≡ Some h → slice_get (one.copy ∷ rest.copies) i ≡ Some g → FitsLike h.nodes g.nodes
       fits_each zero h g a b =
-          subst (λ (x : Function). FitsLike x.nodes g.nodes) (one_thing f h a)
-          (subst (λ (x : Function). FitsLike f.nodes x.nodes) (one_thing one.copy g b) one.fits)
+          subst (λ (x : Function). FitsLike x.nodes g.nodes) (some_is a)
+          (subst (λ (x : Function). FitsLike f.nodes x.nodes) (some_is b) one.fits)
       fits_each (suc i) h g a b = rest.fits i h g a b
 
   all_copied : (first : ℕ) (fs : List Function) →

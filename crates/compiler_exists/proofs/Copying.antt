@@ -8,7 +8,7 @@ use Rattle.flow.specs.declared.node.View.TheVariants as view
 use Rattle.flow.specs.View.{view as view_of}
 use Rattle.regions.specs.Rows.{EachFits}
 use Rattle.regions.proofs.Within.{no_node}
-use Rattle.lower_relation.specs.Stands.{renamed}
+use Rattle.lower_relation.specs.Stands.{renumbered_view}
 use Rattle.compiler_exists.proofs.Turning.{turned_node, view_turned}
 use Rattle.clone_paths.specs.declared.label.CopyLabel.{CopyLabel}
 use Rattle.clone_paths.specs.declared.label.CopyLabel.TheVariants.{Enter, Gate, Back, In, Out}
@@ -16,8 +16,8 @@ use Rattle.clone_paths.specs.declared.label.Side.{Side}
 use Rattle.clone_paths.specs.declared.label.Side.TheVariants.{Fast, Slow}
 use Rattle.clone_paths.specs.Form.{is_outlet}
 use Rattle.clone_paths.specs.Layout.{place_in_copy}
-use Rattle.clone_paths.specs.Made.{IsMade, IsOf, Tables, made, made_free, made_in, made_out, made_same, made_visit}
-use Rattle.clone_paths.specs.Parts.{pays}
+use Rattle.clone_paths.specs.Made.{IsMade, IsLabelOfNode, Tables, made_node, made_free, made_in, made_out, made_same, made_visit}
+use Rattle.clone_paths.specs.Parts.{is_debt_paid}
 
 -- a node that is seen so
 abbrev Seen : View → Type 0
@@ -26,7 +26,7 @@ Seen v = (x : Node) × (view_of x ≡ v)
 module _ (t : Tables) where
   same_seen : (side : Side) (x : Node) (v : View) → view_of x ≡ v → Seen (made_same t side v)
   same_seen side x (view.Row op next) e =
-      (turned_node (λ k. place_in_copy t.sheet side next) x, view_turned (λ k. place_in_copy t.sheet side next) x ∙ ap (renamed (λ k. place_in_copy t.sheet side next)) e)
+      (turned_node (λ k. place_in_copy t.sheet side next) x, view_turned (λ k. place_in_copy t.sheet side next) x ∙ ap (renumbered_view (λ k. place_in_copy t.sheet side next)) e)
   same_seen side x (view.Forks when_true when_false) e = (node.Fork (place_in_copy t.sheet side when_true) (place_in_copy t.sheet side when_false), refl)
   same_seen side x (view.Turns next) e = (node.Again _, refl)
   same_seen side x (view.Calls function next) e = (node.Call function (place_in_copy t.sheet side next), refl)
@@ -47,14 +47,14 @@ module _ (t : Tables) where
 
   in_seen : (side : Side) (owed place : ℕ) (x : Node) (v : View) → view_of x ≡ v → Seen (made_in t side owed place v)
   in_seen side owed place x (view.Marks site next) e = visit_seen side owed site next
-  in_seen side owed place x other e = paid_by side owed place x other (pays t.starts owed other) e
+  in_seen side owed place x other e = paid_by side owed place x other (is_debt_paid t.starts owed other) e
 
   out_seen : (place : ℕ) (x : Node) (v : View) → view_of x ≡ v → Seen (made_out place v)
   out_seen place x (view.Calls function next) e = (node.Call function (place + 1), refl)
   out_seen place x other e = (x, e)
 
   module _ (nodes : List Node) (at : (i : ℕ) → i < length nodes → t.at i ≡ view_of (get_or nodes i no_node)) where
-    label_seen : (place : ℕ) (l : CopyLabel) → IsOf (length nodes) l → Seen (made t place l)
+    label_seen : (place : ℕ) (l : CopyLabel) → IsLabelOfNode (length nodes) l → Seen (made_node t place l)
     label_seen place Enter of = (node.Import _, refl)
     label_seen place (Gate i) of = (node.Choose (t.weight i) (place_in_copy t.sheet Fast i) (place_in_copy t.sheet Slow i), refl)
     label_seen place (Back i) of = (node.Import _, refl)
@@ -73,7 +73,7 @@ module _ (t : Tables) where
         let nodes_same : x ≡ x' = cc in
         subst (λ p. IsMade t p l' x') e (subst (λ k. IsMade t place k x') labels (subst (λ y. IsMade t place l y) nodes_same is))
 
-    labels_seen : (first : ℕ) (labels : List CopyLabel) → ((i : ℕ) (l : CopyLabel) → slice_get labels i ≡ Some l → IsOf (length nodes) l) →
+    labels_seen : (first : ℕ) (labels : List CopyLabel) → ((i : ℕ) (l : CopyLabel) → slice_get labels i ≡ Some l → IsLabelOfNode (length nodes) l) →
         (made_nodes : List Node) × Fitting first labels made_nodes
     labels_seen first [] of = ([], record { few = refl; each = λ i l x e f. absurd (cc) })
     labels_seen first (l ∷ labels) of =
@@ -83,7 +83,7 @@ module _ (t : Tables) where
           record { few = ap suc rest.1.few; each = both_made first l labels one.0 rest.0 one.1 rest.1 },
         )
       where
-        both_made : (first : ℕ) (l : CopyLabel) (labels : List CopyLabel) (x : Node) (xs : List Node) → view_of x ≡ made t first l →
+        both_made : (first : ℕ) (l : CopyLabel) (labels : List CopyLabel) (x : Node) (xs : List Node) → view_of x ≡ made_node t first l →
             Fitting (suc first) labels xs → (i : ℕ) (k : CopyLabel) (y : Node) → slice_get (l ∷ labels) i ≡ Some k →
             slice_get (x ∷ xs) i ≡ Some y → IsMade t (first + i) k y
         both_made first l labels x xs is fits zero k y e f = moved_made first (first + 0) l k x y (omega arith) e f is
@@ -91,7 +91,7 @@ module _ (t : Tables) where
             moved_made (suc first + i) (first + suc i) k k y y (omega arith) refl refl (fits.each i k y e f)
 
     -- nodes for all labels
-    pub all_made : (labels : List CopyLabel) → ((i : ℕ) (l : CopyLabel) → slice_get labels i ≡ Some l → IsOf (length nodes) l) →
+    pub all_made : (labels : List CopyLabel) → ((i : ℕ) (l : CopyLabel) → slice_get labels i ≡ Some l → IsLabelOfNode (length nodes) l) →
         (made_nodes : List Node) × EachFits (IsMade t) labels made_nodes
     all_made labels of =
         let all = labels_seen 0 labels of in (

@@ -8,12 +8,12 @@ use Rattle.c_syntax.specs.ExprTree.{ExprTree, ExprList, LinkList, PostfixList}
 use Rattle.c_types_expressions.specs.ExprWalk.{binary_of}
 use Rattle.flow.specs.declared.node.Node.TheVariants as node
 use Rattle.c_meaning.specs.declared.value_type.ValueType.{ValueType}
-use Rattle.c_meaning.specs.Words.{is_null_as, Facts, Sites, text_of_string, operation, assignment, begins_null, called_as, count, ends_as_place, first_type}
-use Rattle.c_meaning.specs.Words.{is_null_beside, is_place, joint, operand_type, other_types, token_of, type_of}
+use Rattle.c_meaning.specs.Words.{is_null_as, Facts, Sites, text_of_string, operation, assignment_of_sign, begins_null, called_as, expression_count, ends_as_place, first_type}
+use Rattle.c_meaning.specs.Words.{is_null_beside, is_place, joint_of_sign, operand_type, other_types, token_of, type_of}
 use Rattle.lower_relation.specs.Expressions as x
 use Rattle.lower_relation.specs.Expressions.{has_more, number_of_text}
 use Rattle.lower_relation.specs.Paths.{Graph, Path, Emitted, Ways}
-use Rattle.lower_relation.specs.Room.{branches, expr_room, exprs_room, links_room, pairs, postfix_room}
+use Rattle.lower_relation.specs.Room.{branch_visits, expr_room, exprs_room, links_room, pair_visits, postfix_room}
 use Rattle.compiler_exists.specs.Built.{Builds}
 use Rattle.lower_nodes.specs.Ends.{one_end, two_ends}
 use Rattle.compiler_exists.specs.Emits.{BuildsAll}
@@ -44,10 +44,10 @@ module _ (sites : Sites) where
 
 module _ (facts : Facts) (sites : Sites) where
   mutual
-    pub expression : (y : ExprTree) → BuildsAll (λ G. x.emitted G facts sites y) (expr_room sites y)
+    pub expression : (y : ExprTree) → BuildsAll (λ G. x.emitted_expression G facts sites y) (expr_room sites y)
     expression (e.Comma token parts) = last parts
     expression (e.Assign token sign target value) =
-        valued (assign facts sites token (assignment sign) (is_null_as (type_of facts target) value) (type_of facts target) (type_of facts value)
+        valued (assign facts sites token (assignment_of_sign sign) (is_null_as (type_of facts target) value) (type_of facts target) (type_of facts value)
         (expression target) (expression value)) (omega arith)
     expression (e.Conditional token condition first second) =
         conditional facts sites (expr_room sites first) (expr_room sites second) token (expression condition)
@@ -69,7 +69,7 @@ module _ (facts : Facts) (sites : Sites) where
     expression (e.Name token name) = placed (facts.type_at token) (variable (facts.slot_at token)) (omega arith)
     expression (e.Call token name values) =
         call_does facts sites (λ types. arguments types values) (λ want. lone want values) (formatted values) token
-        (called_as (facts.function_at token) name) (count values)
+        (called_as (facts.function_at token) name) (expression_count values)
     expression (e.Constant token kind value) = valued (does (node.Push kind value) (λ k. refl)) (omega arith)
     expression (e.Strings token parts) = valued (text_place (facts.text_at token)) (omega arith)
     expression (e.Paren token inner) = expression inner
@@ -77,7 +77,7 @@ module _ (facts : Facts) (sites : Sites) where
     expression (e.EndOfFile token) = valued (does (node.Push Int (negsuc 0)) (λ k. refl)) (omega arith)
 
     behind : (taken known : Bool) (of : Option ValueType) (y : PostfixList) →
-        Builds one_end (λ G. x.Behind G facts sites taken known of y) (postfix_room sites y)
+        Builds one_end (λ G. x.PostfixOperatorsDo G facts sites taken known of y) (postfix_room sites y)
     behind taken known of e.no_postfix = nothing
     behind taken known of (e.index token index rest) =
         fits (settled known of before (expression index).value before operates (operation op.Add of (type_of facts index))
@@ -87,39 +87,39 @@ module _ (facts : Facts) (sites : Sites) where
         fits (settled known of before member (facts.offset_at token) before behind taken true (facts.type_at token) rest) (omega arith)
     behind taken known of (e.increment token rest) =
         fits (only {n =
-        16 + pairs sites token} known (stepped_as facts sites (taken || has_more rest) true token of) (omega arith) (omega arith)
+        16 + pair_visits sites token} known (stepped_as facts sites (taken || has_more rest) true token of) (omega arith) (omega arith)
         before behind taken false (facts.type_at token) rest) (omega arith)
     behind taken known of (e.decrement token rest) =
         fits (only {n =
-        16 + pairs sites token} known (stepped_as facts sites (taken || has_more rest) false token of) (omega arith) (omega arith)
+        16 + pair_visits sites token} known (stepped_as facts sites (taken || has_more rest) false token of) (omega arith) (omega arith)
         before behind taken false (facts.type_at token) rest) (omega arith)
 
     links_do : (left : Option ValueType) (y : LinkList) → Builds one_end (λ G. x.LinksDo G facts sites left y) (links_room sites y)
     links_do left e.no_links = nothing
     links_do left (e.more_links token sign operand rest) =
-        fits (linked facts sites (joint sign) token left (operand_type (is_null_beside (binary_of sign) left operand) (type_of facts operand))
+        fits (linked facts sites (joint_of_sign sign) token left (operand_type (is_null_beside (binary_of sign) left operand) (type_of facts operand))
         (null_or (is_null_beside (binary_of sign) left operand) (expression operand) (omega (arith, some_room sites operand)))
         before links_do (facts.type_at token) rest) (omega arith)
 
-    last : (y : ExprList) → BuildsAll (λ G. x.LastDoes G facts sites y) (3 + exprs_room sites 0 y)
+    last : (y : ExprList) → BuildsAll (λ G. x.CommaDoes G facts sites y) (3 + exprs_room sites 0 y)
     last e.no_exprs = valued stuck (omega arith)
-    last (e.more_exprs first rest) = fits_all (comma (count rest) (expression first) (last rest) (omega arith)) (omega arith)
+    last (e.more_exprs first rest) = fits_all (comma (expression_count rest) (expression first) (last rest) (omega arith)) (omega arith)
 
     arguments : (types : List ValueType) (y : ExprList) → Builds one_end (λ G. x.ArgumentsDo G facts sites types y) (exprs_room sites 3 y)
     arguments types e.no_exprs = nothing
     arguments types (e.more_exprs first rest) =
         fits (handed_value (is_null_as (first_type types) first) (first_type types) (expression first) before arguments (other_types types) rest) (omega arith)
 
-    lone : (want : Option ValueType → Option ValueType) (y : ExprList) → Builds one_end (λ G. x.LoneDoes G facts sites want y) (2 + exprs_room sites 3 y)
+    lone : (want : Option ValueType → Option ValueType) (y : ExprList) → Builds one_end (λ G. x.OneArgumentDoes G facts sites want y) (2 + exprs_room sites 3 y)
     lone want e.no_exprs = fits stuck (omega arith)
     lone want (e.more_exprs first rest) =
-        only (count rest == 0) (handed_value (is_null_as (want (type_of facts first)) first) (want (type_of facts first)) (expression first)) (omega arith)
+        only (expression_count rest == 0) (handed_value (is_null_as (want (type_of facts first)) first) (want (type_of facts first)) (expression first)) (omega arith)
         (omega arith)
 
     formatted : (y : ExprList) → Builds one_end (λ G. x.FormatDoes G facts sites y) (2 + exprs_room sites 3 y)
     formatted e.no_exprs = fits stuck (omega arith)
     formatted (e.more_exprs first rest) =
-        fits (prints (number_of_text facts first) (text_of_string facts first) (count rest) (λ types. arguments types rest)) (omega arith)
+        fits (prints (number_of_text facts first) (text_of_string facts first) (expression_count rest) (λ types. arguments types rest)) (omega arith)
 
-  pub condition : (token : ℕ) (y : ExprTree) → Builds two_ends (λ G. x.Condition G facts sites token y) (1 + branches sites token + expr_room sites y)
+  pub condition : (token : ℕ) (y : ExprTree) → Builds two_ends (λ G. x.Condition G facts sites token y) (1 + branch_visits sites token + expr_room sites y)
   condition token y = fits (decides facts sites token (expression y).value (expression y).truth) (omega arith)

@@ -1,5 +1,5 @@
 -- A program for each checked text with a table: what is kept of each function's nodes fits.
-use Rattle.std.proofs.Common.{◌≡◌, ℕ, zero, suc, ◌+◌, ◌*◌, ◌<◌, ◌≤◌, ◌==◌, refl, ap, sym, ◌∙◌, subst, arith, List, [], ◌∷◌, length, map, Option, Some, None, false, option_map, slice_get}
+use Rattle.std.proofs.Common.{◌≡◌, ℕ, ◌+◌, ◌*◌, ◌<◌, ◌≤◌, ◌==◌, refl, ap, sym, ◌∙◌, subst, arith, List, [], ◌∷◌, length, map, Option, Some, None, false, option_map, slice_get}
 use Rattle.std.specs.List.{sum_by}
 use Rattle.std.proofs.lemmas.List.{length-map}
 use Rattle.std.proofs.lemmas.Option.{same_Some}
@@ -21,7 +21,7 @@ use Rattle.lower_relation.specs.Functions.{IsGraphOf}
 use Rattle.lower_relation.specs.Room.{function_room, functions_room}
 use Rattle.compiler_exists.specs.Functions.{BodyBuilt}
 use Rattle.compiler_exists.proofs.Functions.{function}
-use Rattle.compiler_exists.proofs.Numbered.{few_nodes, found, functions_from, their_names}
+use Rattle.compiler_exists.proofs.Numbered.{few_nodes, found, functions_from, name_within, their_names}
 use Rattle.compiler_exists.proofs.Turning.{length_all}
 use Rattle.lower.specs.Bodies.{BodyNodes}
 use Rattle.lower.specs.Fits.{HasFitting, IsFitting, bounds_with}
@@ -134,16 +134,11 @@ module _ (tree : SourceTree) (walk : Walk) (table : TableParts) (ready : IsReady
         ∙ ap (option_map (λ n. function_with number n (src.facts.signature number))) here in
         (name, same_Some _ _ (sym some ∙ at), here)
 
-    within : (xs : List (List ℕ)) (i : ℕ) (x : List ℕ) → slice_get xs i ≡ Some x → i < length xs
-    within [] i x e = absurd (cc)
-    within (y ∷ xs) zero x e = omega arith
-    within (y ∷ xs) (suc i) x e = omega (arith, within xs i x e)
-
     is_fitting : slice_get functions number ≡ Some f → IsFitting src named number
     is_fitting at =
         let g = given_by_name (slice_get table.functions number) refl at in
         are_fitting tree walk table ready fits number
-        (omega (arith, within table.functions number g.0 g.2, as_many_names tree walk ready.whole.accepted table ready.functions))
+        (omega (arith, name_within table.functions number g.0 g.2, as_many_names tree walk ready.whole.accepted table ready.functions))
 
     own_function : slice_get functions number ≡ Some f → IsFunctionOf src number f × FitsAsFunction tree walk table number f
     own_function at =

@@ -15,7 +15,7 @@ use Rattle.c_meaning.specs.Words.{is_null_as, Facts, Sites, equals_token, want_o
 use Rattle.lower_relation.specs.Expressions.{number_of_text}
 use Rattle.lower_relation.specs.Initialisers as i
 use Rattle.lower_relation.specs.Paths.{Graph, Path}
-use Rattle.lower_relation.specs.Room.{declaration_room, expr_room, exprs_room, initial_room, pairs, start_room}
+use Rattle.lower_relation.specs.Room.{declaration_room, expr_room, exprs_room, initial_room, pair_visits, start_room}
 use Rattle.compiler_exists.specs.Built.{Builds}
 use Rattle.lower_nodes.specs.Ends.{one_end}
 use Rattle.compiler_exists.proofs.Building.{◌before◌, does, fits, nothing, stuck}
@@ -43,7 +43,7 @@ spells (Some number) None index = stuck
 
 module _ (facts : Facts) (sites : Sites) where
   scalar : (token : ℕ) (value : ExprTree) →
-      Builds one_end (λ G. i.ScalarSet G facts sites token value) (6 + pairs sites (equals_token token) + expr_room sites value)
+      Builds one_end (λ G. i.ScalarSet G facts sites token value) (6 + pair_visits sites (equals_token token) + expr_room sites value)
   scalar token value =
       fits (variable (facts.slot_at token)
       before wanted (is_null_as (facts.declared_at token) value) (type_of facts value) (facts.declared_at token) (expression facts sites value)
@@ -63,7 +63,7 @@ module _ (facts : Facts) (sites : Sites) where
   zeroed token = on_local (facts.slot_at token) (zeroes (want_of (facts.element_at token)))
 
   value_set : (token : ℕ) (of : Option ValueType) (value : ExprTree) →
-      Builds one_end (λ G. i.ValueSet G facts sites token of value) (6 + pairs sites (equals_token token) + expr_room sites value)
+      Builds one_end (λ G. i.ValueSet G facts sites token of value) (6 + pair_visits sites (equals_token token) + expr_room sites value)
   value_set token (Some (type.Array size)) value =
       fits (zeroed token before on_local (facts.slot_at token) (spells (number_of_text facts value) (text_of_string facts value))) (omega arith)
   value_set token of value = scalar token value
@@ -73,11 +73,11 @@ module _ (facts : Facts) (sites : Sites) where
   initialised token (Some (tree.Value value)) = value_set token (facts.declared_at token) value
   initialised token (Some (tree.Braced at items comma)) = zeroed token before elements token 0 items
 
-  starts : (y : StartTree) → Builds one_end (λ G. i.Starts G facts sites y) (start_room sites y)
+  starts : (y : StartTree) → Builds one_end (λ G. i.VariableStarts G facts sites y) (start_room sites y)
   starts y = on_local (facts.slot_at y.declarator.name_token) clears before initialised y.declarator.name_token y.initial
 
   all_start : (ys : List StartTree) (d : DeclarationTree) →
-      Builds one_end (λ G. i.AllStart G facts sites ys) (declaration_room sites (record d { starts = ys }))
+      Builds one_end (λ G. i.VariablesStart G facts sites ys) (declaration_room sites (record d { starts = ys }))
   all_start [] d = fits nothing (omega arith)
   all_start (y ∷ ys) d = fits (starts y before all_start ys d) (omega (arith, sum_by-cons (start_room sites) y ys))
 

@@ -13,7 +13,7 @@ use Rattle.lower_nodes.specs.Reach.{LeadOn}
 use Rattle.lower_fits.proofs.FittingNodes.{free_fits}
 use Rattle.lower.specs.Ready.{may_stand}
 use Rattle.lower.proofs.Finishing.{still_leads}
-use Rattle.compiler_exists.specs.Kept.{kept_node, kept_nodes, stays}
+use Rattle.compiler_exists.specs.Kept.{kept_node, kept_nodes, is_kept_node}
 
 module _ (names : Names) (bounds : Bounds) (site_of : ℕ → Option Site) (nodes : List Node) where
   kept_names : (one : Node) (named stands : Bool) → names_fit names bounds one ≡ named →
@@ -38,7 +38,7 @@ module _ (names : Names) (bounds : Bounds) (site_of : ℕ → Option Site) (node
       let led : leads_rightly bounds place (view was) ≡ true = still_leads bounds place (length nodes) (view was) long (leads.each place was at) in
       subst (λ y. IsTrue (node_fits names bounds place y)) is
       (and_from (names_fit names bounds now) (leads_rightly bounds place (view now))
-      (kept_names was (names_fit names bounds was) (may_stand site_of nodes (view was)) refl) (kept_leads place was (stays names bounds site_of nodes was) led))
+      (kept_names was (names_fit names bounds was) (may_stand site_of nodes (view was)) refl) (kept_leads place was (is_kept_node names bounds site_of nodes was) led))
 
   -- nodes that lead on fit where they are kept
   pub kept_fit : LeadOn nodes → bounds.nodes ≡ length nodes → NodesFit names bounds (kept_nodes names bounds site_of nodes)

@@ -3,13 +3,13 @@ use Rattle.std.proofs.Common.{◌≡◌, ℕ, ◌+◌, ◌≤◌, ◌<◌, ◌�
 use Rattle.std.specs.Prelude.{All, IfSome}
 use Rattle.std.proofs.lemmas.Bool.{cases_lt}
 use Rattle.std.proofs.lemmas.List.{map-append}
-use Rattle.std.proofs.lemmas.List.Elements.{All-append, All-cons, All-nil, All-weaker, recursion_from_All}
+use Rattle.std.proofs.lemmas.List.Elements.{All-append, All-nil, All-weaker, recursion_from_All}
 use Rattle.std.proofs.lemmas.List.Sums.{count_by-le-length, sum_by-append}
 use Rattle.base_lists.proofs.Every.{all_first, all_second}
 use Rattle.c_syntax.specs.declared.token.Token.{Token}
 use Rattle.c_syntax.specs.declared.token.TokenKind.{TokenKind}
 use Rattle.c_syntax.specs.Words.{greatest_line, most_bytes, most_tokens, IsTokens, lines_of, text_len}
-use Rattle.c_lexer.specs.Lexing.{Cuts, IsLongest, Lexes, Taken, kind_at, line_of, past_piece, start, tokens_from, with_line}
+use Rattle.c_lexer.specs.Lexing.{Cuts, IsLongest, Lexes, Taken, kind_at, line_of, past_piece, text_start, tokens_from, with_line}
 use Rattle.c_lexer.specs.Endings.{CutEnds, Ending, Whole}
 use Rattle.c_lexer.specs.Refusals.{HasMany, IsTooLarge}
 use Rattle.c_lexer.specs.State.{AllFit, TokenFits}
@@ -110,7 +110,7 @@ cuts_kept place left (t ∷ more) ts all cuts kept few =
     let step : Kept (past_piece place t) cuts.0 (ts ++ here) = step_kept place t cuts.0 ts (all_first Byte t.bytes cuts.0 both) cuts.2 here_kept few_here in
     subst IsTokens joined (cuts_kept (past_piece place t) cuts.0 more (ts ++ here) (all_second Byte t.bytes cuts.0 both) cuts.3 step within)
 
-start_kept : (text : List ℕ) → length text ≤ most_bytes → Kept start text []
+start_kept : (text : List ℕ) → length text ≤ most_bytes → Kept text_start text []
 start_kept text short = record {
   keeps = none_kept;
   lines = All-nil _;
@@ -135,13 +135,13 @@ cuts_few place left (t ∷ more) cuts =
     )
 
 pub lexed_few : (text : List ℕ) (tokens : List Token) → Lexes text tokens → length tokens ≤ length text
-lexed_few text tokens lexes = omega (arith, ap length lexes.are, cuts_few start text lexes.pieces lexes.cut)
+lexed_few text tokens lexes = omega (arith, ap length lexes.are, cuts_few text_start text lexes.pieces lexes.cut)
 
 -- what a text lexes to keeps all this, where neither it nor they are too many
 pub lexed_keeps : (text : List ℕ) (tokens : List Token) → All Byte text → length text ≤ most_bytes → Lexes text tokens → length tokens ≤ most_tokens
     → IsTokens tokens
 lexed_keeps text tokens all short lexes few =
-    subst IsTokens (sym lexes.are) (cuts_kept start text lexes.pieces [] (recursion_from_All Byte text all) lexes.cut (start_kept text short)
+    subst IsTokens (sym lexes.are) (cuts_kept text_start text lexes.pieces [] (recursion_from_All Byte text all) lexes.cut (start_kept text short)
     (omega (arith, few, ap length lexes.are)))
 
 pub lexed_has : (text : List ℕ) (tokens : List Token) → All Byte text → length text ≤ most_bytes → Lexes text tokens → length tokens ≤ most_tokens

@@ -5,7 +5,7 @@ use Rattle.flow.specs.declared.node.Node.TheVariants as node
 use Rattle.flow.specs.View.{view as view_of}
 use Rattle.lower_relation.specs.Paths.{Graph, Path, Ways, Exits}
 use Rattle.lower_relation.specs.Statements as s
-use Rattle.lower_relation.specs.Statements.{Before, within_loop}
+use Rattle.lower_relation.specs.Statements.{StatementSequence, within_loop}
 use Rattle.compiler_exists.specs.Built.{Built, Builds, StandAlong}
 use Rattle.lower_nodes.specs.Ends.{AllBelow, all_ends, one_end, two_ends}
 use Rattle.compiler_exists.proofs.Building.{both_back, first_stand, rest_stand}
@@ -16,7 +16,7 @@ inside_loop at again x low below = (low, (below.0, (low, (below.1.1.1.0, (below.
 
 while_at : {C : Graph → Path Ways} {B : Graph → Path Exits} {a b : ℕ} (at : ℕ) (x : Exits) (body : Built all_ends B b (suc at) (within_loop at x.next x)) →
     Built two_ends C a (suc at + length body.nodes) (record { yes_to = body.entry; no_to = x.next }) →
-    Built all_ends (λ G. s.WhileDo G (C G) (B G)) (1 + a + b) at x
+    Built all_ends (λ G. s.WhileLoop G (C G) (B G)) (1 + a + b) at x
 while_at at x body test =
     let long : length (body.nodes ++ test.nodes) ≡ length body.nodes + length test.nodes = length-append body.nodes test.nodes in
     record {
@@ -46,7 +46,7 @@ while_at at x body test =
     }
 
 pub while_do : {C : Graph → Path Ways} {B : Graph → Path Exits} {a b : ℕ} → Builds two_ends C a → Builds all_ends B b →
-    Builds all_ends (λ G. s.WhileDo G (C G) (B G)) (1 + a + b)
+    Builds all_ends (λ G. s.WhileLoop G (C G) (B G)) (1 + a + b)
 while_do c b = record {
   build = λ at x.
       let body = b.build (suc at) (within_loop at x.next x) in
@@ -55,7 +55,7 @@ while_do c b = record {
 
 do_at : {C : Graph → Path Ways} {B : Graph → Path Exits} {a b : ℕ} (at : ℕ) (x : Exits)
     (test : Built two_ends C a (suc at) (record { yes_to = at; no_to = x.next })) →
-    Built all_ends B b (suc at + length test.nodes) (within_loop test.entry x.next x) → Built all_ends (λ G. s.DoDo G (C G) (B G)) (1 + a + b) at x
+    Built all_ends B b (suc at + length test.nodes) (within_loop test.entry x.next x) → Built all_ends (λ G. s.DoWhileLoop G (C G) (B G)) (1 + a + b) at x
 do_at at x test body =
     let long : length (test.nodes ++ body.nodes) ≡ length test.nodes + length body.nodes = length-append test.nodes body.nodes in
     record {
@@ -87,7 +87,7 @@ do_at at x test body =
     }
 
 pub do_do : {C : Graph → Path Ways} {B : Graph → Path Exits} {a b : ℕ} → Builds two_ends C a → Builds all_ends B b →
-    Builds all_ends (λ G. s.DoDo G (C G) (B G)) (1 + a + b)
+    Builds all_ends (λ G. s.DoWhileLoop G (C G) (B G)) (1 + a + b)
 do_do c b = record {
   build = λ at x.
       let test = c.build (suc at) (record { yes_to = at; no_to = x.next }) in
@@ -151,7 +151,7 @@ for_loop c t b = record {
 -- a statement, and what comes after it
 before_at : {R S : Graph → Path Exits} {a b : ℕ} (at : ℕ) (x : Exits) (q : Built all_ends S b at x) →
     Built all_ends R a (at + length q.nodes) (record x { next = q.entry }) →
-    Built all_ends (λ G. Before (R G) (S G)) (a + b) at x
+    Built all_ends (λ G. StatementSequence (R G) (S G)) (a + b) at x
 before_at at x q p =
     let long : length (q.nodes ++ p.nodes) ≡ length q.nodes + length p.nodes = length-append q.nodes p.nodes in
     record {
@@ -172,7 +172,7 @@ before_at at x q p =
           (p.back count (omega (arith, long, le)) (q.inside below, more.1));
     }
 
-pub one_before : {R S : Graph → Path Exits} {a b : ℕ} → Builds all_ends R a → Builds all_ends S b → Builds all_ends (λ G. Before (R G) (S G)) (a + b)
+pub one_before : {R S : Graph → Path Exits} {a b : ℕ} → Builds all_ends R a → Builds all_ends S b → Builds all_ends (λ G. StatementSequence (R G) (S G)) (a + b)
 one_before r s = record { build = λ at x. let q = s.build at x in before_at at x q (r.build (at + length q.nodes) (record x { next = q.entry })) }
 
 -- where a statement is left

@@ -14,12 +14,12 @@ use Rattle.c_meaning.specs.declared.operation.Operation.{Operation}
 use Rattle.c_meaning.specs.declared.operation.Operation.TheVariants.{Numbers, MoveLeft, MoveRight, Span, Ordered, Wrong}
 use Rattle.c_meaning.specs.declared.value_type.ValueType.{ValueType}
 use Rattle.c_meaning.specs.declared.value_type.ValueType.TheVariants as type
-use Rattle.c_meaning.specs.Words.{between, conversion, is_struct_value, Facts, Sites, left_kind, operation, right_kind, type_given, Assignment, Plain, By}
-use Rattle.c_meaning.specs.Words.{Joint, Both, Computes, Unjoined, one_kind, listed, step_operation}
+use Rattle.c_meaning.specs.Words.{kind_conversion, conversion, is_struct_value, Facts, Sites, left_kind, operation, right_kind, type_given, Assignment, Plain, By}
+use Rattle.c_meaning.specs.Words.{Joint, Both, Computes, Unjoined, one_kind, site_list, step_operation}
 use Rattle.c_meaning.specs.Trees as meaning
 use Rattle.lower_relation.specs.Operators as o
 use Rattle.lower_relation.specs.Paths.{Graph, Path, Emitted, Ways}
-use Rattle.lower_relation.specs.Room.{branches, pairs}
+use Rattle.lower_relation.specs.Room.{branch_visits, pair_visits}
 use Rattle.compiler_exists.specs.Built.{Builds}
 use Rattle.lower_nodes.specs.Ends.{one_end, two_ends}
 use Rattle.compiler_exists.specs.Emits.{BuildsAll}
@@ -28,7 +28,7 @@ use Rattle.compiler_exists.proofs.Values.{converts, converts_below, discarded, d
 
 pub operates : (change : Operation) → Builds one_end (λ G. o.Operates G change) 6
 operates (Numbers sign left right) =
-    fits (converts_below (between left (left_kind sign left right)) before converts (between right (right_kind sign left right))
+    fits (converts_below (kind_conversion left (left_kind sign left right)) before converts (kind_conversion right (right_kind sign left right))
     before does (node.Math sign) (λ k. refl)) (omega arith)
 operates (MoveLeft size) = fits (does (node.Move size) (λ k. refl)) (omega arith)
 operates (MoveRight size) = fits (does node.Swap (λ k. refl) before does (node.Move size) (λ k. refl)) (omega arith)
@@ -45,7 +45,7 @@ pub member : (offset : Option ℕ) → Builds one_end (λ G. o.Member G offset) 
 member None = stuck
 member (Some offset) = fits (does (node.Member offset) (λ k. refl)) (omega arith)
 
-pointed : Builds one_end (λ G. o.Pointed G) 3
+pointed : Builds one_end (λ G. o.PointerPlace G) 3
 pointed = fits (does node.Dup (λ k. refl) before either fork nothing (does (node.Load want.Pointer) (λ k. refl))) (omega arith)
 
 load_through : (of : Option ValueType) → Builds one_end (λ G. o.LoadThrough G of) 5
@@ -53,7 +53,7 @@ load_through (Some (type.Number kind)) = fits (load (Some (type.Number kind))) (
 load_through (Some (type.Pointer size)) = fits (load (Some (type.Pointer size))) (omega arith)
 load_through of = pointed before load of
 
-through : {R : Graph → Path ℕ} {a n : ℕ} (of : Option ValueType) → Builds one_end R a → a + 6 ≤ n → BuildsAll (λ G. o.Through G of (R G)) n
+through : {R : Graph → Path ℕ} {a n : ℕ} (of : Option ValueType) → Builds one_end R a → a + 6 ≤ n → BuildsAll (λ G. o.EmittedIndirection G of (R G)) n
 through of r le = record {
   value = fits (r before load_through of) (omega (arith, le));
   place = fits (r before pointed) (omega (arith, le));
@@ -61,11 +61,11 @@ through of r le = record {
   truth = fits (tests (r before load_through of)) (omega (arith, le));
 }
 
-pub settled : (known : Bool) (of : Option ValueType) → Builds one_end (λ G. o.Settled G known of) 2
+pub settled : (known : Bool) (of : Option ValueType) → Builds one_end (λ G. o.OperandValue G known of) 2
 settled true of = load of
 settled false of = fits nothing (omega arith)
 
-pub spot : {m : Graph → Emitted} {a : ℕ} (known : Bool) → BuildsAll m a → Builds one_end (λ G. o.Spot G known (m G)) a
+pub spot : {m : Graph → Emitted} {a : ℕ} (known : Bool) → BuildsAll m a → Builds one_end (λ G. o.PlaceOrValue G known (m G)) a
 spot true r = r.place
 spot false r = r.value
 
@@ -92,7 +92,7 @@ comma (suc left) r s le = record {
   truth = second_of_two (r.effect before s.truth);
 }
 
-flagged : Builds one_end (λ G. o.Flagged G) 2
+flagged : Builds one_end (λ G. o.TruthAsInt G) 2
 flagged = does (node.Sole unary.Not) (λ k. refl) before does (node.Sole unary.Not) (λ k. refl)
 
 pub size_value : {n : ℕ} (cells : Option ℕ) → 3 ≤ n → BuildsAll (λ G. o.SizeValue G cells) n
@@ -103,47 +103,47 @@ one_operand : (have want : Option ValueType) (sign : Unary) → Builds one_end (
 one_operand have want sign = converts (conversion have want) before does (node.Sole sign) (λ k. refl)
 
 module _ (facts : Facts) (sites : Sites) where
-  decided : (token : ℕ) → Builds two_ends (λ G. o.Decided G facts sites token) (branches sites token + 1)
-  decided token = marks (listed (sites.branch_at token)) before fork
+  decided : (token : ℕ) → Builds two_ends (λ G. o.VisitedFork G facts sites token) (branch_visits sites token + 1)
+  decided token = marks (site_list (sites.branch_at token)) before fork
 
   decided_at : {R : Graph → Path ℕ} {T : Graph → Path Ways} {a : ℕ} (site : Option ℕ) → Builds one_end R a → Builds two_ends T a →
-      Builds two_ends (λ G. o.DecidesAt G facts sites site (R G) (T G)) (a + length (listed site) + 1)
+      Builds two_ends (λ G. o.DecidesAt G facts sites site (R G) (T G)) (a + length (site_list site) + 1)
   decided_at None r t = fits t (omega arith)
   decided_at (Some site) r t = fits (r before marks (site ∷ []) before fork) (omega arith)
 
   pub decides : {R : Graph → Path ℕ} {T : Graph → Path Ways} {a : ℕ} (token : ℕ) → Builds one_end R a → Builds two_ends T a →
-      Builds two_ends (λ G. o.Decides G facts sites token (R G) (T G)) (a + branches sites token + 1)
+      Builds two_ends (λ G. o.Decides G facts sites token (R G) (T G)) (a + branch_visits sites token + 1)
   decides token r t = decided_at (sites.branch_at token) r t
 
-  pub assigned : (token : ℕ) → Builds one_end (λ G. o.Assigned G facts sites token) (1 + pairs sites token)
+  pub assigned : (token : ℕ) → Builds one_end (λ G. o.Assigned G facts sites token) (1 + pair_visits sites token)
   assigned token = does node.Store (λ k. refl) before marks (sites.pairs_at token)
 
-  updates : (token : ℕ) (of : Option ValueType) (change : Operation) → Builds one_end (λ G. o.Updates G facts sites token of change) (9 + pairs sites token)
+  updates : (token : ℕ) (of : Option ValueType) (change : Operation) → Builds one_end (λ G. o.Updates G facts sites token of change) (9 + pair_visits sites token)
   updates token of change = fits (operates change before converts (conversion (type_given change of) of) before assigned token) (omega arith)
 
-  changed : (token : ℕ) (of : Option ValueType) (change : Operation) → Builds one_end (λ G. o.Changed G facts sites token of change) (13 + pairs sites token)
+  changed : (token : ℕ) (of : Option ValueType) (change : Operation) → Builds one_end (λ G. o.CompoundAssigned G facts sites token of change) (13 + pair_visits sites token)
   changed token of change =
       fits (does node.Over (λ k. refl) before load of before does node.Swap (λ k. refl) before updates token of change) (omega arith)
 
-  stepped : (is_up : Bool) (token : ℕ) (of : Option ValueType) → Builds one_end (λ G. o.Stepped G facts sites is_up token of) (13 + pairs sites token)
+  stepped : (is_up : Bool) (token : ℕ) (of : Option ValueType) → Builds one_end (λ G. o.Stepped G facts sites is_up token of) (13 + pair_visits sites token)
   stepped is_up token of =
       fits (does node.Dup (λ k. refl) before load of before does (node.Push (one_kind of) (pos 1)) (λ k. refl)
       before updates token of (step_operation is_up of)) (omega arith)
 
   stepped_behind : (is_up : Bool) (token : ℕ) (of : Option ValueType) →
-      Builds one_end (λ G. o.SteppedBehind G facts sites is_up token of) (16 + pairs sites token)
+      Builds one_end (λ G. o.SteppedBehind G facts sites is_up token of) (16 + pair_visits sites token)
   stepped_behind is_up token of =
       fits (does node.Dup (λ k. refl) before load of before does node.Swap (λ k. refl) before does node.Over (λ k. refl)
       before does (node.Push (one_kind of) (pos 1)) (λ k. refl) before operates (step_operation is_up of)
       before converts (conversion (type_given (step_operation is_up of) of) of) before assigned token before does node.Drop (λ k. refl)) (omega arith)
 
   pub stepped_as : (taken is_up : Bool) (token : ℕ) (of : Option ValueType) →
-      Builds one_end (λ G. o.SteppedAs G facts sites taken is_up token of) (16 + pairs sites token)
+      Builds one_end (λ G. o.SteppedAs G facts sites taken is_up token of) (16 + pair_visits sites token)
   stepped_as true is_up token of = stepped_behind is_up token of
   stepped_as false is_up token of = fits (stepped is_up token of) (omega arith)
 
   pub linked : {R : Graph → Path ℕ} {a : ℕ} (link : Joint) (token : ℕ) (left right : Option ValueType) → Builds one_end R a →
-      Builds one_end (λ G. o.Linked G facts sites link token left right (R G)) (7 + branches sites token + a)
+      Builds one_end (λ G. o.Linked G facts sites link token left right (R G)) (7 + branch_visits sites token + a)
   linked Both token left right r = fits (either (decided token) (r before flagged) (does (node.Push Int (pos 0)) (λ k. refl))) (omega arith)
   linked meaning.Either token left right r = fits (either (decided token) (does (node.Push Int (pos 1)) (λ k. refl)) (r before flagged)) (omega arith)
   linked (Computes sign) token left right r = fits (r before operates (operation sign left right)) (omega arith)
@@ -151,14 +151,14 @@ module _ (facts : Facts) (sites : Sites) where
 
   pub assign : {g m : Graph → Emitted} {a b : ℕ} (token : ℕ) (how : Assignment) (is_null : Bool) (left right : Option ValueType) → BuildsAll g a →
       BuildsAll m b →
-      Builds one_end (λ G. o.Assign G facts sites token how is_null left right (g G) (m G)) (13 + pairs sites token + a + b)
+      Builds one_end (λ G. o.Assign G facts sites token how is_null left right (g G) (m G)) (13 + pair_visits sites token + a + b)
   assign token Plain is_null left right r s = fits (r.place before wanted is_null right left s before assigned token) (omega arith)
   assign token (By sign) is_null left right r s = fits (r.place before s.value before changed token left (operation sign left right)) (omega arith)
 
   pub conditional : {m : Graph → Emitted} {R S E F : Graph → Path ℕ} {a : ℕ} (b c token : ℕ) → BuildsAll m a → Builds one_end R (b + 3) →
       Builds one_end S (c + 3) →
       Builds one_end E (b + 4) → Builds one_end F (c + 4) →
-      BuildsAll (λ G. o.Conditional G facts sites token (m G) (R G) (S G) (E G) (F G)) (9 + branches sites token + a + b + c)
+      BuildsAll (λ G. o.Conditional G facts sites token (m G) (R G) (S G) (E G) (F G)) (9 + branch_visits sites token + a + b + c)
   conditional b c token t r s d k =
       let holds = decides token t.value t.truth in
       record {
@@ -177,7 +177,7 @@ module _ (facts : Facts) (sites : Sites) where
   }
 
   pub prefixed : {m : Graph → Emitted} {a : ℕ} (token : ℕ) (operator : PrefixOperator) (of : Option ValueType) (cells : Option ℕ) → BuildsAll m a →
-      BuildsAll (λ G. o.Prefixed G facts sites token operator of cells (m G)) (14 + pairs sites token + a)
+      BuildsAll (λ G. o.Prefixed G facts sites token operator of cells (m G)) (14 + pair_visits sites token + a)
   prefixed token prefix.Increment of cells r = valued (r.place before stepped true token of) (omega arith)
   prefixed token prefix.Decrement of cells r = valued (r.place before stepped false token of) (omega arith)
   prefixed token prefix.Address of cells r = valued r.place (omega arith)

@@ -1,7 +1,6 @@
 -- The token of each piece that stands in a text of bytes fits: its constant, its name and its string.
 use Rattle.std.proofs.Common.{◌≡◌, ℕ, ◌<◌, ◌^◌, ℤ, pos, neg_ℤ, refl, sym, subst, arith, ⊎_elim, List, Option, Some, None, Bool, true, false}
 use Rattle.std.specs.Prelude.{IfSome, IsTrue, All, codes, int_le, nat_lt, not, ◌&&◌, ◌||◌, ◌-ℤ◌, if◌then◌else◌}
-use Rattle.std.specs.Str.{bytes_eq}
 use Rattle.std.proofs.lemmas.Bool.{and_from, and_parts}
 use Rattle.std.proofs.lemmas.Bool.Decides.{nat_tests}
 use Rattle.std.proofs.lemmas.Int.{ints}
@@ -14,7 +13,7 @@ use Rattle.cbi_base.specs.Name.{IsName}
 use Rattle.c_syntax.specs.declared.parts.Constant.{Constant}
 use Rattle.c_syntax.specs.declared.token.Word.{Word}
 use Rattle.c_syntax.specs.Tokens.{ConstantFits}
-use Rattle.c_lexer.specs.Lexing.{kind_at, known_after, name_kind, word_kind}
+use Rattle.c_lexer.specs.Lexing.{kind_at, name_kind, word_kind}
 use Rattle.c_lexer.specs.State.{AllFit, TokenFits}
 use Rattle.c_lexer_pieces.specs.Piece.{Piece, Nothing, Name, Constant', Text, Punctuator, Definition, Known}
 use Rattle.c_lexer_pieces.specs.PieceFacts.{Fits, IsNamed, PieceFits}

@@ -13,7 +13,7 @@ use Rattle.flow.specs.declared.program.Text.{Text}
 use Rattle.flow.specs.declared.site.TableParts.{TableParts}
 use Rattle.flow.specs.Statics as statics
 use Rattle.flow.specs.Statics.{text_object}
-use Rattle.c_meaning.specs.Words.{first_objects, global_objects, starts_of, then_strings, facts_of, signature_of, literals, texts_of}
+use Rattle.c_meaning.specs.Words.{first_objects, global_objects, starts_of, then_strings, facts_of, signature_of, string_literals, texts_of}
 use Rattle.c_meaning_sound.specs.Accepted.{IsAcceptedTree}
 use Rattle.c_meaning_sound.proofs.Whole.{none_fits}
 use Rattle.lower_globals.proofs.Counted.{globals_are}
@@ -24,7 +24,7 @@ use Rattle.compiler_exists.proofs.Cells.{IfGlobals, typed_globals}
 
 module _ (tree : SourceTree) (walk : Walk) (accepted : IsAcceptedTree tree walk) where
   abbrev pub texts : List Text
-  texts = texts_of (literals tree)
+  texts = texts_of (string_literals tree)
 
   -- the program's globals that begin with the text's objects
   abbrev HasGlobals : Type 0

@@ -3,24 +3,24 @@ use Rattle.std.proofs.Common.{◌≡◌, ℕ, zero, suc, ◌<◌, refl, sym, ◌
 use Rattle.c_syntax.specs.declared.token.Sign.{Sign}
 use Rattle.c_syntax.specs.declared.token.Sign.TheVariants.{Semicolon}
 use Rattle.c_syntax.specs.Limits.{most_tokens}
-use Rattle.c_lexer.specs.Lexing.{Cuts, IsLongest, Taken, past_piece, start, tokens_from}
+use Rattle.c_lexer.specs.Lexing.{Cuts, IsLongest, Taken, past_piece, text_start, tokens_from}
 use Rattle.c_lexer.specs.Refusals.{HasMany}
 use Rattle.c_lexer.proofs.PieceLaws.{longest-read}
 use Rattle.c_lexer_pieces.specs.Cutting.{is_fresh, piece_at, plain_at, sign_at, sign_with}
 use Rattle.c_lexer_pieces.specs.Piece.{Known, Punctuator}
 use Rattle.c_lexer_pieces.specs.Pieces.{Place, punctuator}
 use Rattle.c_lexer_pieces.specs.Reading.{comment_at}
-use Rattle.c_lexer_pieces.specs.Spellings.{signs}
+use Rattle.c_lexer_pieces.specs.Spellings.{sign_table}
 
 -- no punctuator of more bytes begins with one
 no_longer : (n : ℕ) (rest : List ℕ) → sign_with (suc (suc n)) (59 ∷ rest) ≡ None
-unfolding signs
+unfolding sign_table
 no_longer n [] = let short : ltb 1 (suc (suc n)) ≡ true = lt-ltb 1 (suc (suc n)) (omega arith) in rw short refl
 no_longer n (b ∷ bs) =
     elim (ltb (suc (suc (length bs))) (suc (suc n))) as (λ v. cond {A = Option (Sign × List ℕ)} v None None ≡ None) [ true ↦ refl | false ↦ refl ]
 
 one_sign : (rest : List ℕ) → sign_with 1 (59 ∷ rest) ≡ Some (Semicolon, rest)
-unfolding signs
+unfolding sign_table
 one_sign rest = let some : ltb (length (59 ∷ rest)) 1 ≡ false = le-ltb (length (59 ∷ rest)) 1 (omega arith) in rw some refl
 
 sign_is : (rest : List ℕ) → sign_at (59 ∷ rest) ≡ Some (Semicolon, rest)
@@ -33,7 +33,7 @@ piece_is fresh known rest = rw (sign_is rest) refl
 
 -- so each is a piece of its own
 longest_is : (place : Place) (rest : List ℕ) → IsLongest place (59 ∷ []) rest (Punctuator Semicolon)
-unfolding signs
+unfolding sign_table
 longest_is place rest =
     let read = longest-read place (59 ∷ rest) (Punctuator Semicolon, rest) (piece_is (is_fresh place.before) place.known rest) in
     record {
@@ -62,7 +62,7 @@ tokens_are (suc n) place = ap (λ k. suc k) (tokens_are n (past_piece place semi
 -- more of them than a text may have tokens
 pub semicolons_many : (n : ℕ) → most_tokens < n → HasMany (replicate n 59)
 semicolons_many n many = record {
-  tokens = tokens_from start (taken n);
-  lexes = record { pieces = taken n; cut = cut_is n start; are = refl };
-  many = omega (arith, many, tokens_are n start);
+  tokens = tokens_from text_start (taken n);
+  lexes = record { pieces = taken n; cut = cut_is n text_start; are = refl };
+  many = omega (arith, many, tokens_are n text_start);
 }

@@ -6,7 +6,7 @@ use Rattle.c_meaning.specs.declared.value_type.ValueType.{ValueType}
 use Rattle.c_meaning.specs.Words.{is_null_as, Facts, Sites, type_of}
 use Rattle.lower_relation.specs.Functions as f
 use Rattle.lower_relation.specs.Paths.{Graph}
-use Rattle.lower_relation.specs.Room.{body_room, branches, entries_room, for_start_room, part_room, statement_room}
+use Rattle.lower_relation.specs.Room.{body_room, branch_visits, entries_room, for_start_room, part_room, statement_room}
 use Rattle.lower_relation.specs.Statements as s
 use Rattle.lower_relation.specs.Statements.{GoesOn}
 use Rattle.compiler_exists.specs.Built.{Builds}
@@ -26,15 +26,15 @@ module _ (facts : Facts) (sites : Sites) where
   optional_effect (Some y) = (expression facts sites y).effect
 
   optional_condition : (token : ℕ) (y : Option ExprTree) →
-      Builds two_ends (λ G. s.OptionalCondition G facts sites token y) (1 + branches sites token + part_room sites y)
+      Builds two_ends (λ G. s.OptionalCondition G facts sites token y) (1 + branch_visits sites token + part_room sites y)
   optional_condition token None = fits truly (omega arith)
   optional_condition token (Some y) = condition facts sites token y
 
-  for_starts : (y : ForStartTree) → Builds one_end (λ G. s.ForStarts G facts sites y) (for_start_room sites y)
+  for_starts : (y : ForStartTree) → Builds one_end (λ G. s.ForStartPath G facts sites y) (for_start_room sites y)
   for_starts (tree.Declares d) = declares facts sites d
   for_starts (tree.Computes y) = optional_effect y
 
-  returns_at : (result : ValueType) (y : Option ExprTree) → Builds all_ends (λ G. s.ReturnDo G facts sites result y) (2 + part_room sites y)
+  returns_at : (result : ValueType) (y : Option ExprTree) → Builds all_ends (λ G. s.ReturnPath G facts sites result y) (2 + part_room sites y)
   returns_at result None = fits (carried (left_at (λ x. x.leaves) (λ n x below. below.1.1.1.1.0)) (λ G i x h. h)) (omega arith)
   returns_at result (Some y) =
       fits (carried (aimed_at (λ x. x.gives) (λ n x below. below.1.1.1.0)
@@ -42,7 +42,7 @@ module _ (facts : Facts) (sites : Sites) where
       (λ G i x h. h)) (omega arith)
 
   mutual
-    pub statement : (result : ValueType) (y : StatementTree) → Builds all_ends (λ G. s.Runs G facts sites result y) (statement_room sites y)
+    pub statement : (result : ValueType) (y : StatementTree) → Builds all_ends (λ G. s.StatementDoes G facts sites result y) (statement_room sites y)
     statement result (tree.Block token entries) = carried (all_entries result entries) (λ G i x h. h)
     statement result (tree.Empty token) = carried goes_on (λ G i x h. h)
     statement result (tree.Expr token y) = carried (aimed_at (λ x. x.next) (λ n x below. below.0) (expression facts sites y).effect) (λ G i x h. h)
@@ -59,7 +59,7 @@ module _ (facts : Facts) (sites : Sites) where
     statement result (tree.Break token) = carried (left_at (λ x. x.breaks) (λ n x below. below.1.0)) (λ G i x h. h)
     statement result (tree.Continue token) = carried (left_at (λ x. x.continues) (λ n x below. below.1.1.0)) (λ G i x h. h)
 
-    pub all_entries : (result : ValueType) (ys : EntryList) → Builds all_ends (λ G. s.RunsAll G facts sites result ys) (entries_room sites ys)
+    pub all_entries : (result : ValueType) (ys : EntryList) → Builds all_ends (λ G. s.EntriesDo G facts sites result ys) (entries_room sites ys)
     all_entries result tree.no_entries = carried goes_on (λ G i x h. h)
     all_entries result (tree.declared d rest) = carried (declares facts sites d before all_entries result rest) (λ G i x h. h)
     all_entries result (tree.stated y rest) = carried (one_before (statement result y) (all_entries result rest)) (λ G i x h. h)

@@ -4,8 +4,8 @@ use Rattle.flow.specs.declared.node.Node.{Node}
 use Rattle.flow.specs.declared.node.Node.TheVariants as node
 use Rattle.flow.specs.declared.node.View.{View}
 use Rattle.flow.specs.Words.{view as view_of, view_at}
-use Rattle.lower_relation.specs.Functions.{standing}
-use Rattle.lower_relation.specs.Stands.{renamed}
+use Rattle.lower_relation.specs.Functions.{graph_of_nodes}
+use Rattle.lower_relation.specs.Stands.{renumbered_view}
 
 -- a node with its successors under other numbers
 abbrev pub turned_node : (ℕ → ℕ) → Node → Node
@@ -52,7 +52,7 @@ turned_node ren (node.Choose weight fast slow) = node.Choose weight (ren fast) (
 turned_node ren (node.Import next) = node.Import (ren next)
 turned_node ren (node.Export next) = node.Export (ren next)
 
-pub view_turned : (ren : ℕ → ℕ) (x : Node) → view_of (turned_node ren x) ≡ renamed ren (view_of x)
+pub view_turned : (ren : ℕ → ℕ) (x : Node) → view_of (turned_node ren x) ≡ renumbered_view ren (view_of x)
 view_turned ren node.Return = refl
 view_turned ren other = refl
 
@@ -98,14 +98,14 @@ pub turned_here : (graph : List Node) (last : ℕ) → length graph ≡ suc last
 turned_here graph last long i x at = turned_at (counted_down last) graph [] i (counted_down last i) x (omega (arith, long, within graph i x at)) at
 
 seen : (graph : List Node) (last i : ℕ) (v : View) (o : Option Node) → length graph ≡ suc last → slice_get graph i ≡ o → option_map view_of o ≡ Some v →
-    view_at (slice_get (turned_all last graph) (counted_down last i)) ≡ renamed (counted_down last) v
+    view_at (slice_get (turned_all last graph) (counted_down last i)) ≡ renumbered_view (counted_down last) v
 seen graph last i v None long at e = absurd (cc)
 seen graph last i v (Some x) long at e =
     let same : view_of x ≡ v = cc in
     ap view_at (turned_here graph last long i x at)
-    ∙ view_turned (counted_down last) x ∙ ap (renamed (counted_down last)) same
+    ∙ view_turned (counted_down last) x ∙ ap (renumbered_view (counted_down last)) same
 
 -- what stands in the graph stands in its turned nodes, under its new number
-pub turned_stands : (graph : List Node) (last : ℕ) → length graph ≡ suc last → (i : ℕ) (v : View) → standing graph i v →
-    view_at (slice_get (turned_all last graph) (counted_down last i)) ≡ renamed (counted_down last) v
+pub turned_stands : (graph : List Node) (last : ℕ) → length graph ≡ suc last → (i : ℕ) (v : View) → graph_of_nodes graph i v →
+    view_at (slice_get (turned_all last graph) (counted_down last i)) ≡ renumbered_view (counted_down last) v
 turned_stands graph last long i v e = seen graph last i v (slice_get graph i) long refl e

@@ -1,5 +1,5 @@
 -- Nodes for what is done with a value.
-use Rattle.std.proofs.Common.{ℕ, ◌+◌, ◌≤◌, refl, arith, Option, Some, None, Bool, true, false}
+use Rattle.std.proofs.Common.{ℕ, ◌+◌, ◌≤◌, refl, arith, Option, Some, Bool, true, false}
 use Rattle.cbi_base.specs.declared.scalar.Want.TheVariants as want
 use Rattle.cbi_base.specs.declared.operators.Unary.TheVariants as unary
 use Rattle.flow.specs.declared.node.Node.TheVariants as node
@@ -26,7 +26,7 @@ converts_below (To kind) =
     fits (does node.Swap (λ k. refl) before does (node.Convert kind) (λ k. refl) before does node.Swap (λ k. refl)) (omega arith)
 converts_below Misfit = fits stuck (omega arith)
 
-pub handed : (of : Option ValueType) → Builds one_end (λ G. v.Handed G of) 3
+pub handed : (of : Option ValueType) → Builds one_end (λ G. v.HandedOverAs G of) 3
 handed (Some (type.Number kind)) = fits (does (node.Convert kind) (λ k. refl)) (omega arith)
 handed (Some (type.Pointer size)) =
     fits (does node.Dup (λ k. refl) before does (node.Sole unary.Not) (λ k. refl) before does node.Drop (λ k. refl)) (omega arith)
@@ -38,17 +38,17 @@ load (Some (type.Pointer size)) = fits (does (node.Load want.Pointer) (λ k. ref
 load (Some (type.Array size)) = fits nothing (omega arith)
 load of = stuck
 
-pub dropped : {R : Graph → Path ℕ} {a : ℕ} → Builds one_end R a → Builds one_end (λ G. v.Dropped G (R G)) (a + 1)
+pub dropped : {R : Graph → Path ℕ} {a : ℕ} → Builds one_end R a → Builds one_end (λ G. v.DroppedValue G (R G)) (a + 1)
 dropped r = r before does node.Drop (λ k. refl)
 
-pub discarded : (is_struct : Bool) (of : Option ValueType) → Builds one_end (λ G. v.Discarded G is_struct of) 3
+pub discarded : (is_struct : Bool) (of : Option ValueType) → Builds one_end (λ G. v.DiscardedPlace G is_struct of) 3
 discarded true of = fits (does node.Drop (λ k. refl)) (omega arith)
 discarded false of = dropped (load of)
 
 pub fits_all : {m : Graph → Emitted} {a b : ℕ} → BuildsAll m a → a ≤ b → BuildsAll m b
 fits_all r le = record { value = fits r.value le; place = fits r.place le; effect = fits r.effect le; truth = fits r.truth le }
 
-pub valued : {R : Graph → Path ℕ} {a n : ℕ} → Builds one_end R a → (a + 1 ≤ n) × (2 ≤ n) → BuildsAll (λ G. v.Valued G (R G)) n
+pub valued : {R : Graph → Path ℕ} {a n : ℕ} → Builds one_end R a → (a + 1 ≤ n) × (2 ≤ n) → BuildsAll (λ G. v.EmittedValue G (R G)) n
 valued r le = record {
   value = fits r (omega (arith, le.0));
   place = fits stuck le.1;
@@ -56,7 +56,7 @@ valued r le = record {
   truth = fits (tests r) le.0;
 }
 
-pub placed : {P : Graph → Path ℕ} {a n : ℕ} (of : Option ValueType) → Builds one_end P a → a + 3 ≤ n → BuildsAll (λ G. v.Placed G of (P G)) n
+pub placed : {P : Graph → Path ℕ} {a n : ℕ} (of : Option ValueType) → Builds one_end P a → a + 3 ≤ n → BuildsAll (λ G. v.EmittedPlace G of (P G)) n
 placed of p le = record {
   value = fits (p before load of) (omega (arith, le));
   place = fits p (omega (arith, le));
@@ -64,7 +64,7 @@ placed of p le = record {
   truth = fits (tests (p before load of)) (omega (arith, le));
 }
 
-pub effected : {R : Graph → Path ℕ} {a n : ℕ} → Builds one_end R a → (a ≤ n) × (2 ≤ n) → BuildsAll (λ G. v.Effected G (R G)) n
+pub effected : {R : Graph → Path ℕ} {a n : ℕ} → Builds one_end R a → (a ≤ n) × (2 ≤ n) → BuildsAll (λ G. v.EmittedEffect G (R G)) n
 effected r le = record { value = fits stuck le.1; place = fits stuck le.1; effect = fits r le.0; truth = fits stuck le.1 }
 
 pub null_or : {m : Graph → Emitted} {a : ℕ} (is_null : Bool) → BuildsAll m a → 1 ≤ a → Builds one_end (λ G. v.NullOr G is_null (m G)) a

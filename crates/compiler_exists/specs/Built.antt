@@ -3,7 +3,7 @@ use Rattle.std.specs.Prelude.{◌≡◌, ℕ, suc, ◌+◌, ◌≤◌, ◌<◌, 
 use Rattle.flow.specs.declared.node.Node.{Node}
 use Rattle.flow.specs.Words.{is_again, led_to, view}
 use Rattle.lower_nodes.specs.Ends.{AllBelow}
-use Rattle.lower_relation.specs.Functions.{standing}
+use Rattle.lower_relation.specs.Functions.{graph_of_nodes}
 use Rattle.lower_relation.specs.Paths.{Graph, Path}
 
 -- the nodes stand in the list, from this place on
@@ -21,7 +21,7 @@ LeadBackWithin count at (x ∷ xs) = AllBelow (if is_again (view x) then count e
 pub record Built {K : Type 0} (ends : K → List ℕ) (R : Graph → Path K) (room at : ℕ) (k : K) : Type 0 where
   pub nodes : List Node
   pub entry : ℕ
-  pub does : (all : List Node) → StandAlong all at nodes → R (standing all) entry k
+  pub does : (all : List Node) → StandAlong all at nodes → R (graph_of_nodes all) entry k
   pub few : length nodes ≤ room
   pub inside : AllBelow at (ends k) → entry < at + length nodes
   pub back : (count : ℕ) → at + length nodes ≤ count → AllBelow at (ends k) → LeadBackWithin count at nodes

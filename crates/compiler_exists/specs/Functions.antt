@@ -4,7 +4,7 @@ use Rattle.c_syntax.specs.StatementTree.{EntryList}
 use Rattle.flow.specs.declared.node.Node.{Node}
 use Rattle.c_meaning.specs.declared.value_type.ValueType.{ValueType}
 use Rattle.c_meaning.specs.Words.{Facts, Sites, has_value}
-use Rattle.lower_relation.specs.Functions.{BodyDoes, ComesTo, Leaves, standing}
+use Rattle.lower_relation.specs.Functions.{BodyDoes, ComesTo, FunctionExits, graph_of_nodes}
 use Rattle.lower_relation.specs.Paths.{Exits}
 use Rattle.lower_relation.specs.Room.{function_room}
 use Rattle.compiler_exists.specs.Built.{LeadBackWithin}
@@ -15,9 +15,9 @@ pub record BodyBuilt (facts : Facts) (sites : Sites) (is_main : Bool) (gives : V
   pub start : ℕ
   pub last : length graph ≡ suc start
   pub entry : ℕ
-  pub begins : ComesTo (standing graph) start entry
+  pub begins : ComesTo (graph_of_nodes graph) start entry
   pub exits : Exits
-  pub runs : BodyDoes (standing graph) facts sites gives body entry exits
-  pub leaves : Leaves (standing graph) is_main (has_value gives) exits
+  pub runs : BodyDoes (graph_of_nodes graph) facts sites gives body entry exits
+  pub leaves : FunctionExits (graph_of_nodes graph) is_main (has_value gives) exits
   pub few : length graph ≤ function_room sites body
   pub back : LeadBackWithin (length graph) 0 graph

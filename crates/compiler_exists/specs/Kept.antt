@@ -9,12 +9,12 @@ use Rattle.flow.specs.Words.{names_fit, view}
 use Rattle.lower.specs.Ready.{may_stand}
 
 -- a node among these that names what is there, and may stand there
-abbrev pub stays : Names → Bounds → (ℕ → Option Site) → List Node → Node → Bool
-stays names bounds site_of nodes node = names_fit names bounds node && may_stand site_of nodes (view node)
+abbrev pub is_kept_node : Names → Bounds → (ℕ → Option Site) → List Node → Node → Bool
+is_kept_node names bounds site_of nodes node = names_fit names bounds node && may_stand site_of nodes (view node)
 
 -- the node, or one that ends the run where it doesn't stay among these: no way through a body leads there
 abbrev pub kept_node : Names → Bounds → (ℕ → Option Site) → List Node → Node → Node
-kept_node names bounds site_of nodes node = if stays names bounds site_of nodes node then node else Exit
+kept_node names bounds site_of nodes node = if is_kept_node names bounds site_of nodes node then node else Exit
 
 abbrev pub kept_nodes : Names → Bounds → (ℕ → Option Site) → List Node → List Node
 kept_nodes names bounds site_of nodes = map (kept_node names bounds site_of nodes) nodes

@@ -7,9 +7,9 @@ ghost use Rattle.flow.specs.declared.program.Text.{Text};
 ghost use Rattle.flow.specs.declared.site.TableParts.{TableParts};
 ghost use Rattle.c_meaning.specs.declared.value_type.ValueType.{ValueType};
 ghost use Rattle.c_meaning.specs.Words.{Facts, Sites, Source};
-ghost use Rattle.lower_relation.specs.Expressions.{emitted};
+ghost use Rattle.lower_relation.specs.Expressions.{emitted_expression};
 ghost use Rattle.lower_relation.specs.Room.{expr_room, statement_room};
-ghost use Rattle.lower_relation.specs.Statements.{Runs};
+ghost use Rattle.lower_relation.specs.Statements.{StatementDoes};
 ghost use Rattle.compiler_exists.specs.Built.{Builds, StandAlong};
 ghost use Rattle.lower_nodes.specs.Ends.{all_ends};
 ghost use Rattle.compiler_exists.specs.Emits.{BuildsAll};
@@ -25,13 +25,13 @@ pub fn nodes_stand_where_they_are_put()
 /// the ways that its truth goes. They may stand at any number, and go on anywhere. Nothing is asked of the expression: no run comes to the nodes
 /// of one without a meaning.
 pub fn each_expression_has_nodes()
-    ensures { (facts : Facts) (sites : Sites) (y : ExprTree) → BuildsAll (λ G. emitted G facts sites y) (expr_room sites y) }
+    ensures { (facts : Facts) (sites : Sites) (y : ExprTree) → BuildsAll (λ G. emitted_expression G facts sites y) (expr_room sites y) }
 {}
 
 /// Each statement of a function with any result has such nodes, wherever it goes on: after it, and at a `break`, a `continue` and a `return`.
 pub fn each_statement_has_nodes()
     ensures { (facts : Facts) (sites : Sites) (gives : ValueType) (y : StatementTree)
-        → Builds all_ends (λ G. Runs G facts sites gives y) (statement_room sites y) }
+        → Builds all_ends (λ G. StatementDoes G facts sites gives y) (statement_room sites y) }
 {}
 
 /// So has the body of each function, with the nodes at which it is left and the one where it begins.

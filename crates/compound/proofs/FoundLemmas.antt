@@ -16,7 +16,7 @@ use Rattle.fractions.specs.Tally.{IsTally, Passes, importance_of}
 use Rattle.elimination_tallies.specs.declared.labelled.LabelledRun.{LabelledRun}
 use Rattle.elimination.specs.Laws.{PredicatesAreThoseOfTheTable}
 use Rattle.elimination_tallies.specs.Predicates.{predicates_in}
-use Rattle.elimination_tallies.specs.Recount.{failing_runs, fails, is_observed, is_true, recount, succeeds}
+use Rattle.elimination_tallies.specs.Recount.{failing_runs, is_failing, is_observed, is_true, recount, is_successful}
 use Rattle.compound_counts.specs.Truth.{pair_is_known, pair_is_true, pair_recount}
 use Rattle.compound.specs.declared.chosen.Chosen.{Chosen}
 use Rattle.compound.specs.declared.chosen.PairResult.{PairResult}
@@ -112,19 +112,19 @@ count-same test runs others moved = sym (sum_by-IsPermutation (λ r. cond (test 
 
 recount-same : (branches : List Bool) (runs others : List LabelledRun) → IsPermutation runs others → (p : ℕ) → recount branches runs p ≡ recount branches others p
 recount-same branches runs others moved p = tally-same (recount branches runs p) (recount branches others p)
-    (count-same (λ r. fails r.label && is_true branches p r) runs others moved) (count-same (λ r. succeeds r.label && is_true branches p r) runs others moved)
-    (count-same (λ r. fails r.label && is_observed branches p r) runs others moved) (count-same (λ r. succeeds r.label && is_observed branches p r) runs others moved)
+    (count-same (λ r. is_failing r.label && is_true branches p r) runs others moved) (count-same (λ r. is_successful r.label && is_true branches p r) runs others moved)
+    (count-same (λ r. is_failing r.label && is_observed branches p r) runs others moved) (count-same (λ r. is_successful r.label && is_observed branches p r) runs others moved)
 
 pair-same : (branches : List Bool) (runs others : List LabelledRun) → IsPermutation runs others → (p q : ℕ) → pair_recount branches runs p q ≡ pair_recount branches others p q
 pair-same branches runs others moved p q = tally-same (pair_recount branches runs p q) (pair_recount branches others p q)
-    (count-same (λ r. fails r.label && pair_is_true branches p q r) runs others moved) (count-same (λ r. succeeds r.label && pair_is_true branches p q r) runs others moved)
-    (count-same (λ r. fails r.label && pair_is_known branches p q r) runs others moved) (count-same (λ r. succeeds r.label && pair_is_known branches p q r) runs others moved)
+    (count-same (λ r. is_failing r.label && pair_is_true branches p q r) runs others moved) (count-same (λ r. is_successful r.label && pair_is_true branches p q r) runs others moved)
+    (count-same (λ r. is_failing r.label && pair_is_known branches p q r) runs others moved) (count-same (λ r. is_successful r.label && pair_is_known branches p q r) runs others moved)
 
 pub order-free : (branches : List Bool) (runs others : List LabelledRun) (found : PairResult) → IsPermutation runs others → IsFound branches runs found → IsFound branches others found
 order-free branches runs others found moved is =
     let one : recount branches runs ≡ recount branches others = fun_ext (λ p. recount-same branches runs others moved p) in
     let pair : pair_recount branches runs ≡ pair_recount branches others = fun_ext (λ p. fun_ext (λ q. pair-same branches runs others moved p q)) in
-    let failing : failing_runs runs ≡ failing_runs others = count-same (λ (r : LabelledRun). fails r.label) runs others moved in
+    let failing : failing_runs runs ≡ failing_runs others = count-same (λ (r : LabelledRun). is_failing r.label) runs others moved in
     subst (λ (f : ℕ → Tally). IsFoundBy f (predicates_in branches) (pair_recount branches others) (failing_runs others) found) one
     (subst (λ (g : ℕ → ℕ → Tally). IsFoundBy (recount branches runs) (predicates_in branches) g (failing_runs others) found) pair
     (subst (λ k. IsFoundBy (recount branches runs) (predicates_in branches) (pair_recount branches runs) k found) failing is))

@@ -13,7 +13,7 @@ use Rattle.fractions.specs.Tally.{importance_of}
 use Rattle.compound.specs.declared.listing.Candidate.{Candidate}
 use Rattle.compound.specs.Bound.{IsLess}
 use Rattle.compound.specs.Candidates.{AreCandidates, ComesBefore, RanksAtLeast, candidate_limit}
-use Rattle.compound.specs.Listing.{AreListed, IsAdded, IsBefore, IsCandidateBelow, IsListedOrPast, IsPlaceOf, IsRated, IsRatedCandidate, candidate_predicates, outranks, rates_above}
+use Rattle.compound.specs.Listing.{AreListed, IsAdded, IsBefore, IsCandidateBelow, IsListedOrPast, IsPlaceOf, IsRated, IsRatedCandidate, candidate_predicates, is_ranked_above, rates_above}
 use Rattle.compound.proofs.OrderLemmas.{at-most-trans, importance-positive, less-at-most, not-both}
 use Rattle.compound.proofs.PairLists.{pairs-across, pairs-append, pairs-right}
 
@@ -71,25 +71,25 @@ below-by numbers failing p q None None one other is =
     record { passes = λ h. absurd (one h); importance = λ h. absurd (one h); failing_runs = λ _. most }
 
 outranks-by : (numbers : ℕ → Tally) (failing : ℕ) (x y : Candidate) → IsRatedCandidate numbers failing x → IsRatedCandidate numbers failing y
-    → outranks x y ≡ rates_above x.rating y.rating (numbers x.predicate).a (numbers y.predicate).a
+    → is_ranked_above x y ≡ rates_above x.rating y.rating (numbers x.predicate).a (numbers y.predicate).a
 outranks-by numbers failing x y one other =
     ap (λ a. rates_above x.rating y.rating a y.failing) one.failing_is ∙ ap (λ b. rates_above x.rating y.rating (numbers x.predicate).a b) other.failing_is
 
-above : (numbers : ℕ → Tally) (failing : ℕ) (x y : Candidate) → IsRatedCandidate numbers failing x → IsRatedCandidate numbers failing y → outranks x y ≡ true → ComesBefore numbers failing x.predicate y.predicate
+above : (numbers : ℕ → Tally) (failing : ℕ) (x y : Candidate) → IsRatedCandidate numbers failing x → IsRatedCandidate numbers failing y → is_ranked_above x y ≡ true → ComesBefore numbers failing x.predicate y.predicate
 above numbers failing x y one other is =
     let both = above-by numbers failing x.predicate y.predicate x.rating y.rating one.rated other.rated (sym (outranks-by numbers failing x y one other) ∙ is) in
     record { ranks = both.0; first = λ back. absurd (both.1 back) }
 
-below : (numbers : ℕ → Tally) (failing : ℕ) (x y : Candidate) → IsRatedCandidate numbers failing x → IsRatedCandidate numbers failing y → outranks x y ≡ false → RanksAtLeast numbers failing y.predicate x.predicate
+below : (numbers : ℕ → Tally) (failing : ℕ) (x y : Candidate) → IsRatedCandidate numbers failing x → IsRatedCandidate numbers failing y → is_ranked_above x y ≡ false → RanksAtLeast numbers failing y.predicate x.predicate
 below numbers failing x y one other is = below-by numbers failing x.predicate y.predicate x.rating y.rating one.rated other.rated (sym (outranks-by numbers failing x y one other) ∙ is)
 
 -- ---- a further one in its place
 
-pub behind-more : (list : List Candidate) (next : Candidate) (place : ℕ) (x : Candidate) → 0 < place → place ≤ length list → get_or list (place - 1) x ≡ x → outranks next x ≡ true
-    → ((k : ℕ) (d : Candidate) → place ≤ k → k < length list → outranks next (get_or list k d) ≡ true)
-    → (k : ℕ) (d : Candidate) → place - 1 ≤ k → k < length list → outranks next (get_or list k d) ≡ true
+pub behind-more : (list : List Candidate) (next : Candidate) (place : ℕ) (x : Candidate) → 0 < place → place ≤ length list → get_or list (place - 1) x ≡ x → is_ranked_above next x ≡ true
+    → ((k : ℕ) (d : Candidate) → place ≤ k → k < length list → is_ranked_above next (get_or list k d) ≡ true)
+    → (k : ℕ) (d : Candidate) → place - 1 ≤ k → k < length list → is_ranked_above next (get_or list k d) ≡ true
 behind-more list next place x some within at ranks behind k d from inside = elim (cases_eq k (place - 1)) [
-  | inl same ↦ ap (λ i. outranks next (get_or list i d)) same ∙ ap (outranks next) (get_or_default list (place - 1) d x (omega (arith, same, inside)) ∙ at) ∙ ranks
+  | inl same ↦ ap (λ i. is_ranked_above next (get_or list i d)) same ∙ ap (is_ranked_above next) (get_or_default list (place - 1) d x (omega (arith, same, inside)) ∙ at) ∙ ranks
   | inr other ↦ behind k d (omega (arith, from, other, some)) inside
 ]
 

@@ -17,7 +17,7 @@ use Rattle.compound.specs.Best.{AreSkips, IsSkipped, LeadsPairs, NoPairPasses, P
 use Rattle.compound.specs.Bound.{IsLess, bound_of}
 use Rattle.compound.specs.Listing.{IsRating, is_less}
 use Rattle.compound.specs.Scanning.{IsBest, IsScan}
-use Rattle.compound.specs.Steps.{IsWeight, IsWeighed, better, is_passed_over}
+use Rattle.compound.specs.Steps.{IsWeight, IsWeighed, better_pair, is_passed_over}
 use Rattle.compound.proofs.OrderLemmas.{at-most-less, at-most-trans, importance-positive, less-at-most, not-both}
 
 -- the importance of a pair
@@ -187,7 +187,7 @@ rating-is : {left right failing : ℕ} {tally : Tally} (chosen : Chosen) (n : Be
 rating-is {left} {right} {failing} {tally} chosen n is weight = subst (λ (c : Chosen). IsRating c.tally c.failing n.importance) is weight.rating
 
 best-counted : (pair : ℕ → ℕ → Tally) (failing : ℕ) (done : List (ℕ × ℕ)) (left right : ℕ) (chosen : Chosen) (best next : Option Best) → chosen ≡ record { left = left; right = right; tally = pair left right; failing = failing }
-    → IsWeighed chosen next → BestOf pair failing done best → BestOf pair failing (done ++ (left, right) ∷ []) (better best next)
+    → IsWeighed chosen next → BestOf pair failing done best → BestOf pair failing (done ++ (left, right) ∷ []) (better_pair best next)
 best-counted pair failing done left right chosen None None is weighed so_far =
     best-stays pair failing done None (left, right) (λ h. weighed (subst Passes (sym (ap (λ (c : Chosen). c.tally) is)) h)) so_far
 best-counted pair failing done left right chosen (Some b) None is weighed so_far =
@@ -218,7 +218,7 @@ scan-skip one pair failing done scan new p bound bound_is positive bounded is co
 
 pub scan-count : (one : ℕ → Tally) (pair : ℕ → ℕ → Tally) (failing : ℕ) (done : List (ℕ × ℕ)) (scan new : Scan) (left right : ℕ) (chosen : Chosen) (next : Option Best) (bound : Fraction)
     → bound ≡ bound_of (one left).a (one right).a failing → is_passed_over scan.best bound ≡ false → chosen ≡ record { left = left; right = right; tally = pair left right; failing = failing } → IsWeighed chosen next
-    → new.counted ≡ scan.counted + 1 → new.skipped ≡ scan.skipped → new.best ≡ better scan.best next → IsScan one pair failing done scan → IsScan one pair failing (done ++ (left, right) ∷ []) new
+    → new.counted ≡ scan.counted + 1 → new.skipped ≡ scan.skipped → new.best ≡ better_pair scan.best next → IsScan one pair failing done scan → IsScan one pair failing (done ++ (left, right) ∷ []) new
 scan-count one pair failing done scan new left right chosen next bound bound_is is made weighed counted skipped best so_far =
     let not_skipped = not-passed-over one pair failing done scan.best (left, right) bound bound_is is so_far.best in record {
       skips = so_far.skips ++ false ∷ [];

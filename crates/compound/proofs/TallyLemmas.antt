@@ -1,20 +1,18 @@
 -- The numbers of predicates and of pairs over runs are tallies, and how they compare.
-use Rattle.std.proofs.Common.{◌≡◌, ℕ, zero, suc, ◌+◌, ◌-◌, ◌≤◌, inl, inr, Bool, true, false, ◌&&◌, ◌||◌, cond, List, [], ◌∷◌, length, refl, sym, subst, arith}
-use Rattle.std.specs.Prelude.{count_by, nat_lt, slice_index_or}
+use Rattle.std.proofs.Common.{◌≡◌, ℕ, ◌+◌, ◌-◌, ◌≤◌, inl, inr, Bool, true, false, ◌&&◌, ◌||◌, cond, List, [], ◌∷◌, length, refl, sym, subst, arith}
+use Rattle.std.specs.Prelude.{count_by}
 use Rattle.std.specs.List.{list_any}
-use Rattle.std.proofs.lemmas.Bool.{and_from, and_parts, or_cases, or_left, or_right}
-use Rattle.std.proofs.lemmas.List.Sums.{count_by-le-length, sum_by-cons}
+use Rattle.std.proofs.lemmas.Bool.{and_parts, or_cases, or_left, or_right}
+use Rattle.std.proofs.lemmas.List.Sums.{sum_by-cons}
 use Rattle.elimination_tallies.proofs.PredicateLemmas.{shows-observes}
 use Rattle.base_lists.proofs.Tests.{test_rises}
-use Rattle.cbi_base.specs.declared.outcome.Counts.{Counts}
 use Rattle.fractions.specs.Tally.{IsTally}
 use Rattle.report_file.specs.declared.label.Label.{Label}
 use Rattle.report_file.specs.declared.label.Label.TheVariants.{Fail, Pass, Uncounted}
 use Rattle.report_file.specs.declared.report.Entry.{Entry}
-use Rattle.report_file.specs.Report.{is_positive}
 use Rattle.elimination_tallies.specs.declared.labelled.LabelledRun.{LabelledRun}
-use Rattle.elimination_tallies.specs.Predicates.{first_predicate, is_of, makes_true, observes, shows}
-use Rattle.elimination_tallies.specs.Recount.{failing_runs, fails, is_observed, is_true, recount, succeeds}
+use Rattle.elimination_tallies.specs.Predicates.{is_observed_in_entry, is_true_in_entry}
+use Rattle.elimination_tallies.specs.Recount.{failing_runs, is_failing, is_observed, is_true, recount, is_successful}
 use Rattle.compound_counts.specs.Truth.{pair_is_known, pair_is_true, pair_recount}
 
 -- ---- what is true is observed
@@ -28,7 +26,7 @@ any-mono p q h (e ∷ more) is =
     elim (or_cases (p e) (list_any p more) is) [ inl here ↦ or_left (q e) (list_any q more) (h e here) | inr there ↦ or_right (q e) (list_any q more) (any-mono p q h more there) ]
 
 true-observed : (branches : List Bool) (p : ℕ) (r : LabelledRun) → is_true branches p r ≡ true → is_observed branches p r ≡ true
-true-observed branches p r h = any-mono (shows branches p) (observes branches p) (shows-observes branches p) r.entries h
+true-observed branches p r h = any-mono (is_true_in_entry branches p) (is_observed_in_entry branches p) (shows-observes branches p) r.entries h
 
 -- ---- counts
 
@@ -50,7 +48,7 @@ count-apart f s o h [] = omega arith
 count-apart f s o h (r ∷ more) =
     omega (arith, sum_by-cons (λ (x : LabelledRun). cond (f x && o x) 1 0) r more, sum_by-cons (λ (x : LabelledRun). cond (s x && o x) 1 0) r more, at-most-one (f r) (s r) (o r) (h r), count-apart f s o h more)
 
-labels-apart : (l : Label) → fails l ≡ true → succeeds l ≡ false
+labels-apart : (l : Label) → is_failing l ≡ true → is_successful l ≡ false
 labels-apart Fail h = refl
 labels-apart Pass h = sym h
 labels-apart Uncounted h = refl
@@ -61,8 +59,8 @@ and-mono false b c h is = is
 
 -- ---- tallies
 
-counted-failing : (o : LabelledRun → Bool) (runs : List LabelledRun) → count_by (λ r. fails r.label && o r) runs ≤ failing_runs runs
-counted-failing o runs = count-mono (λ r. fails r.label && o r) (λ (r : LabelledRun). fails r.label) (λ r h. (and_parts (fails r.label) (o r) h).0) runs
+counted-failing : (o : LabelledRun → Bool) (runs : List LabelledRun) → count_by (λ r. is_failing r.label && o r) runs ≤ failing_runs runs
+counted-failing o runs = count-mono (λ r. is_failing r.label && o r) (λ (r : LabelledRun). is_failing r.label) (λ r h. (and_parts (is_failing r.label) (o r) h).0) runs
 
 pub recount-true : (branches : List Bool) (runs : List LabelledRun) (p : ℕ) → (recount branches runs p).a ≤ failing_runs runs
 recount-true branches runs p = counted-failing (is_true branches p) runs
@@ -72,9 +70,9 @@ known-if-true branches p q r h = or_left (pair_is_true branches p q r) _ h
 
 pub pair-tally : (branches : List Bool) (runs : List LabelledRun) (p q : ℕ) → length runs ≤ 100000 → IsTally (pair_recount branches runs p q)
 pair-tally branches runs p q few = record {
-  failing = count-mono (λ r. fails r.label && pair_is_true branches p q r) (λ r. fails r.label && pair_is_known branches p q r) (λ r. and-mono (fails r.label) (pair_is_true branches p q r) (pair_is_known branches p q r) (known-if-true branches p q r)) runs;
-  successful = count-mono (λ r. succeeds r.label && pair_is_true branches p q r) (λ r. succeeds r.label && pair_is_known branches p q r) (λ r. and-mono (succeeds r.label) (pair_is_true branches p q r) (pair_is_known branches p q r) (known-if-true branches p q r)) runs;
-  runs = omega (arith, few, count-apart (λ (r : LabelledRun). fails r.label) (λ (r : LabelledRun). succeeds r.label) (λ r. pair_is_known branches p q r) (λ r. labels-apart r.label) runs);
+  failing = count-mono (λ r. is_failing r.label && pair_is_true branches p q r) (λ r. is_failing r.label && pair_is_known branches p q r) (λ r. and-mono (is_failing r.label) (pair_is_true branches p q r) (pair_is_known branches p q r) (known-if-true branches p q r)) runs;
+  successful = count-mono (λ r. is_successful r.label && pair_is_true branches p q r) (λ r. is_successful r.label && pair_is_known branches p q r) (λ r. and-mono (is_successful r.label) (pair_is_true branches p q r) (pair_is_known branches p q r) (known-if-true branches p q r)) runs;
+  runs = omega (arith, few, count-apart (λ (r : LabelledRun). is_failing r.label) (λ (r : LabelledRun). is_successful r.label) (λ r. pair_is_known branches p q r) (λ r. labels-apart r.label) runs);
 }
 
 pub pair-observed : (branches : List Bool) (runs : List LabelledRun) (p q : ℕ) → (pair_recount branches runs p q).c ≤ failing_runs runs
@@ -82,8 +80,8 @@ pair-observed branches runs p q = counted-failing (pair_is_known branches p q) r
 
 pub pair-in-left : (branches : List Bool) (runs : List LabelledRun) (p q : ℕ) → (pair_recount branches runs p q).a ≤ (recount branches runs p).a
 pair-in-left branches runs p q =
-    count-mono (λ r. fails r.label && pair_is_true branches p q r) (λ r. fails r.label && is_true branches p r) (λ r. and-mono (fails r.label) (pair_is_true branches p q r) (is_true branches p r) (λ h. (and_parts (is_true branches p r) (is_true branches q r) h).0)) runs
+    count-mono (λ r. is_failing r.label && pair_is_true branches p q r) (λ r. is_failing r.label && is_true branches p r) (λ r. and-mono (is_failing r.label) (pair_is_true branches p q r) (is_true branches p r) (λ h. (and_parts (is_true branches p r) (is_true branches q r) h).0)) runs
 
 pub pair-in-right : (branches : List Bool) (runs : List LabelledRun) (p q : ℕ) → (pair_recount branches runs p q).a ≤ (recount branches runs q).a
 pair-in-right branches runs p q =
-    count-mono (λ r. fails r.label && pair_is_true branches p q r) (λ r. fails r.label && is_true branches q r) (λ r. and-mono (fails r.label) (pair_is_true branches p q r) (is_true branches q r) (λ h. (and_parts (is_true branches p r) (is_true branches q r) h).1)) runs
+    count-mono (λ r. is_failing r.label && pair_is_true branches p q r) (λ r. is_failing r.label && is_true branches q r) (λ r. and-mono (is_failing r.label) (pair_is_true branches p q r) (is_true branches q r) (λ h. (and_parts (is_true branches p r) (is_true branches q r) h).1)) runs

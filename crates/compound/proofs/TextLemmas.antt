@@ -1,6 +1,6 @@
 -- A line, field by field.
 use Rattle.std.proofs.Common.{◌≡◌, ℕ, List, [], ◌∷◌, ◌++◌, decimal, ap, ◌∙◌, append_assoc}
-use Rattle.cbi_base.specs.Text.{ended}
+use Rattle.cbi_base.specs.Text.{line_with_newline}
 
 -- a line with one more field
 pub field-after : (out line mid new field other : List ℕ) → mid ≡ out ++ line → new ≡ mid ++ 32 ∷ field → field ≡ other → new ≡ out ++ (line ++ 32 ∷ other)
@@ -11,8 +11,8 @@ pub number-after : (out line mid new : List ℕ) (n m : ℕ) → mid ≡ out ++ 
 number-after out line mid new n m is made same = field-after out line mid new (decimal n) (decimal m) is made (ap decimal same)
 
 -- and with its end
-pub line-ended : (out line want mid new : List ℕ) → mid ≡ out ++ line → new ≡ mid ++ 10 ∷ [] → line ≡ want → new ≡ out ++ ended want
-line-ended out line want mid new is made same = made ∙ ap (λ xs. xs ++ 10 ∷ []) is ∙ append_assoc out line (10 ∷ []) ∙ ap (λ xs. out ++ ended xs) same
+pub line-ended : (out line want mid new : List ℕ) → mid ≡ out ++ line → new ≡ mid ++ 10 ∷ [] → line ≡ want → new ≡ out ++ line_with_newline want
+line-ended out line want mid new is made same = made ∙ ap (λ xs. xs ++ 10 ∷ []) is ∙ append_assoc out line (10 ∷ []) ∙ ap (λ xs. out ++ line_with_newline xs) same
 
 -- the fields of a line from its first one on
 fields-on : (line x y : List ℕ) → (line ++ 32 ∷ x) ++ 32 ∷ y ≡ line ++ 32 ∷ (x ++ 32 ∷ y)

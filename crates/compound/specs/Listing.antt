@@ -33,14 +33,14 @@ rates_above (Some f) None a b = true
 rates_above None (Some g) a b = false
 rates_above None None a b = nat_lt b a
 
-abbrev pub outranks : Candidate → Candidate → Bool
-outranks x y = rates_above x.rating y.rating x.failing y.failing
+abbrev pub is_ranked_above : Candidate → Candidate → Bool
+is_ranked_above x y = rates_above x.rating y.rating x.failing y.failing
 
 -- the place of a further one: it ranks above those from there on, and not above the one before
 pub record IsPlaceOf (list : List Candidate) (next : Candidate) (place : ℕ) : Type 0 where
   pub within : place ≤ length list
-  pub behind : (k : ℕ) (d : Candidate) → place ≤ k → k < length list → outranks next (slice_index_or list k d) ≡ true
-  pub front : (d : Candidate) → 0 < place → outranks next (slice_index_or list (place - 1) d) ≡ false
+  pub behind : (k : ℕ) (d : Candidate) → place ≤ k → k < length list → is_ranked_above next (slice_index_or list k d) ≡ true
+  pub front : (d : Candidate) → 0 < place → is_ranked_above next (slice_index_or list (place - 1) d) ≡ false
 
 -- a further one has its place, and the list is cut at its limit
 pub record IsAdded (old : List Candidate) (next : Candidate) (new : List Candidate) : Type 0 where

@@ -10,10 +10,10 @@ abbrev pub is_passed_over : Option Best → Fraction → Bool
 is_passed_over None bound = false
 is_passed_over (Some b) bound = is_less bound b.importance
 
-abbrev pub better : Option Best → Option Best → Option Best
-better best None = best
-better None (Some next) = Some next
-better (Some b) (Some next) = if is_less b.importance next.importance then Some next else Some b
+abbrev pub better_pair : Option Best → Option Best → Option Best
+better_pair best None = best
+better_pair None (Some next) = Some next
+better_pair (Some b) (Some next) = if is_less b.importance next.importance then Some next else Some b
 
 -- a passing pair with its importance
 pub record IsWeight (chosen : Chosen) (b : Best) : Type 0 where

@@ -1,6 +1,6 @@
 -- The text of what is found: how many pairs there are and how many of them were counted and skipped, and then the best one.
 use Rattle.std.specs.Prelude.{ℕ, ◌<◌, ◌≤◌, List, [], ◌∷◌, map, codes, decimal, Option, None, Some, slice_index_or, IfSome}
-use Rattle.cbi_base.specs.Text.{spaced, text_of}
+use Rattle.cbi_base.specs.Text.{line_of_fields, text_of}
 use Rattle.flow.specs.declared.site.Site.{Site}
 use Rattle.flow.specs.declared.site.TableParts.{TableParts}
 use Rattle.flow.specs.Predicates.{predicate_count, predicate_text, site_at}
@@ -31,7 +31,7 @@ best_rows table None = (codes "best" ∷ codes "none" ∷ []) ∷ []
 best_rows table (Some c) = best_fields c ∷ member_fields table (codes "left") c.left ∷ member_fields table (codes "right") c.right ∷ []
 
 abbrev pub pairs_text : TableParts → PairResult → List ℕ
-pairs_text table found = text_of (map spaced (count_fields found ∷ best_rows table found.best))
+pairs_text table found = text_of (map line_of_fields (count_fields found ∷ best_rows table found.best))
 
 -- a best pair that a text can have: its predicates are of the table, and it passes
 pub record IsShown (table : TableParts) (c : Chosen) : Type 0 where

@@ -1,11 +1,11 @@
-ghost use Rattle.std.specs.Prelude.{◌≡◌, ◌≤◌, IfOk, IfSome, OnOk, All, map};
+ghost use Rattle.std.specs.Prelude.{◌≡◌, ◌≤◌, IfOk, IfSome, OnOk, All};
 ghost use Rattle.elimination_tallies.specs.Predicates.{predicates_in};
 ghost use Rattle.elimination_tallies.specs.Recount.{failing_runs, recount, runs_of};
 ghost use Rattle.elimination_tallies.specs.Tallies.{AreRecounts};
 ghost use Rattle.fractions.specs.Fraction.{IsFraction};
 ghost use Rattle.fractions.specs.Tally.{IsTally};
 ghost use Rattle.compound.specs.declared.listing.Candidate.{Candidate};
-ghost use Rattle.compound.specs.Listing.{AreListed, IsAdded, IsPlaceOf, IsRated, is_less, outranks};
+ghost use Rattle.compound.specs.Listing.{AreListed, IsAdded, IsPlaceOf, IsRated, is_less, is_ranked_above};
 
 use cbi_base::Memory;
 use collector::Collection;
@@ -52,7 +52,7 @@ pub fn rating(tally: Tally, failing: u32) -> Option<Fraction>
 fn outranks(left: Candidate, right: Candidate) -> bool
     requires left { IfSome left.rating IsFraction }
     requires right { IfSome right.rating IsFraction }
-    ensures { result ≡ outranks left right }
+    ensures { result ≡ is_ranked_above left right }
 {
     match (left.rating, right.rating) {
         (Some(left), Some(right)) => is_less(right, left),

@@ -13,7 +13,7 @@ ghost use Rattle.compound.specs.Found.{ArePairsScanned};
 ghost use Rattle.compound.specs.Listing.{AreListed, candidate_predicates};
 ghost use Rattle.compound.specs.Pairs.{pairs_of};
 ghost use Rattle.compound.specs.Scanning.{IsPairTally, IsScan};
-ghost use Rattle.compound.specs.Steps.{IsWeighed, better, is_passed_over};
+ghost use Rattle.compound.specs.Steps.{IsWeighed, better_pair, is_passed_over};
 
 use crate::chosen::{Chosen, PairResult};
 use crate::listing::{Candidate, is_less, rating};
@@ -58,7 +58,7 @@ fn is_passed_over(best: Option<Best>, bound: Fraction) -> bool
 fn better(best: Option<Best>, next: Option<Best>) -> Option<Best>
     requires best { IfSome best (λ (b : Best). IsFraction b.importance) }
     requires next { IfSome next (λ (b : Best). IsFraction b.importance) }
-    ensures { result ≡ better best next }
+    ensures { result ≡ better_pair best next }
 {
     let Some(second) = next else {
         return best;

@@ -1,5 +1,5 @@
 ghost use Rattle.std.specs.Prelude.{◌≡◌, ◌<◌, ◌≤◌, ◌++◌, ◌∷◌, decimal, map, IfOk, OnOk, Some};
-ghost use Rattle.cbi_base.specs.Text.{ended, spaced, text_of};
+ghost use Rattle.cbi_base.specs.Text.{line_with_newline, line_of_fields, text_of};
 ghost use Rattle.flow.specs.Predicates.{predicate_count};
 ghost use Rattle.fractions.specs.Tally.{IsTally, Passes};
 ghost use Rattle.compound.specs.Text.{HasText, IsShown, best_fields, best_rows, count_fields, member_fields, pairs_text};
@@ -29,7 +29,7 @@ fn push_word(out: &mut Vec<u8>, word: &[u8]) -> Result<(), Memory>
 
 // The line of the numbers of pairs.
 fn push_counts(out: &mut Vec<u8>, found: &PairResult) -> Result<(), Memory>
-    ensures { OnOk result (out.new.items ≡ out.old.items ++ ended (spaced (count_fields found.now))) }
+    ensures { OnOk result (out.new.items ≡ out.old.items ++ line_with_newline (line_of_fields (count_fields found.now))) }
 {
     out.extend_from_slice(b"pairs")?;
     push_number(out, found.pairs)?;
@@ -47,7 +47,7 @@ fn push_best(out: &mut Vec<u8>, chosen: Chosen) -> Result<(), Memory>
     requires passes { Passes chosen.tally }
     requires observed { chosen.tally.c ≤ chosen.failing }
     requires failing { chosen.failing ≤ 100000 }
-    ensures { OnOk result (out.new.items ≡ out.old.items ++ ended (spaced (best_fields chosen))) }
+    ensures { OnOk result (out.new.items ≡ out.old.items ++ line_with_newline (line_of_fields (best_fields chosen))) }
 {
     let share = millionths(importance(chosen.tally, chosen.failing));
     out.extend_from_slice(b"best")?;
@@ -71,7 +71,7 @@ fn push_member(
     predicate: u32,
 ) -> Result<(), Memory>
     requires { predicate < predicate_count table.now.sites }
-    ensures { OnOk result (out.new.items ≡ out.old.items ++ ended (spaced (member_fields table.now word.now predicate))) }
+    ensures { OnOk result (out.new.items ≡ out.old.items ++ line_with_newline (line_of_fields (member_fields table.now word.now predicate))) }
 {
     let functions = table.functions();
     let site = predicate_site(table, predicate).0;
@@ -92,7 +92,7 @@ fn push_chosen(
     chosen: Chosen,
 ) -> Result<(), Memory>
     requires { IsShown table.now chosen }
-    ensures { OnOk result (out.new.items ≡ out.old.items ++ text_of (map spaced (best_rows table.now (Some chosen)))) }
+    ensures { OnOk result (out.new.items ≡ out.old.items ++ text_of (map line_of_fields (best_rows table.now (Some chosen)))) }
 {
     push_best(out, chosen)?;
     push_member(alloc, out, b"left", table, chosen.left)?;

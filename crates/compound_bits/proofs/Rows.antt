@@ -7,7 +7,7 @@ use Rattle.std.proofs.lemmas.Nat.{and_le_l, or_lt}
 use Rattle.std.proofs.lemmas.List.{drop_all, drop_more, get_or_append_left, get_or-append_right, length-append, replicate-append-replicate, set-append_left, set-append_right}
 use Rattle.std.proofs.lemmas.List.Sums.{count_by-le-length, sum_by-append}
 use Rattle.compound_bits.specs.Bits.{facts_of, with_bit, with_bit_if, word_facts}
-use Rattle.compound_bits.specs.Facts.{Fact, both_hold, decided, holding, no_fact, one_is_refuted, seen}
+use Rattle.compound_bits.specs.Facts.{Fact, both_hold, decided_count, both_hold_count, no_fact, one_is_refuted, fact_seen}
 use Rattle.compound_bits.proofs.Words.{decided_word, decided-word, holding-word, length-word, no-facts, seen-word, with_one}
 
 pub length-facts : (truth known : List ℕ) → length truth ≡ length known → length (facts_of truth known) ≡ 64 * length truth
@@ -49,7 +49,7 @@ later-word-if true place w more h = later-word place w more h
 later-word-if false place w more h = refl
 
 pub seen-facts : (wanted : Bool) (place : ℕ) (truth known : List ℕ) → length truth ≡ length known → place < 64 * length truth
-    → facts_of (with_bit_if wanted place truth) (with_bit place known) ≡ set (facts_of truth known) place (seen wanted (get_or (facts_of truth known) place no_fact))
+    → facts_of (with_bit_if wanted place truth) (with_bit place known) ≡ set (facts_of truth known) place (fact_seen wanted (get_or (facts_of truth known) place no_fact))
 unfolding facts_of
 seen-facts wanted place [] known same h = absurd (omega (arith, h))
 seen-facts wanted place (t ∷ truth) [] same h = absurd (omega (arith, same))
@@ -59,18 +59,18 @@ seen-facts wanted place (t ∷ truth) (k ∷ known) same h =
     elim (cases_lt place 64) [
       | inl here ↦
           let inside : place < length word = omega (arith, length-word t k) in
-          let fact = sym (ap (seen wanted) (get_or_append_left word rest no_fact place inside)) in
+          let fact = sym (ap (fact_seen wanted) (get_or_append_left word rest no_fact place inside)) in
           ap (λ ts. facts_of ts (with_bit place (k ∷ known))) (first-word-if wanted place t truth here)
           ∙ ap (λ ks. facts_of (with_one wanted place t ∷ truth) ks) (first-word place k known here)
           ∙ ap (λ fs. fs ++ rest) (seen-word wanted t k place here)
-          ∙ sym (set-append_left word rest place (seen wanted (get_or word place no_fact)) inside)
+          ∙ sym (set-append_left word rest place (fact_seen wanted (get_or word place no_fact)) inside)
           ∙ ap (λ (f : Fact). set (word ++ rest) place f) fact
       | inr there ↦
-          let fact = sym (ap (seen wanted) (get_or-append_right word rest 64 place no_fact (length-word t k) there)) in
+          let fact = sym (ap (fact_seen wanted) (get_or-append_right word rest 64 place no_fact (length-word t k) there)) in
           ap (λ ts. facts_of ts (with_bit place (k ∷ known))) (later-word-if wanted place t truth there)
           ∙ ap (λ ks. facts_of (t ∷ with_bit_if wanted (place - 64) truth) ks) (later-word place k known there)
           ∙ ap (λ fs. word ++ fs) (seen-facts wanted (place - 64) truth known (omega (arith, same)) (omega (arith, h)))
-          ∙ sym (set-append_right word rest 64 place (seen wanted (get_or rest (place - 64) no_fact)) (length-word t k) there)
+          ∙ sym (set-append_right word rest 64 place (fact_seen wanted (get_or rest (place - 64) no_fact)) (length-word t k) there)
           ∙ ap (λ (f : Fact). set (word ++ rest) place f) fact
     ]
 
@@ -87,10 +87,10 @@ count-append test xs ys more others same = ap (count_by test) (zip-append xs ys 
 
 -- the four words at a place of the two rows
 abbrev pub holding_in : List ℕ → List ℕ → List ℕ → List ℕ → ℕ
-holding_in lt lk rt rk = holding (facts_of lt lk) (facts_of rt rk)
+holding_in lt lk rt rk = both_hold_count (facts_of lt lk) (facts_of rt rk)
 
 abbrev pub decided_in : List ℕ → List ℕ → List ℕ → List ℕ → ℕ
-decided_in lt lk rt rk = decided (facts_of lt lk) (facts_of rt rk)
+decided_in lt lk rt rk = decided_count (facts_of lt lk) (facts_of rt rk)
 
 pub holding-on : (lt lk rt rk : ℕ) (lts lks rts rks : List ℕ) → bit_and lt rt < 2 ^ 64
     → holding_in (lt ∷ lts) (lk ∷ lks) (rt ∷ rts) (rk ∷ rks) ≡ count_ones (bit_and lt rt) + holding_in lts lks rts rks
@@ -112,10 +112,10 @@ length-zip [] ys = omega arith
 length-zip (x ∷ xs) [] = omega arith
 length-zip (x ∷ xs) (y ∷ ys) = omega (arith, length-zip xs ys)
 
-pub holding-few : (left right : List Fact) → holding left right ≤ length left
+pub holding-few : (left right : List Fact) → both_hold_count left right ≤ length left
 holding-few left right = omega (arith, length-zip left right, count_by-le-length (λ (p : Fact × Fact). both_hold p.0 p.1) (zip left right))
 
-pub decided-few : (left right : List Fact) → decided left right ≤ length left
+pub decided-few : (left right : List Fact) → decided_count left right ≤ length left
 decided-few left right = omega (arith, length-zip left right, count_by-le-length (λ (p : Fact × Fact). both_hold p.0 p.1 || one_is_refuted p.0 p.1) (zip left right))
 
 decided_word-lt : (t k t' k' : ℕ) → t < 2 ^ 64 → k < 2 ^ 64 → k' < 2 ^ 64 → decided_word t k t' k' < 2 ^ 64

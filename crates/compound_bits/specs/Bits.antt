@@ -4,12 +4,12 @@ use Rattle.std.specs.Int.{bit_at}
 use Rattle.std.specs.List.{range_with_len}
 use Rattle.compound_bits.specs.Facts.{Fact}
 
-abbrev pub bit : ℕ → ℕ → Bool
-bit word i = bit_at word i == 1
+abbrev pub is_bit_set : ℕ → ℕ → Bool
+is_bit_set word i = bit_at word i == 1
 
 -- the fact at a place of two words
 abbrev pub fact_at : ℕ → ℕ → ℕ → Fact
-fact_at truth known i = record { truth = bit truth i; known = bit known i }
+fact_at truth known i = record { truth = is_bit_set truth i; known = is_bit_set known i }
 
 unfoldable pub word_facts : ℕ → ℕ → List Fact
 word_facts truth known = map (fact_at truth known) (range_with_len 0 64)

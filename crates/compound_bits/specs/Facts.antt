@@ -9,8 +9,8 @@ abbrev pub no_fact : Fact
 no_fact = record { truth = false; known = false }
 
 -- the fact with one more sight of it
-abbrev pub seen : Bool → Fact → Fact
-seen truth f = record { truth = f.truth || truth; known = true }
+abbrev pub fact_seen : Bool → Fact → Fact
+fact_seen truth f = record { truth = f.truth || truth; known = true }
 
 -- it is known not to be true
 abbrev pub is_refuted : Fact → Bool
@@ -24,8 +24,8 @@ abbrev pub one_is_refuted : Fact → Fact → Bool
 one_is_refuted f g = is_refuted f || is_refuted g
 
 -- in how many places both hold, and in how many it is known whether they do
-abbrev pub holding : List Fact → List Fact → ℕ
-holding left right = count_by (λ (p : Fact × Fact). both_hold p.0 p.1) (zip left right)
+abbrev pub both_hold_count : List Fact → List Fact → ℕ
+both_hold_count left right = count_by (λ (p : Fact × Fact). both_hold p.0 p.1) (zip left right)
 
-abbrev pub decided : List Fact → List Fact → ℕ
-decided left right = count_by (λ (p : Fact × Fact). both_hold p.0 p.1 || one_is_refuted p.0 p.1) (zip left right)
+abbrev pub decided_count : List Fact → List Fact → ℕ
+decided_count left right = count_by (λ (p : Fact × Fact). both_hold p.0 p.1 || one_is_refuted p.0 p.1) (zip left right)

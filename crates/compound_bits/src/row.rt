@@ -1,6 +1,6 @@
 ghost use Rattle.std.specs.Prelude.{◌≡◌, ◌*◌, ◌<◌, ◌^◌, length, replicate, slice_index_or, slice_set, IfOk};
 ghost use Rattle.compound_bits.specs.Bits.{facts_of, with_bit};
-ghost use Rattle.compound_bits.specs.Facts.{decided, holding, no_fact, seen};
+ghost use Rattle.compound_bits.specs.Facts.{decided_count, both_hold_count, no_fact, fact_seen};
 
 use cbi_base::Memory;
 use std::alloc::Global;
@@ -54,7 +54,7 @@ impl FactRow {
     /// The fact was seen at this place, and was true there or not.
     pub fn see(&mut self, place: usize, truth: bool)
         requires { place < length self.old }
-        ensures { self.new ≡ slice_set self.old place (seen truth (slice_index_or self.old place no_fact)) }
+        ensures { self.new ≡ slice_set self.old place (fact_seen truth (slice_index_or self.old place no_fact)) }
     {
         set(self.known.as_mut_slice(), place);
         if truth {
@@ -74,8 +74,8 @@ fn count_words(
     requires truth { length right_truth.now ≡ length left_truth.now }
     requires right { length right_known.now ≡ length left_truth.now }
     requires few { 64 * length left_truth.now < 2 ^ 32 }
-    ensures holding { result.0 ≡ holding (facts_of left_truth.now left_known.now) (facts_of right_truth.now right_known.now) }
-    ensures decided { result.1 ≡ decided (facts_of left_truth.now left_known.now) (facts_of right_truth.now right_known.now) }
+    ensures holding { result.0 ≡ both_hold_count (facts_of left_truth.now left_known.now) (facts_of right_truth.now right_known.now) }
+    ensures decided { result.1 ≡ decided_count (facts_of left_truth.now left_known.now) (facts_of right_truth.now right_known.now) }
 {
     let mut holding = 0;
     let mut decided = 0;
@@ -93,8 +93,8 @@ fn count_words(
 pub fn count_both(left: &FactRow, right: &FactRow) -> (u32, u32)
     requires same { length left.now ≡ length right.now }
     requires few { length left.now < 2 ^ 32 }
-    ensures holding { result.0 ≡ holding left.now right.now }
-    ensures decided { result.1 ≡ decided left.now right.now }
+    ensures holding { result.0 ≡ both_hold_count left.now right.now }
+    ensures decided { result.1 ≡ decided_count left.now right.now }
 {
     count_words(
         left.truth.as_slice(),

@@ -3,10 +3,10 @@ use Rattle.std.proofs.Common.{◌≡◌, ℕ, zero, suc, ◌+◌, Bool, true, fa
 use Rattle.std.specs.Prelude.{count_by, filter, replicate, zip}
 use Rattle.std.proofs.lemmas.List.Sums.{sum_by-cons}
 use Rattle.fractions.specs.declared.tally.Tally.{Tally}
-use Rattle.compound_bits.specs.Facts.{Fact, both_hold, decided, holding, no_fact, one_is_refuted}
+use Rattle.compound_bits.specs.Facts.{Fact, both_hold, decided_count, both_hold_count, no_fact, one_is_refuted}
 use Rattle.elimination_tallies.specs.declared.labelled.LabelledRun.{LabelledRun}
 use Rattle.compound_counts.specs.Rows.{IsRow, fact_of}
-use Rattle.compound_counts.specs.Runs.{counted_runs, counts}
+use Rattle.compound_counts.specs.Runs.{counted_runs, is_counted_label}
 use Rattle.compound_counts.specs.Numbers.{numbers_by, row_at}
 use Rattle.compound_counts.specs.Truth.{pair_recount}
 
@@ -39,15 +39,15 @@ count-padded test f g (r ∷ more) m n none =
     ∙ ap (λ k. cond (test (f r, g r)) 1 0 + k) (count-padded test f g more m n none)
     ∙ sym (sum_by-cons (λ (x : LabelledRun). cond (test (f x, g x)) 1 0) r more)
 
-pub holding-rows : (f g : LabelledRun → Fact) (runs : List LabelledRun) (left right : List Fact) → IsRow (map f runs) left → IsRow (map g runs) right → holding left right ≡ count_by (λ r. both_hold (f r) (g r)) runs
+pub holding-rows : (f g : LabelledRun → Fact) (runs : List LabelledRun) (left right : List Fact) → IsRow (map f runs) left → IsRow (map g runs) right → both_hold_count left right ≡ count_by (λ r. both_hold (f r) (g r)) runs
 holding-rows f g runs left right one other =
-    ap (λ (xs : List Fact). holding xs right) one.is ∙ ap (holding (map f runs ++ replicate one.more no_fact)) other.is
+    ap (λ (xs : List Fact). both_hold_count xs right) one.is ∙ ap (both_hold_count (map f runs ++ replicate one.more no_fact)) other.is
     ∙ count-padded (λ (p : Fact × Fact). both_hold p.0 p.1) f g runs one.more other.more refl
 
 pub decided-rows : (f g : LabelledRun → Fact) (runs : List LabelledRun) (left right : List Fact) → IsRow (map f runs) left → IsRow (map g runs) right
-    → decided left right ≡ count_by (λ r. both_hold (f r) (g r) || one_is_refuted (f r) (g r)) runs
+    → decided_count left right ≡ count_by (λ r. both_hold (f r) (g r) || one_is_refuted (f r) (g r)) runs
 decided-rows f g runs left right one other =
-    ap (λ (xs : List Fact). decided xs right) one.is ∙ ap (decided (map f runs ++ replicate one.more no_fact)) other.is
+    ap (λ (xs : List Fact). decided_count xs right) one.is ∙ ap (decided_count (map f runs ++ replicate one.more no_fact)) other.is
     ∙ count-padded (λ (p : Fact × Fact). both_hold p.0 p.1 || one_is_refuted p.0 p.1) f g runs one.more other.more refl
 
 -- ---- the numbers of a pair
@@ -64,8 +64,8 @@ pub numbers-are : (branches : List Bool) (runs : List LabelledRun) (p q i j : �
 numbers-are branches runs p q i j failing successful one other third fourth =
     let f = fact_of branches p in
     let g = fact_of branches q in
-    let true_count = λ (b : Bool). count-filter (λ (r : LabelledRun). counts b r.label) (λ (r : LabelledRun). both_hold (f r) (g r)) runs in
-    let known_count = λ (b : Bool). count-filter (λ (r : LabelledRun). counts b r.label) (λ (r : LabelledRun). both_hold (f r) (g r) || one_is_refuted (f r) (g r)) runs in
+    let true_count = λ (b : Bool). count-filter (λ (r : LabelledRun). is_counted_label b r.label) (λ (r : LabelledRun). both_hold (f r) (g r)) runs in
+    let known_count = λ (b : Bool). count-filter (λ (r : LabelledRun). is_counted_label b r.label) (λ (r : LabelledRun). both_hold (f r) (g r) || one_is_refuted (f r) (g r)) runs in
     tally-same (numbers_by failing successful i j) (pair_recount branches runs p q)
     (holding-rows f g (counted_runs true runs) (row_at failing i) (row_at failing j) one other ∙ true_count true)
     (holding-rows f g (counted_runs false runs) (row_at successful i) (row_at successful j) third fourth ∙ true_count false)

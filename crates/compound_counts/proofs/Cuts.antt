@@ -1,25 +1,19 @@
 -- The reports of a collection up to a run, and those of later runs.
-use Rattle.std.proofs.Common.{◌≡◌, ℕ, ◌+◌, ◌<◌, ◌≤◌, Bool, true, false, cond, List, [], ◌∷◌, ◌++◌, length, Option, None, Some, refl, sym, ap, subst, ◌∙◌, append_assoc, arith}
-use Rattle.std.specs.Prelude.{All, IsTrue, slice_get}
+use Rattle.std.proofs.Common.{◌≡◌, ℕ, ◌+◌, ◌<◌, ◌≤◌, Bool, cond, List, [], ◌∷◌, ◌++◌, Option, None, Some, refl, sym, ap, subst, ◌∙◌, append_assoc, arith}
+use Rattle.std.specs.Prelude.{All}
 use Rattle.std.proofs.lemmas.Bool.{le-ltb, lt-ltb}
 use Rattle.std.proofs.lemmas.List.{length-map, map-append}
-use Rattle.std.proofs.lemmas.List.Elements.{All-cons, All-head, All-nil, All-push, All-tail, All-weaker}
+use Rattle.std.proofs.lemmas.List.Elements.{All-head, All-nil, All-push, All-tail, All-weaker}
 use Rattle.std.proofs.lemmas.List.Sums.{count_by-le-length, sum_by-append, sum_by-cons}
-use Rattle.std.proofs.lemmas.Option.{none-some, same_Some, slice_get_within}
+use Rattle.std.proofs.lemmas.Option.{none-some, same_Some}
 use Rattle.elimination_tallies.proofs.RunLemmas.{from-one}
 use Rattle.collector.specs.declared.collection.Held.{Held}
-use Rattle.collector.specs.Collected.{IsOurs, next_after}
+use Rattle.collector.specs.Collected.{next_after}
 use Rattle.collector.specs.Collecting.{IsCollection}
-use Rattle.collector.specs.Merging.{AreReports}
-use Rattle.collector.specs.Sites.{first_bad, has_site, takes_third}
-use Rattle.collector.specs.Spelling.{RunsFrom}
-use Rattle.report_file.specs.declared.report.Entry.{Entry}
 use Rattle.report_file.specs.declared.report.Report.{Report}
-use Rattle.report_file.specs.Report.{AreEntries, IsReport, is_positive}
 use Rattle.elimination_tallies.specs.declared.labelled.LabelledRun.{LabelledRun}
-use Rattle.elimination_tallies.specs.Recount.{labelled, runs_of}
-use Rattle.elimination_tallies.specs.Runs.{AreEntriesOf}
-use Rattle.compound_counts.specs.Runs.{IsCounted, IsCut, counts, run_count}
+use Rattle.elimination_tallies.specs.Recount.{run_of_report, runs_of}
+use Rattle.compound_counts.specs.Runs.{IsCounted, IsCut, is_counted_label, run_count}
 
 -- nothing up to the run comes after it
 next-past : (last : ℕ) (before after : List Report) → All (λ (r : Report). r.run ≤ last) before → next_after last (before ++ after) ≡ next_after last after
@@ -71,17 +65,17 @@ cut-start c is = record { whole = refl; passed = All-nil (λ (r : Report). r.run
 
 runs-on : (failing : Bool) (before after : List Report) → run_count failing (runs_of (before ++ after)) ≡ run_count failing (runs_of before) + run_count failing (runs_of after)
 runs-on failing before after =
-    ap (run_count failing) (map-append labelled before after) ∙ sum_by-append (λ (r : LabelledRun). cond (counts failing r.label) 1 0) (runs_of before) (runs_of after)
+    ap (run_count failing) (map-append run_of_report before after) ∙ sum_by-append (λ (r : LabelledRun). cond (is_counted_label failing r.label) 1 0) (runs_of before) (runs_of after)
 
-pub run-one : (failing : Bool) (r : Report) (more : List Report) → run_count failing (runs_of (r ∷ more)) ≡ cond (counts failing r.label) 1 0 + run_count failing (runs_of more)
-run-one failing r more = sum_by-cons (λ (x : LabelledRun). cond (counts failing x.label) 1 0) (labelled r) (runs_of more)
+pub run-one : (failing : Bool) (r : Report) (more : List Report) → run_count failing (runs_of (r ∷ more)) ≡ cond (is_counted_label failing r.label) 1 0 + run_count failing (runs_of more)
+run-one failing r more = sum_by-cons (λ (x : LabelledRun). cond (is_counted_label failing x.label) 1 0) (run_of_report r) (runs_of more)
 
-pub run-push : (failing : Bool) (before : List Report) (r : Report) → run_count failing (runs_of (before ++ r ∷ [])) ≡ run_count failing (runs_of before) + cond (counts failing r.label) 1 0
+pub run-push : (failing : Bool) (before : List Report) (r : Report) → run_count failing (runs_of (before ++ r ∷ [])) ≡ run_count failing (runs_of before) + cond (is_counted_label failing r.label) 1 0
 run-push failing before r = runs-on failing before (r ∷ []) ∙ ap (λ n. run_count failing (runs_of before) + n) (run-one failing r [] ∙ omega arith)
 
 -- one more is at most all
 pub run-room : (failing : Bool) (reports : List Report) (last : ℕ) (before after : List Report) (r : Report) → IsCut reports last before after → IsNextCut reports before after r
-    → run_count failing (runs_of before) + cond (counts failing r.label) 1 0 ≤ run_count failing (runs_of reports)
+    → run_count failing (runs_of before) + cond (is_counted_label failing r.label) 1 0 ≤ run_count failing (runs_of reports)
 run-room failing reports last before after r cut next =
     let whole : reports ≡ before ++ r ∷ next.more = cut.whole ∙ ap (λ xs. before ++ xs) next.is in
     omega (arith, ap (λ (xs : List Report). run_count failing (runs_of xs)) whole, runs-on failing before (r ∷ next.more), run-one failing r next.more)
@@ -90,14 +84,14 @@ pub counted-start : (failing : Bool) (c : Held) → IsCollection c → IsCounted
 counted-start failing c is = record { before = []; after = c.reports; cut = cut-start c is; counted = refl }
 
 pub counted-step : (failing : Bool) (reports : List Report) (last count : ℕ) (r : Report) → IsCounted failing reports last count → next_after last reports ≡ Some r
-    → IsCounted failing reports r.run (count + cond (counts failing r.label) 1 0) × (count + cond (counts failing r.label) 1 0 ≤ run_count failing (runs_of reports))
+    → IsCounted failing reports r.run (count + cond (is_counted_label failing r.label) 1 0) × (count + cond (is_counted_label failing r.label) 1 0 ≤ run_count failing (runs_of reports))
 counted-step failing reports last count r so_far is =
     let next = cut-next reports last so_far.before so_far.after r so_far.cut is in (
       record {
         before = so_far.before ++ r ∷ [];
         after = next.more;
         cut = next.cut;
-        counted = ap (λ n. n + cond (counts failing r.label) 1 0) so_far.counted ∙ sym (run-push failing so_far.before r);
+        counted = ap (λ n. n + cond (is_counted_label failing r.label) 1 0) so_far.counted ∙ sym (run-push failing so_far.before r);
       },
       omega (arith, so_far.counted, run-room failing reports last so_far.before so_far.after r so_far.cut next),
     )
@@ -111,6 +105,6 @@ counted-end failing reports last count so_far is =
     omega (arith, so_far.counted, all, rest)
 
 pub counted-few : (failing : Bool) (c : Held) → IsCollection c → run_count failing (runs_of c.reports) ≤ 100000
-counted-few failing c is = omega (arith, count_by-le-length (λ (r : LabelledRun). counts failing r.label) (runs_of c.reports), length-map c.reports labelled, is.few)
+counted-few failing c is = omega (arith, count_by-le-length (λ (r : LabelledRun). is_counted_label failing r.label) (runs_of c.reports), length-map c.reports run_of_report, is.few)
 
 -- ---- the entries of a report

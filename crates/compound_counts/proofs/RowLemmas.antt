@@ -10,9 +10,9 @@ use Rattle.collector.specs.Collected.{next_after}
 use Rattle.collector.specs.Collecting.{IsCollection}
 use Rattle.report_file.specs.declared.report.Report.{Report}
 use Rattle.elimination_tallies.specs.declared.labelled.LabelledRun.{LabelledRun}
-use Rattle.elimination_tallies.specs.Recount.{labelled, runs_of}
+use Rattle.elimination_tallies.specs.Recount.{run_of_report, runs_of}
 use Rattle.compound_counts.specs.Rows.{AreFactRows, AreRowsUpTo, IsRow, fact_in, fact_of}
-use Rattle.compound_counts.specs.Runs.{counted_runs, counts, run_count}
+use Rattle.compound_counts.specs.Runs.{counted_runs, is_counted_label, run_count}
 use Rattle.compound_counts.specs.Numbers.{AreEven}
 use Rattle.compound_counts.proofs.Cuts.{cut-end, cut-next, cut-start, run-room}
 
@@ -69,15 +69,15 @@ rows-start branches predicates room count failing c rows is as_many made = recor
   rows_are = rows-none branches predicates room count rows as_many made;
 }
 
-counted-push : (failing : Bool) (before : List Report) (r : Report) (b : Bool) → counts failing r.label ≡ b
-    → counted_runs failing (runs_of (before ++ r ∷ [])) ≡ counted_runs failing (runs_of before) ++ cond b (labelled r ∷ []) []
+counted-push : (failing : Bool) (before : List Report) (r : Report) (b : Bool) → is_counted_label failing r.label ≡ b
+    → counted_runs failing (runs_of (before ++ r ∷ [])) ≡ counted_runs failing (runs_of before) ++ cond b (run_of_report r ∷ []) []
 counted-push failing before r b is =
-    let test : LabelledRun → Bool = λ (x : LabelledRun). counts failing x.label in
-    ap (filter test) (map-append labelled before (r ∷ [])) ∙ filter-append test (runs_of before) (labelled r ∷ [])
-    ∙ ap (λ t. counted_runs failing (runs_of before) ++ cond t (labelled r ∷ []) []) is
+    let test : LabelledRun → Bool = λ (x : LabelledRun). is_counted_label failing x.label in
+    ap (filter test) (map-append run_of_report before (r ∷ [])) ∙ filter-append test (runs_of before) (run_of_report r ∷ [])
+    ∙ ap (λ t. counted_runs failing (runs_of before) ++ cond t (run_of_report r ∷ []) []) is
 
 pub rows-skip : (branches : List Bool) (predicates : List ℕ) (room : ℕ) (failing : Bool) (reports : List Report) (last place : ℕ) (rows : List (List Fact)) (r : Report) → next_after last reports ≡ Some r
-    → counts failing r.label ≡ false → AreRowsUpTo branches predicates room failing reports last place rows → AreRowsUpTo branches predicates room failing reports r.run place rows
+    → is_counted_label failing r.label ≡ false → AreRowsUpTo branches predicates room failing reports last place rows → AreRowsUpTo branches predicates room failing reports r.run place rows
 rows-skip branches predicates room failing reports last place rows r is not_counted so_far =
     let next = cut-next reports last so_far.before so_far.after r so_far.cut is in
     let same : counted_runs failing (runs_of (so_far.before ++ r ∷ [])) ≡ counted_runs failing (runs_of so_far.before) = counted-push failing so_far.before r false not_counted ∙ append-nil (counted_runs failing (runs_of so_far.before)) in record {
@@ -90,26 +90,26 @@ rows-skip branches predicates room failing reports last place rows r is not_coun
 
 -- a run that is counted has a place
 pub place-room : (branches : List Bool) (predicates : List ℕ) (room : ℕ) (failing : Bool) (reports : List Report) (last place : ℕ) (rows : List (List Fact)) (r : Report) → next_after last reports ≡ Some r
-    → counts failing r.label ≡ true → AreRowsUpTo branches predicates room failing reports last place rows → place + 1 ≤ run_count failing (runs_of reports)
+    → is_counted_label failing r.label ≡ true → AreRowsUpTo branches predicates room failing reports last place rows → place + 1 ≤ run_count failing (runs_of reports)
 place-room branches predicates room failing reports last place rows r is counted so_far =
     let next = cut-next reports last so_far.before so_far.after r so_far.cut is in
-    let one : cond (counts failing r.label) 1 0 ≡ 1 = ap {B = ℕ} (λ (b : Bool). cond b 1 0) counted in
-    omega (arith, run-room failing reports last so_far.before so_far.after r so_far.cut next, one, so_far.place_is, length-filter (λ (x : LabelledRun). counts failing x.label) (runs_of so_far.before))
+    let one : cond (is_counted_label failing r.label) 1 0 ≡ 1 = ap {B = ℕ} (λ (b : Bool). cond b 1 0) counted in
+    omega (arith, run-room failing reports last so_far.before so_far.after r so_far.cut next, one, so_far.place_is, length-filter (λ (x : LabelledRun). is_counted_label failing x.label) (runs_of so_far.before))
 
 pub rows-next : (branches : List Bool) (predicates : List ℕ) (room : ℕ) (failing : Bool) (reports : List Report) (last place : ℕ) (old new : List (List Fact)) (r : Report) → next_after last reports ≡ Some r
-    → counts failing r.label ≡ true → place < room → length new ≡ length old
+    → is_counted_label failing r.label ≡ true → place < room → length new ≡ length old
     → ((c : ℕ) → c < length old → get_or new c [] ≡ set (get_or old c []) place (fact_in branches (get_or predicates c 0) r.entries))
     → AreRowsUpTo branches predicates room failing reports last place old → AreRowsUpTo branches predicates room failing reports r.run (place + 1) new
 rows-next branches predicates room failing reports last place old new r is counted inside as_many made so_far =
     let next = cut-next reports last so_far.before so_far.after r so_far.cut is in
     let runs = counted_runs failing (runs_of so_far.before) in
-    let longer : counted_runs failing (runs_of (so_far.before ++ r ∷ [])) ≡ runs ++ labelled r ∷ [] = counted-push failing so_far.before r true counted in record {
+    let longer : counted_runs failing (runs_of (so_far.before ++ r ∷ [])) ≡ runs ++ run_of_report r ∷ [] = counted-push failing so_far.before r true counted in record {
       before = so_far.before ++ r ∷ [];
       after = next.more;
       cut = next.cut;
-      place_is = omega (arith, so_far.place_is, ap length longer, length_push runs (labelled r));
+      place_is = omega (arith, so_far.place_is, ap length longer, length_push runs (run_of_report r));
       rows_are = subst (λ (xs : List LabelledRun). AreFactRows branches predicates room xs new) (sym longer)
-          (rows-more branches predicates room place runs (labelled r) old new (sym so_far.place_is) inside so_far.rows_are as_many made);
+          (rows-more branches predicates room place runs (run_of_report r) old new (sym so_far.place_is) inside so_far.rows_are as_many made);
     }
 
 pub rows-end : (branches : List Bool) (predicates : List ℕ) (room : ℕ) (failing : Bool) (reports : List Report) (last place : ℕ) (rows : List (List Fact)) → next_after last reports ≡ None

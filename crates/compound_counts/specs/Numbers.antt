@@ -1,7 +1,7 @@
 -- The numbers of each pair of several predicates, by their places.
 use Rattle.std.specs.Prelude.{◌≡◌, ℕ, ◌<◌, ◌^◌, List, [], length, slice_index_or}
 use Rattle.fractions.specs.declared.tally.Tally.{Tally}
-use Rattle.compound_bits.specs.Facts.{Fact, decided, holding}
+use Rattle.compound_bits.specs.Facts.{Fact, decided_count, both_hold_count}
 
 -- the rows of facts of the predicates, over the failing and over the successful runs
 pub record PairFacts : Type 0 where
@@ -15,10 +15,10 @@ row_at rows i = slice_index_or rows i []
 -- the numbers of the pair at two places
 abbrev pub numbers_by : List (List Fact) → List (List Fact) → ℕ → ℕ → Tally
 numbers_by failing successful i j = record {
-  a = holding (row_at failing i) (row_at failing j);
-  b = holding (row_at successful i) (row_at successful j);
-  c = decided (row_at failing i) (row_at failing j);
-  d = decided (row_at successful i) (row_at successful j);
+  a = both_hold_count (row_at failing i) (row_at failing j);
+  b = both_hold_count (row_at successful i) (row_at successful j);
+  c = decided_count (row_at failing i) (row_at failing j);
+  d = decided_count (row_at successful i) (row_at successful j);
 }
 
 abbrev pub numbers_at : PairFacts → ℕ → ℕ → Tally

@@ -5,13 +5,13 @@ use Rattle.compound_bits.specs.Facts.{Fact, no_fact}
 use Rattle.report_file.specs.declared.report.Entry.{Entry}
 use Rattle.report_file.specs.declared.report.Report.{Report}
 use Rattle.elimination_tallies.specs.declared.labelled.LabelledRun.{LabelledRun}
-use Rattle.elimination_tallies.specs.Predicates.{is_of, observes, shows}
+use Rattle.elimination_tallies.specs.Predicates.{is_of, is_observed_in_entry, is_true_in_entry}
 use Rattle.elimination_tallies.specs.Recount.{runs_of}
 use Rattle.compound_counts.specs.Runs.{IsCut, counted_runs}
 
 -- what entries say of a predicate
 abbrev pub fact_in : List Bool → ℕ → List Entry → Fact
-fact_in branches p entries = record { truth = list_any (shows branches p) entries; known = list_any (observes branches p) entries }
+fact_in branches p entries = record { truth = list_any (is_true_in_entry branches p) entries; known = list_any (is_observed_in_entry branches p) entries }
 
 abbrev pub fact_of : List Bool → ℕ → LabelledRun → Fact
 fact_of branches p r = fact_in branches p r.entries

@@ -4,18 +4,18 @@ use Rattle.collector.specs.Spelling.{RunsFrom}
 use Rattle.report_file.specs.declared.label.Label.{Label}
 use Rattle.report_file.specs.declared.report.Report.{Report}
 use Rattle.elimination_tallies.specs.declared.labelled.LabelledRun.{LabelledRun}
-use Rattle.elimination_tallies.specs.Recount.{fails, runs_of, succeeds}
+use Rattle.elimination_tallies.specs.Recount.{is_failing, runs_of, is_successful}
 
 -- the run counts as failing, or as successful
-abbrev pub counts : Bool → Label → Bool
-counts true label = fails label
-counts false label = succeeds label
+abbrev pub is_counted_label : Bool → Label → Bool
+is_counted_label true label = is_failing label
+is_counted_label false label = is_successful label
 
 abbrev pub counted_runs : Bool → List LabelledRun → List LabelledRun
-counted_runs failing runs = filter (λ (r : LabelledRun). counts failing r.label) runs
+counted_runs failing runs = filter (λ (r : LabelledRun). is_counted_label failing r.label) runs
 
 abbrev pub run_count : Bool → List LabelledRun → ℕ
-run_count failing runs = count_by (λ (r : LabelledRun). counts failing r.label) runs
+run_count failing runs = count_by (λ (r : LabelledRun). is_counted_label failing r.label) runs
 
 -- the reports up to a run, and those of later runs
 pub record IsCut (reports : List Report) (last : ℕ) (before after : List Report) : Type 0 where

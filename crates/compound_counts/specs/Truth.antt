@@ -2,7 +2,7 @@
 use Rattle.std.specs.Prelude.{ℕ, Bool, not, ◌&&◌, ◌||◌, List, count_by}
 use Rattle.fractions.specs.declared.tally.Tally.{Tally}
 use Rattle.elimination_tallies.specs.declared.labelled.LabelledRun.{LabelledRun}
-use Rattle.elimination_tallies.specs.Recount.{fails, is_observed, is_true, succeeds}
+use Rattle.elimination_tallies.specs.Recount.{is_failing, is_observed, is_true, is_successful}
 
 -- a predicate is false in a run that observed its site and in which it wasn't true; where its site wasn't observed it is unknown
 abbrev pub is_false : List Bool → ℕ → LabelledRun → Bool
@@ -22,8 +22,8 @@ pair_is_known branches left right r = pair_is_true branches left right r || pair
 -- the failing and the successful runs in which a pair is true, and those in which it is true or false
 abbrev pub pair_recount : List Bool → List LabelledRun → ℕ → ℕ → Tally
 pair_recount branches runs left right = record {
-  a = count_by (λ (r : LabelledRun). fails r.label && pair_is_true branches left right r) runs;
-  b = count_by (λ (r : LabelledRun). succeeds r.label && pair_is_true branches left right r) runs;
-  c = count_by (λ (r : LabelledRun). fails r.label && pair_is_known branches left right r) runs;
-  d = count_by (λ (r : LabelledRun). succeeds r.label && pair_is_known branches left right r) runs;
+  a = count_by (λ (r : LabelledRun). is_failing r.label && pair_is_true branches left right r) runs;
+  b = count_by (λ (r : LabelledRun). is_successful r.label && pair_is_true branches left right r) runs;
+  c = count_by (λ (r : LabelledRun). is_failing r.label && pair_is_known branches left right r) runs;
+  d = count_by (λ (r : LabelledRun). is_successful r.label && pair_is_known branches left right r) runs;
 }

@@ -1,13 +1,13 @@
 ghost use Rattle.std.specs.Prelude.{◌≡◌, ◌≤◌, if◌then◌else◌};
 ghost use Rattle.elimination_tallies.specs.Recount.{failing_runs, runs_of};
-ghost use Rattle.compound_counts.specs.Runs.{counts, run_count};
+ghost use Rattle.compound_counts.specs.Runs.{is_counted_label, run_count};
 
 use collector::Collection;
 use report_file::Label;
 
 /// Whether a run with this label counts as failing, or as successful.
 pub fn counts(failing: bool, label: Label) -> bool
-    ensures { result ≡ counts failing label }
+    ensures { result ≡ is_counted_label failing label }
 {
     match label {
         Label::Fail => failing,
@@ -18,7 +18,7 @@ pub fn counts(failing: bool, label: Label) -> bool
 
 // How many counted runs one with this label is.
 fn counted(failing: bool, label: Label) -> u32
-    ensures { result ≡ (if counts failing label then 1 else 0) }
+    ensures { result ≡ (if is_counted_label failing label then 1 else 0) }
 {
     if counts(failing, label) { 1 } else { 0 }
 }

@@ -2,10 +2,10 @@ ghost use Rattle.std.specs.Prelude.{◌≡◌, ◌*◌, ◌==◌, ◌<◌, ◌�
 ghost use Rattle.std.specs.List.{list_any};
 ghost use Rattle.collector.specs.Sites.{branches_of};
 ghost use Rattle.report_file.specs.declared.report.Entry.{Entry};
-ghost use Rattle.elimination_tallies.specs.Predicates.{predicates_in, shows};
+ghost use Rattle.elimination_tallies.specs.Predicates.{predicates_in, is_true_in_entry};
 ghost use Rattle.elimination_tallies.specs.Recount.{runs_of};
 ghost use Rattle.elimination_tallies.specs.Runs.{AreEntriesOf};
-ghost use Rattle.compound_bits.specs.Facts.{Fact, no_fact};
+ghost use Rattle.compound_bits.specs.Facts.{no_fact};
 ghost use Rattle.compound_counts.specs.Rows.{AreFactRows, AreWatched, fact_in, room_for};
 ghost use Rattle.compound_counts.specs.Runs.{counted_runs, run_count};
 ghost use Rattle.compound_counts.specs.Seeing.{seen_row};
@@ -92,7 +92,7 @@ fn see_entry(
     requires watchers { All (λ w. w < length predicates.now) watchers.now }
     ensures as_many { length rows.new ≡ length rows.old }
     ensures seen { (c : ℕ) → c < length rows.old → slice_index_or rows.new c []
-        ≡ seen_row place (list_any (λ w. w == c) watchers.now) (shows tallies.now.branches (slice_index predicates.now c) entry.now)
+        ≡ seen_row place (list_any (λ w. w == c) watchers.now) (is_true_in_entry tallies.now.branches (slice_index predicates.now c) entry.now)
         (slice_index_or rows.old c []) }
 {
     for watcher in watchers {

@@ -1,7 +1,7 @@
 -- A bank that is held, before and after a draw.
 use Rattle.std.proofs.Common.{◌≡◌, ℕ, ◌+◌, ◌<◌, ◌≤◌, List, [], ◌++◌, length, get_or, ap, subst, sym, ◌∙◌, arith}
 use Rattle.std.proofs.lemmas.List.{get_or_append_left}
-use Rattle.countdown_bank.specs.Bank.{AreNumbers, BankState, drawn}
+use Rattle.countdown_bank.specs.Bank.{AreNumbers, BankState, bank_after_draws}
 use Rattle.countdown_bank.specs.Held.{IsBankHeld}
 use Rattle.countdown_bank.proofs.Rounds.{drawn-next}
 
@@ -24,6 +24,6 @@ IsBankHeld-begun made later room count none numbers whole fits =
 
 -- the next place, after a draw
 pub drawn-on : (made later more rest : List ℕ) (count position : ℕ) → more ++ rest ≡ made ++ later → length (made ++ later) ≡ count → position + 1 < count
-    → state (more ++ rest) (position + 1) ≡ drawn 1 (state (made ++ later) position)
+    → state (more ++ rest) (position + 1) ≡ bank_after_draws 1 (state (made ++ later) position)
 drawn-on made later more rest count position same whole inside =
     ap (λ l. state l (position + 1)) same ∙ sym (drawn-next (state (made ++ later) position) (omega arith))

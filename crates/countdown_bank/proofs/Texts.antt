@@ -4,7 +4,7 @@ use Rattle.std.specs.Prelude.{All}
 use Rattle.std.proofs.lemmas.List.{append-nil}
 use Rattle.std.proofs.lemmas.List.Elements.{All-head, All-tail, All-cons, All-nil}
 use Rattle.std.proofs.lemmas.Fmt.{decimal_injective}
-use Rattle.cbi_base.specs.Words.{AreLines, Lacks, is_newline, ended, text_of, LeadsTo, ReadsLines}
+use Rattle.cbi_base.specs.Words.{AreLines, Lacks, is_newline, line_with_newline, text_of, LeadsTo, ReadsLines}
 use Rattle.cbi_base.proofs.FieldLemmas.{IsField-decimal, field-lacks-newline}
 use Rattle.cbi_base.proofs.TextLemmas.{cut-once}
 use Rattle.countdown_bank.specs.Bank.{IsCountdown, AreNumbers, most_numbers}
@@ -86,8 +86,8 @@ read-text text to reads =
 -- a text is that of one list of numbers
 text-once : (xs ys : List ℕ) → All IsCountdown xs → All IsCountdown ys → numbers_text xs ≡ numbers_text ys → xs ≡ ys
 text-once [] [] hx hy same = refl
-text-once [] (b ∷ ys) hx hy same = absurd (omega (arith, ap length same, length-append (ended (decimal b)) (numbers_text ys), length-append (decimal b) (10 ∷ [])))
-text-once (a ∷ xs) [] hx hy same = absurd (omega (arith, ap length same, length-append (ended (decimal a)) (numbers_text xs), length-append (decimal a) (10 ∷ [])))
+text-once [] (b ∷ ys) hx hy same = absurd (omega (arith, ap length same, length-append (line_with_newline (decimal b)) (numbers_text ys), length-append (decimal b) (10 ∷ [])))
+text-once (a ∷ xs) [] hx hy same = absurd (omega (arith, ap length same, length-append (line_with_newline (decimal a)) (numbers_text xs), length-append (decimal a) (10 ∷ [])))
 text-once (a ∷ xs) (b ∷ ys) hx hy same =
     let ha = All-head IsCountdown a xs hx in
     let hb = All-head IsCountdown b ys hy in

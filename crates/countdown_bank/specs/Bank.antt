@@ -31,8 +31,8 @@ abbrev pub bank_of : List ℕ → BankState
 bank_of numbers = record { numbers = numbers; position = 0 }
 
 -- the bank after so many draws, round and round
-abbrev pub drawn : ℕ → BankState → BankState
-drawn draws b = record b { position = (b.position + draws) % length b.numbers }
+abbrev pub bank_after_draws : ℕ → BankState → BankState
+bank_after_draws draws b = record b { position = (b.position + draws) % length b.numbers }
 
 -- the number that the draw after so many draws gives
 abbrev pub number_after : BankState → ℕ → ℕ

@@ -1,5 +1,5 @@
 ghost use Rattle.std.specs.Prelude.{◌≡◌, ◌↔◌, ◌+◌, ◌<◌, ◌≤◌, ℕ, ◌++◌, length, slice_index, vec_capacity, IsSome, IfSome};
-ghost use Rattle.countdown_bank.specs.Bank.{BankState, AreNumbers, IsBank, IsCountdown, bank_of, drawn, number_after};
+ghost use Rattle.countdown_bank.specs.Bank.{BankState, AreNumbers, IsBank, IsCountdown, bank_of, bank_after_draws, number_after};
 ghost use Rattle.countdown_bank.specs.Held.{IsBankHeld};
 
 use crate::later::Later;
@@ -106,7 +106,7 @@ impl Bank {
     #[inline]
     pub fn draw(&mut self) -> u32
         ensures value { result ≡ number_after self.old 0 }
-        ensures moved { self.new ≡ drawn 1 self.old }
+        ensures moved { self.new ≡ bank_after_draws 1 self.old }
         ensures countdown { IsCountdown result }
         ensures is_bank { IsBank self.new }
     {
@@ -176,7 +176,7 @@ impl<'a> Iterator for BankNumbers<'a> {
 /// some draws leave goes on where they end.
 pub fn numbers_come_round()
     ensures first { (b : BankState) → IsBank b → number_after b 0 ≡ slice_index b.numbers b.position }
-    ensures next { (b : BankState) → b.position + 1 < length b.numbers → drawn 1 b ≡ record b { position = b.position + 1 } }
-    ensures round { (b : BankState) → b.position + 1 ≡ length b.numbers → drawn 1 b ≡ record b { position = 0 } }
-    ensures rest { (b : BankState) (draws more : ℕ) → number_after (drawn draws b) more ≡ number_after b (draws + more) }
+    ensures next { (b : BankState) → b.position + 1 < length b.numbers → bank_after_draws 1 b ≡ record b { position = b.position + 1 } }
+    ensures round { (b : BankState) → b.position + 1 ≡ length b.numbers → bank_after_draws 1 b ≡ record b { position = 0 } }
+    ensures rest { (b : BankState) (draws more : ℕ) → number_after (bank_after_draws draws b) more ≡ number_after b (draws + more) }
 {}

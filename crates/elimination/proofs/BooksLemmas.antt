@@ -9,9 +9,9 @@ use Rattle.elimination.specs.declared.books.Books.{Books}
 use Rattle.elimination.specs.declared.books.Slot.{Slot}
 use Rattle.elimination_tallies.specs.declared.labelled.LabelledRun.{LabelledRun}
 use Rattle.elimination.specs.Elimination.{is_taken}
-use Rattle.elimination_tallies.specs.Recount.{failing_runs, fails}
+use Rattle.elimination_tallies.specs.Recount.{failing_runs, is_failing}
 use Rattle.elimination_tallies.specs.Runs.{AreEntriesOf, AreRunsOf}
-use Rattle.elimination.specs.Slots.{AreBooks, change_of, discards, left_of, taken_slot}
+use Rattle.elimination.specs.Slots.{AreBooks, change_of, discard_count, left_of, taken_slot}
 use Rattle.elimination_tallies.specs.Tallies.{AllowsEntries, AreRecounts, ChangedByAll, one_if}
 use Rattle.elimination.proofs.StepLemmas.{before_slot, behind_slot, left-middle, left-most, left-set, left-well, rest_of, rest-fails, rest-length, taken-allowed, taken-entries, taken-recounts}
 
@@ -39,14 +39,14 @@ step-allowed b policy leader place s books at =
     taken-allowed b.tallies.branches policy leader (before_slot place b.slots.items) (behind_slot place b.slots.items) s.run b.tallies (with-well b policy leader place s books at) (omega (arith, ap length is, left-most b.slots.items, books.few)) at.taken
     (subst (λ (rs : List LabelledRun). AreRecounts b.tallies.branches rs b.tallies) is books.recounts)
 
-pub step-fails : (b : Books) (policy : Policy) (leader place : ℕ) (s : Slot) → AreBooks b → IsTaken b policy leader place s → b.failing ≡ failing_runs (runs_without b policy place s) + one_if (fails s.run.label)
+pub step-fails : (b : Books) (policy : Policy) (leader place : ℕ) (s : Slot) → AreBooks b → IsTaken b policy leader place s → b.failing ≡ failing_runs (runs_without b policy place s) + one_if (is_failing s.run.label)
 step-fails b policy leader place s books at = books.failing ∙ ap failing_runs (left-is b policy leader place s at) ∙ rest-fails policy (before_slot place b.slots.items) (behind_slot place b.slots.items) s.run
 
-pub step-length : (b : Books) (policy : Policy) (leader place : ℕ) (s : Slot) → AreBooks b → IsTaken b policy leader place s → b.left ≡ length (runs_without b policy place s) + discards policy
+pub step-length : (b : Books) (policy : Policy) (leader place : ℕ) (s : Slot) → AreBooks b → IsTaken b policy leader place s → b.left ≡ length (runs_without b policy place s) + discard_count policy
 step-length b policy leader place s books at = books.left ∙ ap length (left-is b policy leader place s at) ∙ rest-length policy (before_slot place b.slots.items) (behind_slot place b.slots.items) s.run
 
 pub step-books : (b new : Books) (policy : Policy) (leader place : ℕ) (s : Slot) → AreBooks b → IsTaken b policy leader place s → ChangedByAll (change_of policy s.run.label) s.run.entries b.tallies new.tallies
-    → new.slots.items ≡ set b.slots.items place (taken_slot policy s) → new.failing ≡ b.failing - one_if (fails s.run.label) → new.left ≡ b.left - discards policy → AreBooks new
+    → new.slots.items ≡ set b.slots.items place (taken_slot policy s) → new.failing ≡ b.failing - one_if (is_failing s.run.label) → new.left ≡ b.left - discard_count policy → AreBooks new
 step-books b new policy leader place s books at change slots failing left =
     let is = left-is b policy leader place s at in
     let now : left_of new.slots.items ≡ runs_without b policy place s = ap left_of slots ∙ left-set policy b.slots.items place s at.stands at.left in

@@ -9,12 +9,12 @@ use Rattle.fractions.specs.declared.tally.Tally.{Tally}
 use Rattle.fractions.specs.Tally.{Passes}
 use Rattle.elimination_tallies.specs.declared.labelled.LabelledRun.{LabelledRun}
 use Rattle.elimination_tallies.specs.declared.listed.Listed.{Listed}
-use Rattle.elimination.specs.Elimination.{IsElimination, after, all_entries_taken, entries_taken, passed}
+use Rattle.elimination.specs.Elimination.{IsElimination, runs_after_leader, all_entries_taken, entries_taken, run_as_successful}
 use Rattle.elimination_tallies.specs.Leading.{IsLeader, NonePasses}
-use Rattle.elimination_tallies.specs.Recount.{failing_runs, fails, is_true, recount}
+use Rattle.elimination_tallies.specs.Recount.{failing_runs, is_failing, is_true, recount}
 
-head-sum : (r : LabelledRun) (rest : List LabelledRun) (keep : Bool) → failing_runs (cond keep (r ∷ rest) rest) ≡ cond keep (cond (fails r.label) 1 0) 0 + failing_runs rest
-head-sum r rest true = sum_by-cons (λ (x : LabelledRun). cond (fails x.label) 1 0) r rest
+head-sum : (r : LabelledRun) (rest : List LabelledRun) (keep : Bool) → failing_runs (cond keep (r ∷ rest) rest) ≡ cond keep (cond (is_failing r.label) 1 0) 0 + failing_runs rest
+head-sum r rest true = sum_by-cons (λ (x : LabelledRun). cond (is_failing x.label) 1 0) r rest
 head-sum r rest false = omega arith
 
 discard-sum : (f t : Bool) → cond (not t) (cond f 1 0) 0 + cond (f && t) 1 0 ≡ cond f 1 0
@@ -35,39 +35,39 @@ relabel-sum true false = refl
 relabel-sum false true = refl
 relabel-sum false false = refl
 
-relabelled-fails : (r : LabelledRun) (taken : Bool) → ◌≡◌ {A = ℕ} (cond (fails (cond taken (passed r) r).label) 1 0) (cond taken 0 (cond (fails r.label) 1 0))
+relabelled-fails : (r : LabelledRun) (taken : Bool) → ◌≡◌ {A = ℕ} (cond (is_failing (cond taken (run_as_successful r) r).label) 1 0) (cond taken 0 (cond (is_failing r.label) 1 0))
 relabelled-fails r true = refl
 relabelled-fails r false = refl
 
 -- the failing runs in which the leader was true fail no more, and the others still do
-pub after-counts : (branches : List Bool) (policy : Policy) (leader : ℕ) (runs : List LabelledRun) → failing_runs (after branches policy leader runs) + (recount branches runs leader).a ≡ failing_runs runs
+pub after-counts : (branches : List Bool) (policy : Policy) (leader : ℕ) (runs : List LabelledRun) → failing_runs (runs_after_leader branches policy leader runs) + (recount branches runs leader).a ≡ failing_runs runs
 after-counts branches Every leader (r ∷ more) =
     omega (
       arith,
-      head-sum r (after branches Every leader more) (not (is_true branches leader r)),
-      discard-sum (fails r.label) (is_true branches leader r),
+      head-sum r (runs_after_leader branches Every leader more) (not (is_true branches leader r)),
+      discard-sum (is_failing r.label) (is_true branches leader r),
       after-counts branches Every leader more,
-      sum_by-cons (λ (x : LabelledRun). cond (fails x.label && is_true branches leader x) 1 0) r more,
-      sum_by-cons (λ (x : LabelledRun). cond (fails x.label) 1 0) r more,
+      sum_by-cons (λ (x : LabelledRun). cond (is_failing x.label && is_true branches leader x) 1 0) r more,
+      sum_by-cons (λ (x : LabelledRun). cond (is_failing x.label) 1 0) r more,
     )
 after-counts branches Failing leader (r ∷ more) =
     omega (
       arith,
-      head-sum r (after branches Failing leader more) (not (fails r.label && is_true branches leader r)),
-      discard-failing-sum (fails r.label) (is_true branches leader r),
+      head-sum r (runs_after_leader branches Failing leader more) (not (is_failing r.label && is_true branches leader r)),
+      discard-failing-sum (is_failing r.label) (is_true branches leader r),
       after-counts branches Failing leader more,
-      sum_by-cons (λ (x : LabelledRun). cond (fails x.label && is_true branches leader x) 1 0) r more,
-      sum_by-cons (λ (x : LabelledRun). cond (fails x.label) 1 0) r more,
+      sum_by-cons (λ (x : LabelledRun). cond (is_failing x.label && is_true branches leader x) 1 0) r more,
+      sum_by-cons (λ (x : LabelledRun). cond (is_failing x.label) 1 0) r more,
     )
 after-counts branches Relabel leader (r ∷ more) =
     omega (
       arith,
-      sum_by-cons (λ (x : LabelledRun). cond (fails x.label) 1 0) (cond (fails r.label && is_true branches leader r) (passed r) r) (after branches Relabel leader more),
-      relabelled-fails r (fails r.label && is_true branches leader r),
-      relabel-sum (fails r.label) (is_true branches leader r),
+      sum_by-cons (λ (x : LabelledRun). cond (is_failing x.label) 1 0) (cond (is_failing r.label && is_true branches leader r) (run_as_successful r) r) (runs_after_leader branches Relabel leader more),
+      relabelled-fails r (is_failing r.label && is_true branches leader r),
+      relabel-sum (is_failing r.label) (is_true branches leader r),
       after-counts branches Relabel leader more,
-      sum_by-cons (λ (x : LabelledRun). cond (fails x.label && is_true branches leader x) 1 0) r more,
-      sum_by-cons (λ (x : LabelledRun). cond (fails x.label) 1 0) r more,
+      sum_by-cons (λ (x : LabelledRun). cond (is_failing x.label && is_true branches leader x) 1 0) r more,
+      sum_by-cons (λ (x : LabelledRun). cond (is_failing x.label) 1 0) r more,
     )
 after-counts branches Every leader [] = refl
 after-counts branches Failing leader [] = refl
@@ -81,7 +81,7 @@ positive-by (suc a) d h = omega arith
 pub passes-positive : (t : Tally) → Passes t → 0 < t.a
 passes-positive t p = positive-by t.a t.d (omega (arith, p.increases))
 
-pub leader-falls : (branches : List Bool) (policy : Policy) (runs : List LabelledRun) (row : Listed) → IsLeader branches runs row → failing_runs (after branches policy row.predicate runs) < failing_runs runs
+pub leader-falls : (branches : List Bool) (policy : Policy) (runs : List LabelledRun) (row : Listed) → IsLeader branches runs row → failing_runs (runs_after_leader branches policy row.predicate runs) < failing_runs runs
 leader-falls branches policy runs row leads = omega (arith, after-counts branches policy row.predicate runs, passes-positive (recount branches runs row.predicate) leads.leads.passes)
 
 -- the leaders so far: those to come make the elimination with them
@@ -90,7 +90,7 @@ pub record IsListing (branches : List Bool) (policy : Policy) (all left : List L
   pub steps_are : (rest : List Listed) → before + all_entries_taken branches policy all (rows ++ rest) ≡ steps + all_entries_taken branches policy left rest
 
 pub listing-more : (branches : List Bool) (policy : Policy) (all left : List LabelledRun) (rows new : List Listed) (row : Listed) (before steps more : ℕ) → IsListing branches policy all left rows before steps → IsLeader branches left row → more ≡ steps + entries_taken branches policy row.predicate left
-    → new ≡ rows ++ row ∷ [] → IsListing branches policy all (after branches policy row.predicate left) new before more
+    → new ≡ rows ++ row ∷ [] → IsListing branches policy all (runs_after_leader branches policy row.predicate left) new before more
 listing-more branches policy all left rows new row before steps more so_far leads steps_are is =
     let split : (rest : List Listed) → new ++ rest ≡ rows ++ row ∷ rest = λ rest. ap (λ (xs : List Listed). xs ++ rest) is ∙ append_assoc rows (row ∷ []) rest in record {
       rows_are = λ rest elimination. subst (IsElimination branches policy all) (sym (split rest)) (so_far.rows_are (row ∷ rest) (leads, elimination));

@@ -6,7 +6,7 @@ use Rattle.std.proofs.lemmas.List.Elements.{All-nil, All-push}
 use Rattle.std.proofs.lemmas.List.Sums.{sum_by-cons}
 use Rattle.elimination.specs.declared.books.Slot.{Slot}
 use Rattle.elimination_tallies.specs.declared.labelled.LabelledRun.{LabelledRun}
-use Rattle.elimination_tallies.specs.Recount.{failing_runs, fails}
+use Rattle.elimination_tallies.specs.Recount.{failing_runs, is_failing}
 use Rattle.elimination_tallies.specs.Runs.{AreEntriesOf}
 use Rattle.elimination.specs.Slots.{left_of}
 use Rattle.elimination_tallies.specs.Tallies.{one_if}
@@ -33,11 +33,11 @@ left-push [] r = refl
 left-push (s ∷ more) r = prepend s (left_of (more ++ new_slot r ∷ [])) (left_of more) (r ∷ []) (left-push more r)
 
 pub gathered-step : (branches : List Bool) (slots new : List Slot) (failing : ℕ) (r : LabelledRun) (rest all : List LabelledRun) → Gathered branches slots failing (r ∷ rest) all → AreEntriesOf branches r.entries → new ≡ slots ++ new_slot r ∷ []
-    → Gathered branches new (failing + one_if (fails r.label)) rest all
+    → Gathered branches new (failing + one_if (is_failing r.label)) rest all
 gathered-step branches slots new failing r rest all so_far are is =
-    subst (λ (ss : List Slot). Gathered branches ss (failing + one_if (fails r.label)) rest all) (sym is) (record {
+    subst (λ (ss : List Slot). Gathered branches ss (failing + one_if (is_failing r.label)) rest all) (sym is) (record {
       runs = ap (λ (rs : List LabelledRun). rs ++ rest) (left-push slots r) ∙ append_assoc (left_of slots) (r ∷ []) rest ∙ so_far.runs;
-      failing_are = omega (arith, so_far.failing_are, sum_by-cons (λ (x : LabelledRun). one_if (fails x.label)) r rest);
+      failing_are = omega (arith, so_far.failing_are, sum_by-cons (λ (x : LabelledRun). one_if (is_failing x.label)) r rest);
       as_many = omega (arith, so_far.as_many, length_push slots (new_slot r));
       entries = All-push (λ (s : Slot). AreEntriesOf branches s.run.entries) slots (new_slot r) so_far.entries are;
     })
@@ -45,6 +45,6 @@ gathered-step branches slots new failing r rest all so_far are is =
 pub gathered-runs : (branches : List Bool) (slots : List Slot) (failing : ℕ) (all : List LabelledRun) → Gathered branches slots failing [] all → left_of slots ≡ all
 gathered-runs branches slots failing all end = sym (append-nil (left_of slots)) ∙ end.runs
 
-pub gathered-next-fails : (branches : List Bool) (slots : List Slot) (failing : ℕ) (r : LabelledRun) (rest all : List LabelledRun) → Gathered branches slots failing (r ∷ rest) all → failing + one_if (fails r.label) ≤ length all
+pub gathered-next-fails : (branches : List Bool) (slots : List Slot) (failing : ℕ) (r : LabelledRun) (rest all : List LabelledRun) → Gathered branches slots failing (r ∷ rest) all → failing + one_if (is_failing r.label) ≤ length all
 gathered-next-fails branches slots failing r rest all so_far =
-    omega (arith, so_far.failing_are, sum_by-cons (λ (x : LabelledRun). one_if (fails x.label)) r rest, fails-most all)
+    omega (arith, so_far.failing_are, sum_by-cons (λ (x : LabelledRun). one_if (is_failing x.label)) r rest, fails-most all)

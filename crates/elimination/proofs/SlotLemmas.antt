@@ -14,10 +14,10 @@ use Rattle.report_file.specs.declared.report.Entry.{Entry}
 use Rattle.elimination.specs.declared.books.Books.{Books}
 use Rattle.elimination.specs.declared.books.Slot.{Slot}
 use Rattle.elimination_tallies.specs.declared.labelled.LabelledRun.{LabelledRun}
-use Rattle.elimination.specs.Elimination.{after, entries_taken, is_taken, passed}
-use Rattle.elimination_tallies.specs.Predicates.{is_of, shows}
-use Rattle.elimination_tallies.specs.Recount.{fails, is_true}
-use Rattle.elimination.specs.Slots.{AreHolders, HaveStepped, IsStepOf, left_of, pending, stepped_slot, taken_slot, takes_slot}
+use Rattle.elimination.specs.Elimination.{runs_after_leader, entries_taken, is_taken, run_as_successful}
+use Rattle.elimination_tallies.specs.Predicates.{is_of, is_true_in_entry}
+use Rattle.elimination_tallies.specs.Recount.{is_failing, is_true}
+use Rattle.elimination.specs.Slots.{AreHolders, HaveStepped, IsStepOf, left_of, slot_entries_taken, stepped_slot, taken_slot, takes_slot}
 use Rattle.elimination_tallies.proofs.PredicateLemmas.{of-once, shows-of}
 use Rattle.elimination.proofs.StepLemmas.{taken-entries}
 
@@ -25,7 +25,7 @@ use Rattle.elimination.proofs.StepLemmas.{taken-entries}
 taken-settles : (branches : List Bool) (policy : Policy) (leader : ℕ) (s : Slot) → takes_slot branches policy leader (taken_slot policy s) ≡ false
 taken-settles branches Every leader s = refl
 taken-settles branches Failing leader s = refl
-taken-settles branches Relabel leader s = and_right s.left (fails (passed s.run).label && is_true branches leader (passed s.run)) refl
+taken-settles branches Relabel leader s = and_right s.left (is_failing (run_as_successful s.run).label && is_true branches leader (run_as_successful s.run)) refl
 
 pub step-settles : (branches : List Bool) (policy : Policy) (leader : ℕ) (s : Slot) → takes_slot branches policy leader (stepped_slot branches policy leader s) ≡ false
 step-settles branches policy leader s =
@@ -47,7 +47,7 @@ step-entries branches policy leader s =
       | inr lacks ↦ ap (λ (x : Slot). x.run.entries) (settled-stays branches policy leader s lacks)
     ]
 
-pub settled-pends : (branches : List Bool) (policy : Policy) (leader : ℕ) (s : Slot) → takes_slot branches policy leader s ≡ false → pending branches policy leader s ≡ 0
+pub settled-pends : (branches : List Bool) (policy : Policy) (leader : ℕ) (s : Slot) → takes_slot branches policy leader s ≡ false → slot_entries_taken branches policy leader s ≡ 0
 settled-pends branches policy leader s lacks = cond-false (takes_slot branches policy leader s) (length s.run.entries) 0 lacks
 
 -- a slot of a list in which one was set
@@ -93,21 +93,21 @@ stepped-more policy leader j place places b0 b new s less at is so_far step =
 
 -- how many entries are still to be taken
 pub pending-step : (branches : List Bool) (policy : Policy) (leader i : ℕ) (slots : List Slot) (s : Slot) → slice_get slots i ≡ Some s
-    → sum_by (pending branches policy leader) (set slots i (stepped_slot branches policy leader s)) + pending branches policy leader s ≡ sum_by (pending branches policy leader) slots
+    → sum_by (slot_entries_taken branches policy leader) (set slots i (stepped_slot branches policy leader s)) + slot_entries_taken branches policy leader s ≡ sum_by (slot_entries_taken branches policy leader) slots
 pending-step branches policy leader i slots s is =
     omega (
       arith,
-      sum_by-set (pending branches policy leader) slots i (stepped_slot branches policy leader s) s (slice_get_within slots i s is),
-      ap (pending branches policy leader) (get_or_from_slice_get slots i s s is),
+      sum_by-set (slot_entries_taken branches policy leader) slots i (stepped_slot branches policy leader s) s (slice_get_within slots i s is),
+      ap (slot_entries_taken branches policy leader) (get_or_from_slice_get slots i s s is),
       settled-pends branches policy leader (stepped_slot branches policy leader s) (step-settles branches policy leader s),
     )
 
-pub stepped-pends : (branches : List Bool) (policy : Policy) (leader : ℕ) (slots : List Slot) → sum_by (pending branches policy leader) (map (stepped_slot branches policy leader) slots) ≡ 0
+pub stepped-pends : (branches : List Bool) (policy : Policy) (leader : ℕ) (slots : List Slot) → sum_by (slot_entries_taken branches policy leader) (map (stepped_slot branches policy leader) slots) ≡ 0
 stepped-pends branches policy leader [] = refl
 stepped-pends branches policy leader (s ∷ more) =
     omega (
       arith,
-      sum_by-cons (pending branches policy leader) (stepped_slot branches policy leader s) (map (stepped_slot branches policy leader) more),
+      sum_by-cons (slot_entries_taken branches policy leader) (stepped_slot branches policy leader s) (map (stepped_slot branches policy leader) more),
       settled-pends branches policy leader (stepped_slot branches policy leader s) (step-settles branches policy leader s),
       stepped-pends branches policy leader more,
     )
@@ -117,10 +117,10 @@ pending-by : (branches : List Bool) (policy : Policy) (leader : ℕ) (run : Labe
 pending-by branches policy leader run true more n is = omega (arith, is, sum_by-cons (λ (r : LabelledRun). cond (is_taken branches policy leader r) (length r.entries) 0) run more)
 pending-by branches policy leader run false more n is = omega (arith, is)
 
-pub pending-is : (branches : List Bool) (policy : Policy) (leader : ℕ) (slots : List Slot) → sum_by (pending branches policy leader) slots ≡ entries_taken branches policy leader (left_of slots)
+pub pending-is : (branches : List Bool) (policy : Policy) (leader : ℕ) (slots : List Slot) → sum_by (slot_entries_taken branches policy leader) slots ≡ entries_taken branches policy leader (left_of slots)
 pending-is branches policy leader [] = refl
 pending-is branches policy leader (s ∷ more) =
-    sum_by-cons (pending branches policy leader) s more ∙ pending-by branches policy leader s.run s.left (left_of more) (sum_by (pending branches policy leader) more) (pending-is branches policy leader more)
+    sum_by-cons (slot_entries_taken branches policy leader) s more ∙ pending-by branches policy leader s.run s.left (left_of more) (sum_by (slot_entries_taken branches policy leader) more) (pending-is branches policy leader more)
 
 -- the runs left by a step at all slots are those that the policy leaves
 abbrev step_by : Bool → Policy → Slot → Slot
@@ -130,16 +130,16 @@ abbrev left_by : Slot → List LabelledRun → List LabelledRun
 left_by s rest = cond s.left (s.run ∷ rest) rest
 
 after-first : (branches : List Bool) (policy : Policy) (leader : ℕ) (run : LabelledRun) (left taken : Bool) (more : List LabelledRun) → is_taken branches policy leader run ≡ taken
-    → left_by (step_by (left && taken) policy (record { run = run; left = left })) (after branches policy leader more) ≡ after branches policy leader (cond left (run ∷ more) more)
+    → left_by (step_by (left && taken) policy (record { run = run; left = left })) (runs_after_leader branches policy leader more) ≡ runs_after_leader branches policy leader (cond left (run ∷ more) more)
 after-first branches policy leader run false taken more is = refl
-after-first branches Relabel leader run true true more is = sym (ap (λ b. cond b (passed run) run ∷ after branches Relabel leader more) is)
-after-first branches Relabel leader run true false more is = sym (ap (λ b. cond b (passed run) run ∷ after branches Relabel leader more) is)
-after-first branches Every leader run true true more is = sym (ap (λ b. cond (not b) (run ∷ after branches Every leader more) (after branches Every leader more)) is)
-after-first branches Every leader run true false more is = sym (ap (λ b. cond (not b) (run ∷ after branches Every leader more) (after branches Every leader more)) is)
-after-first branches Failing leader run true true more is = sym (ap (λ b. cond (not b) (run ∷ after branches Failing leader more) (after branches Failing leader more)) is)
-after-first branches Failing leader run true false more is = sym (ap (λ b. cond (not b) (run ∷ after branches Failing leader more) (after branches Failing leader more)) is)
+after-first branches Relabel leader run true true more is = sym (ap (λ b. cond b (run_as_successful run) run ∷ runs_after_leader branches Relabel leader more) is)
+after-first branches Relabel leader run true false more is = sym (ap (λ b. cond b (run_as_successful run) run ∷ runs_after_leader branches Relabel leader more) is)
+after-first branches Every leader run true true more is = sym (ap (λ b. cond (not b) (run ∷ runs_after_leader branches Every leader more) (runs_after_leader branches Every leader more)) is)
+after-first branches Every leader run true false more is = sym (ap (λ b. cond (not b) (run ∷ runs_after_leader branches Every leader more) (runs_after_leader branches Every leader more)) is)
+after-first branches Failing leader run true true more is = sym (ap (λ b. cond (not b) (run ∷ runs_after_leader branches Failing leader more) (runs_after_leader branches Failing leader more)) is)
+after-first branches Failing leader run true false more is = sym (ap (λ b. cond (not b) (run ∷ runs_after_leader branches Failing leader more) (runs_after_leader branches Failing leader more)) is)
 
-pub left-after : (branches : List Bool) (policy : Policy) (leader : ℕ) (slots : List Slot) → left_of (map (stepped_slot branches policy leader) slots) ≡ after branches policy leader (left_of slots)
+pub left-after : (branches : List Bool) (policy : Policy) (leader : ℕ) (slots : List Slot) → left_of (map (stepped_slot branches policy leader) slots) ≡ runs_after_leader branches policy leader (left_of slots)
 left-after branches Every leader [] = refl
 left-after branches Failing leader [] = refl
 left-after branches Relabel leader [] = refl
@@ -165,8 +165,8 @@ any-entry test (x ∷ more) has =
 
 taken-true : (branches : List Bool) (policy : Policy) (leader : ℕ) (r : LabelledRun) → is_taken branches policy leader r ≡ true → is_true branches leader r ≡ true
 taken-true branches Every leader r has = has
-taken-true branches Failing leader r has = (and_parts (fails r.label) (is_true branches leader r) has).1
-taken-true branches Relabel leader r has = (and_parts (fails r.label) (is_true branches leader r) has).1
+taken-true branches Failing leader r has = (and_parts (is_failing r.label) (is_true branches leader r) has).1
+taken-true branches Relabel leader r has = (and_parts (is_failing r.label) (is_true branches leader r) has).1
 
 -- the entries of the slots stay
 pub same-entries : (branches : List Bool) (policy : Policy) (leader k : ℕ) (old new : List Slot) (x : Slot) → map (stepped_slot branches policy leader) new ≡ map (stepped_slot branches policy leader) old → slice_get new k ≡ Some x → (s : Slot) × (slice_get old k ≡ Some s) × (s.run.entries ≡ x.run.entries)
@@ -183,7 +183,7 @@ pub all-settled : (branches : List Bool) (policy : Policy) (leader site : ℕ) (
 all-settled branches policy leader site places holders old new own at held same settled k x is =
     false_from_ne_true (takes_slot branches policy leader x) (λ has.
     let true_in = taken-true branches policy leader x.run (and_parts x.left (is_taken branches policy leader x.run) has).1 in
-    let found = any-entry (shows branches leader) x.run.entries true_in in
+    let found = any-entry (is_true_in_entry branches leader) x.run.entries true_in in
     let here : found.0.site ≡ site = of-once branches found.0.site site leader (shows-of branches leader found.0 found.2) own in
     let before = same-entries branches policy leader k old new x same is in
     let member : Contains before.0.run.entries found.0 = subst (λ (es : List Entry). Contains es found.0) (sym before.2) found.1 in
@@ -213,12 +213,12 @@ slot-there (s ∷ more) zero less = (s, refl)
 slot-there (s ∷ more) (suc k) less = slot-there more k (omega arith)
 
 pub pending-more : (policy : Policy) (leader place steps more all : ℕ) (b0 b new : Books) (s : Slot) → slice_get b.slots.items place ≡ Some s → b.tallies.branches ≡ b0.tallies.branches → IsStepOf policy leader place b new
-    → more ≡ steps + pending b.tallies.branches policy leader s → steps + sum_by (pending b0.tallies.branches policy leader) b.slots.items ≡ all → more + sum_by (pending b0.tallies.branches policy leader) new.slots.items ≡ all
+    → more ≡ steps + slot_entries_taken b.tallies.branches policy leader s → steps + sum_by (slot_entries_taken b0.tallies.branches policy leader) b.slots.items ≡ all → more + sum_by (slot_entries_taken b0.tallies.branches policy leader) new.slots.items ≡ all
 pending-more policy leader place steps more all b0 b new s is branches step steps_are sums =
     let bs = b0.tallies.branches in
     let slots : new.slots.items ≡ set b.slots.items place (stepped_slot bs policy leader s) = step.slots s is ∙ ap (λ (xs : List Bool). set b.slots.items place (stepped_slot xs policy leader s)) branches in
-    let here : more ≡ steps + pending bs policy leader s = steps_are ∙ ap (λ (xs : List Bool). steps + pending xs policy leader s) branches in
-    omega (arith, here, sums, pending-step bs policy leader place b.slots.items s is, ap (sum_by (pending bs policy leader)) slots)
+    let here : more ≡ steps + slot_entries_taken bs policy leader s = steps_are ∙ ap (λ (xs : List Bool). steps + slot_entries_taken xs policy leader s) branches in
+    omega (arith, here, sums, pending-step bs policy leader place b.slots.items s is, ap (sum_by (slot_entries_taken bs policy leader)) slots)
 
 -- all slots have stepped, once those of the places have that hold the leader's site
 pub step-complete : (policy : Policy) (leader site : ℕ) (places : List ℕ) (holders : List (List ℕ)) (b new : Books) → is_of b.tallies.branches site leader ≡ true → slice_get holders site ≡ Some places → AreHolders (length b.tallies.branches) b.slots.items holders → HaveStepped policy leader places b new

@@ -10,10 +10,10 @@ use Rattle.report_file.specs.declared.label.Label.{Label}
 use Rattle.report_file.specs.declared.label.Label.TheVariants.{Fail, Pass, Uncounted}
 use Rattle.elimination.specs.declared.books.Slot.{Slot}
 use Rattle.elimination_tallies.specs.declared.labelled.LabelledRun.{LabelledRun}
-use Rattle.elimination.specs.Elimination.{is_taken, passed}
-use Rattle.elimination_tallies.specs.Recount.{failing_runs, fails, is_true}
+use Rattle.elimination.specs.Elimination.{is_taken, run_as_successful}
+use Rattle.elimination_tallies.specs.Recount.{failing_runs, is_failing, is_true}
 use Rattle.elimination_tallies.specs.Runs.{AreEntriesOf, AreRunsOf}
-use Rattle.elimination.specs.Slots.{change_of, discards, left_of, taken_slot}
+use Rattle.elimination.specs.Slots.{change_of, discard_count, left_of, taken_slot}
 use Rattle.elimination_tallies.specs.Tallies.{AllowsEntries, AreRecounts, ChangedByAll, Tallies, one_if}
 use Rattle.elimination_tallies.proofs.RunChanges.{AreWell, fails-middle, move-over-allowed, move-over-recounts, take-out-allowed, take-out-recounts}
 
@@ -21,9 +21,9 @@ use Rattle.elimination_tallies.proofs.RunChanges.{AreWell, fails-middle, move-ov
 abbrev pub rest_of : Policy → List LabelledRun → LabelledRun → List LabelledRun → List LabelledRun
 rest_of Every xs r ys = xs ++ ys
 rest_of Failing xs r ys = xs ++ ys
-rest_of Relabel xs r ys = xs ++ passed r ∷ ys
+rest_of Relabel xs r ys = xs ++ run_as_successful r ∷ ys
 
-label-fails : (l : Label) → fails l ≡ true → l ≡ Fail
+label-fails : (l : Label) → is_failing l ≡ true → l ≡ Fail
 label-fails Fail is = refl
 label-fails Pass is = absurd cc
 label-fails Uncounted is = absurd cc
@@ -33,25 +33,25 @@ pub taken-allowed : (branches : List Bool) (policy : Policy) (leader : ℕ) (xs 
 taken-allowed branches Every leader xs ys r table are few taken recounts = take-out-allowed branches xs ys r table are recounts
 taken-allowed branches Failing leader xs ys r table are few taken recounts = take-out-allowed branches xs ys r table are recounts
 taken-allowed branches Relabel leader xs ys r table are few taken recounts =
-    move-over-allowed branches xs ys r table (label-fails r.label (and_parts (fails r.label) (is_true branches leader r) taken).0) are few recounts
+    move-over-allowed branches xs ys r table (label-fails r.label (and_parts (is_failing r.label) (is_true branches leader r) taken).0) are few recounts
 
 pub taken-recounts : (branches : List Bool) (policy : Policy) (leader : ℕ) (xs ys : List LabelledRun) (r : LabelledRun) (table new : Tallies) → AreRunsOf branches (xs ++ r ∷ ys) → is_taken branches policy leader r ≡ true
     → AreRecounts branches (xs ++ r ∷ ys) table → ChangedByAll (change_of policy r.label) r.entries table new → AreRecounts branches (rest_of policy xs r ys) new
 taken-recounts branches Every leader xs ys r table new are taken recounts change = take-out-recounts branches xs ys r table new are recounts change
 taken-recounts branches Failing leader xs ys r table new are taken recounts change = take-out-recounts branches xs ys r table new are recounts change
 taken-recounts branches Relabel leader xs ys r table new are taken recounts change =
-    move-over-recounts branches xs ys r table new (label-fails r.label (and_parts (fails r.label) (is_true branches leader r) taken).0) are recounts change
+    move-over-recounts branches xs ys r table new (label-fails r.label (and_parts (is_failing r.label) (is_true branches leader r) taken).0) are recounts change
 
 -- how many fail and how many there are
-pub rest-fails : (policy : Policy) (xs ys : List LabelledRun) (r : LabelledRun) → failing_runs (xs ++ r ∷ ys) ≡ failing_runs (rest_of policy xs r ys) + one_if (fails r.label)
+pub rest-fails : (policy : Policy) (xs ys : List LabelledRun) (r : LabelledRun) → failing_runs (xs ++ r ∷ ys) ≡ failing_runs (rest_of policy xs r ys) + one_if (is_failing r.label)
 rest-fails Every xs ys r = fails-middle xs ys r
 rest-fails Failing xs ys r = fails-middle xs ys r
-rest-fails Relabel xs ys r = omega (arith, fails-middle xs ys r, fails-middle xs ys (passed r))
+rest-fails Relabel xs ys r = omega (arith, fails-middle xs ys r, fails-middle xs ys (run_as_successful r))
 
-pub rest-length : (policy : Policy) (xs ys : List LabelledRun) (r : LabelledRun) → length (xs ++ r ∷ ys) ≡ length (rest_of policy xs r ys) + discards policy
+pub rest-length : (policy : Policy) (xs ys : List LabelledRun) (r : LabelledRun) → length (xs ++ r ∷ ys) ≡ length (rest_of policy xs r ys) + discard_count policy
 rest-length Every xs ys r = omega (arith, length-append xs (r ∷ ys), length-append xs ys)
 rest-length Failing xs ys r = omega (arith, length-append xs (r ∷ ys), length-append xs ys)
-rest-length Relabel xs ys r = omega (arith, length-append xs (r ∷ ys), length-append xs (passed r ∷ ys))
+rest-length Relabel xs ys r = omega (arith, length-append xs (r ∷ ys), length-append xs (run_as_successful r ∷ ys))
 
 -- the runs left before and behind a slot
 abbrev pub before_slot : ℕ → List Slot → List LabelledRun
@@ -77,7 +77,7 @@ left-middle (x ∷ more) (suc k) s is left = prepend x (left_of more) (before_sl
 set-first : (policy : Policy) (s : Slot) (more : List Slot) → s.left ≡ true → left_of (taken_slot policy s ∷ more) ≡ rest_of policy [] s.run (left_of more)
 set-first Every s more left = refl
 set-first Failing s more left = refl
-set-first Relabel s more left = ap (λ b. cond b (passed s.run ∷ left_of more) (left_of more)) left
+set-first Relabel s more left = ap (λ b. cond b (run_as_successful s.run ∷ left_of more) (left_of more)) left
 
 rest-split : (policy : Policy) (xs ys : List LabelledRun) (r : LabelledRun) → rest_of policy xs r ys ≡ xs ++ rest_of policy [] r ys
 rest-split Every xs ys r = refl

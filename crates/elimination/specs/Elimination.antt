@@ -5,25 +5,25 @@ use Rattle.cbi_base.specs.declared.policy.Policy.TheVariants.{All, Failing, Rela
 use Rattle.report_file.specs.declared.label.Label.TheVariants.{Pass}
 use Rattle.elimination_tallies.specs.declared.labelled.LabelledRun.{LabelledRun}
 use Rattle.elimination_tallies.specs.declared.listed.Listed.{Listed}
-use Rattle.elimination_tallies.specs.Recount.{fails, is_true}
+use Rattle.elimination_tallies.specs.Recount.{is_failing, is_true}
 use Rattle.elimination_tallies.specs.Leading.{IsLeader, NonePasses}
 
 -- whether the policy's step after this leader discards or relabels the run
 abbrev pub is_taken : List Bool → Policy → ℕ → LabelledRun → Bool
 is_taken branches All leader r = is_true branches leader r
-is_taken branches Failing leader r = fails r.label && is_true branches leader r
-is_taken branches Relabel leader r = fails r.label && is_true branches leader r
+is_taken branches Failing leader r = is_failing r.label && is_true branches leader r
+is_taken branches Relabel leader r = is_failing r.label && is_true branches leader r
 
 -- the run counts as successful
-abbrev pub passed : LabelledRun → LabelledRun
-passed r = record r { label = Pass }
+abbrev pub run_as_successful : LabelledRun → LabelledRun
+run_as_successful r = record r { label = Pass }
 
 -- the runs that the policy leaves after a leader: those in which it wasn't true; or all but the failing ones in which it was; or all, these
 -- counting as successful from then on
-abbrev pub after : List Bool → Policy → ℕ → List LabelledRun → List LabelledRun
-after branches All leader runs = filter (λ r. not (is_taken branches All leader r)) runs
-after branches Failing leader runs = filter (λ r. not (is_taken branches Failing leader r)) runs
-after branches Relabel leader runs = map (λ r. if is_taken branches Relabel leader r then passed r else r) runs
+abbrev pub runs_after_leader : List Bool → Policy → ℕ → List LabelledRun → List LabelledRun
+runs_after_leader branches All leader runs = filter (λ r. not (is_taken branches All leader r)) runs
+runs_after_leader branches Failing leader runs = filter (λ r. not (is_taken branches Failing leader r)) runs
+runs_after_leader branches Relabel leader runs = map (λ r. if is_taken branches Relabel leader r then run_as_successful r else r) runs
 
 -- how many site entries the runs have that the step discards or relabels
 abbrev pub entries_taken : List Bool → Policy → ℕ → List LabelledRun → ℕ
@@ -32,13 +32,14 @@ entries_taken branches policy leader runs = sum_by (λ (r : LabelledRun). if is_
 -- the list of the leaders, each over the runs that the policy left, until none passes
 abbrev pub IsElimination : List Bool → Policy → List LabelledRun → List Listed → Type 0
 IsElimination branches policy runs [] = NonePasses branches runs
-IsElimination branches policy runs (row ∷ more) = IsLeader branches runs row × IsElimination branches policy (after branches policy row.predicate runs) more
+IsElimination branches policy runs (row ∷ more) =
+    IsLeader branches runs row × IsElimination branches policy (runs_after_leader branches policy row.predicate runs) more
 
 -- how many site entries all steps of an elimination take
 abbrev pub all_entries_taken : List Bool → Policy → List LabelledRun → List Listed → ℕ
 all_entries_taken branches policy runs [] = 0
 all_entries_taken branches policy runs (row ∷ more) =
-    entries_taken branches policy row.predicate runs + all_entries_taken branches policy (after branches policy row.predicate runs) more
+    entries_taken branches policy row.predicate runs + all_entries_taken branches policy (runs_after_leader branches policy row.predicate runs) more
 
 -- how many site entries runs have
 abbrev pub entries_in : List LabelledRun → ℕ
@@ -52,4 +53,4 @@ pub record EliminatorState : Type 0 where
 
 -- what its next step leaves
 abbrev pub stepped_on : EliminatorState → ℕ → EliminatorState
-stepped_on e leader = record e { runs = after e.branches e.policy leader e.runs }
+stepped_on e leader = record e { runs = runs_after_leader e.branches e.policy leader e.runs }

@@ -8,15 +8,15 @@ use Rattle.report_file.specs.declared.report.Entry.{Entry}
 use Rattle.report_file.specs.Report.{is_positive}
 use Rattle.elimination_tallies.specs.declared.labelled.LabelledRun.{LabelledRun}
 use Rattle.elimination_tallies.specs.declared.listed.Listed.{Listed}
-use Rattle.elimination.specs.Elimination.{IsElimination, after, all_entries_taken, entries_in}
+use Rattle.elimination.specs.Elimination.{IsElimination, runs_after_leader, all_entries_taken, entries_in}
 use Rattle.elimination_tallies.specs.Leading.{IsLeader}
-use Rattle.elimination_tallies.specs.Predicates.{makes_true, observes, predicates_in, shows}
+use Rattle.elimination_tallies.specs.Predicates.{makes_true, is_observed_in_entry, predicates_in, is_true_in_entry}
 use Rattle.elimination_tallies.specs.Recount.{failing_runs}
 
 -- a table has as many predicates, and an entry speaks of a predicate exactly where it is of the predicate's site
 pub record PredicateIs (sites : List Site) (predicate place : ℕ) (site : Site) (number : ℕ) : Type 0 where
-  pub observed : (e : Entry) → observes (branches_of sites) predicate e ≡ (e.site == place && is_positive e.counts)
-  pub shown : (e : Entry) → shows (branches_of sites) predicate e ≡ (e.site == place && makes_true (is_branch site) number e.counts)
+  pub observed : (e : Entry) → is_observed_in_entry (branches_of sites) predicate e ≡ (e.site == place && is_positive e.counts)
+  pub shown : (e : Entry) → is_true_in_entry (branches_of sites) predicate e ≡ (e.site == place && makes_true (is_branch site) number e.counts)
 
 pub record PredicatesAreThoseOfTheTable : Type 0 where
   pub as_many : (sites : List Site) → predicates_in (branches_of sites) ≡ predicate_count sites
@@ -42,7 +42,7 @@ EachIsListedOnce = (branches : List Bool) (policy : Policy) (runs : List Labelle
 
 abbrev pub FailingRunsFall : Type 0
 FailingRunsFall = (branches : List Bool) (policy : Policy) (runs : List LabelledRun) (row : Listed) → IsLeader branches runs row
-    → failing_runs (after branches policy row.predicate runs) < failing_runs runs
+    → failing_runs (runs_after_leader branches policy row.predicate runs) < failing_runs runs
 
 abbrev pub EntriesAreTakenOnce : Type 0
 EntriesAreTakenOnce = (branches : List Bool) (policy : Policy) (runs : List LabelledRun) (rows : List Listed)

@@ -7,7 +7,7 @@ use Rattle.report_file.specs.declared.report.Entry.{Entry}
 use Rattle.elimination_tallies.specs.declared.labelled.LabelledRun.{LabelledRun}
 use Rattle.elimination.specs.declared.books.Slot.{Slot}
 use Rattle.elimination.specs.declared.books.Books.{Books}
-use Rattle.elimination.specs.Elimination.{is_taken, passed}
+use Rattle.elimination.specs.Elimination.{is_taken, run_as_successful}
 use Rattle.elimination_tallies.specs.Recount.{failing_runs}
 use Rattle.elimination_tallies.specs.Runs.{AreEntriesOf}
 use Rattle.elimination_tallies.specs.Tallies.{AreRecounts, counted_as}
@@ -23,13 +23,13 @@ left_of (s ∷ more) = if s.left then s.run ∷ left_of more else left_of more
 abbrev pub taken_slot : Policy → Slot → Slot
 taken_slot Every s = record s { left = false }
 taken_slot Failing s = record s { left = false }
-taken_slot Relabel s = record s { run = passed s.run }
+taken_slot Relabel s = record s { run = run_as_successful s.run }
 
 -- how many runs the policy discards with each that it takes
-abbrev pub discards : Policy → ℕ
-discards Every = 1
-discards Failing = 1
-discards Relabel = 0
+abbrev pub discard_count : Policy → ℕ
+discard_count Every = 1
+discard_count Failing = 1
+discard_count Relabel = 0
 
 -- how the policy's step changes the numbers by the entries of a run that it takes
 abbrev pub change_of : Policy → Label → Change
@@ -46,8 +46,8 @@ abbrev pub stepped_slot : List Bool → Policy → ℕ → Slot → Slot
 stepped_slot branches policy leader s = if takes_slot branches policy leader s then taken_slot policy s else s
 
 -- how many entries the step takes of it
-abbrev pub pending : List Bool → Policy → ℕ → Slot → ℕ
-pending branches policy leader s = if takes_slot branches policy leader s then length s.run.entries else 0
+abbrev pub slot_entries_taken : List Bool → Policy → ℕ → Slot → ℕ
+slot_entries_taken branches policy leader s = if takes_slot branches policy leader s then length s.run.entries else 0
 
 -- one place has stepped
 pub record IsStepOf (policy : Policy) (leader place : ℕ) (old new : Books) : Type 0 where

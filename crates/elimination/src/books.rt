@@ -4,7 +4,7 @@ ghost use Rattle.elimination.specs.declared.books.Slot.{Slot};
 ghost use Rattle.elimination_tallies.specs.Leading.{IsLeader, NonePasses};
 ghost use Rattle.elimination_tallies.specs.Recount.{runs_of};
 ghost use Rattle.elimination_tallies.specs.Runs.{AreEntriesOf};
-ghost use Rattle.elimination.specs.Slots.{AreBooks, HaveStepped, IsStepOf, change_of, discards, left_of, pending, taken_slot, takes_slot};
+ghost use Rattle.elimination.specs.Slots.{AreBooks, HaveStepped, IsStepOf, change_of, discard_count, left_of, slot_entries_taken, taken_slot, takes_slot};
 ghost use Rattle.elimination_tallies.specs.Tallies.{AllowsEntries, AllowsEntry, AreRecounts, ChangedBy, ChangedByAll};
 
 use crate::tally_table::{Steps, TallyTable};
@@ -99,7 +99,7 @@ fn take_slot(policy: Policy, slot: &mut Slot)
 
 // How many runs the policy discards with each that it takes.
 fn discards(policy: Policy) -> u32
-    ensures { result ≡ discards policy }
+    ensures { result ≡ discard_count policy }
 {
     match policy {
         Policy::All | Policy::Failing => 1,
@@ -161,7 +161,8 @@ impl Books {
         requires place { place < length self.old.slots.items }
         ensures books { AreBooks self.new }
         ensures step { IsStepOf policy leader place self.old self.new }
-        ensures steps { (s : Slot) → slice_get self.old.slots.items place ≡ Some s → steps.new ≡ steps.old + pending self.old.tallies.branches policy leader s }
+        ensures steps { (s : Slot) → slice_get self.old.slots.items place ≡ Some s
+            → steps.new ≡ steps.old + slot_entries_taken self.old.tallies.branches policy leader s }
     {
         let slot = &mut self.slots[place];
         if !takes(policy, leader, &self.tallies, slot) {
@@ -187,8 +188,8 @@ impl Books {
         requires places { All (λ k. k < length self.old.slots.items) places.now }
         ensures books { AreBooks self.new }
         ensures stepped { HaveStepped policy leader places.now self.old self.new }
-        ensures steps { steps.new + sum_by (pending self.old.tallies.branches policy leader) self.new.slots.items ≡ steps.old
-            + sum_by (pending self.old.tallies.branches policy leader) self.old.slots.items }
+        ensures steps { steps.new + sum_by (slot_entries_taken self.old.tallies.branches policy leader) self.new.slots.items ≡ steps.old
+            + sum_by (slot_entries_taken self.old.tallies.branches policy leader) self.old.slots.items }
     {
         for place in places {
             self.step(policy, leader, *place as usize, steps);

@@ -2,7 +2,7 @@ ghost use Rattle.std.specs.Prelude.{◌≡◌, ◌+◌, ◌<◌, length, IfOk, I
 ghost use Rattle.collector.specs.Sites.{branches_of};
 ghost use Rattle.report_file.specs.Report.{is_positive};
 ghost use Rattle.elimination_tallies.specs.declared.numbers.Change.TheVariants as change;
-ghost use Rattle.elimination_tallies.specs.Predicates.{is_of, predicates_in, shows};
+ghost use Rattle.elimination_tallies.specs.Predicates.{is_of, predicates_in, is_true_in_entry};
 ghost use Rattle.elimination.specs.Elimination.{IsElimination};
 ghost use Rattle.elimination_tallies.specs.Recount.{runs_of};
 ghost use Rattle.elimination_tallies.specs.Tallies.{AllowsEntry, AreRecounts, ChangedBy};
@@ -133,7 +133,7 @@ impl TallyTable {
 
     /// Whether the entry makes the predicate true.
     pub fn shows(&self, predicate: u32, entry: &Entry) -> bool
-        ensures { result ≡ shows self.now.branches predicate entry.now }
+        ensures { result ≡ is_true_in_entry self.now.branches predicate entry.now }
     {
         self.numbers.shows(predicate, entry)
     }

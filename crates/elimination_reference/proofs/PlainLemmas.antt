@@ -12,11 +12,11 @@ use Rattle.fractions.specs.Fraction.{IsAtMost}
 use Rattle.fractions.specs.Tally.{Passes, importance_of}
 use Rattle.elimination_tallies.specs.declared.labelled.LabelledRun.{LabelledRun}
 use Rattle.elimination_tallies.specs.declared.listed.Listed.{Listed}
-use Rattle.elimination.specs.Elimination.{IsElimination, after, is_taken, passed}
+use Rattle.elimination.specs.Elimination.{IsElimination, runs_after_leader, is_taken, run_as_successful}
 use Rattle.elimination_tallies.specs.Leading.{IsLeader, NonePasses}
 use Rattle.elimination_tallies.specs.Predicates.{predicates_in}
 use Rattle.elimination_tallies.specs.Recount.{failing_runs, recount}
-use Rattle.elimination_tallies.specs.Scanning.{exceeds}
+use Rattle.elimination_tallies.specs.Scanning.{is_greater_fraction}
 use Rattle.elimination_tallies.proofs.ScanLemmas.{first-leads, leads-instead, leads-on, none-more}
 use Rattle.elimination_reference.specs.Best.{AreFractions, IsBest, IsRow}
 
@@ -44,7 +44,7 @@ of-same value t u failing is same = is ∙ ap (λ (x : Tally). importance_of x f
 
 -- one of a greater importance
 pub row-instead : (numbers : ℕ → Tally) (k failing : ℕ) (row : Listed) (t : Tally) (value other : Fraction) → AreFractions numbers k failing → IsRow numbers k failing row → t ≡ numbers k → Passes t
-    → value ≡ importance_of t failing → other ≡ importance_of row.tally failing → exceeds value other ≡ true → IsRow numbers (k + 1) failing (record { predicate = k; tally = t; failing = failing })
+    → value ≡ importance_of t failing → other ≡ importance_of row.tally failing → is_greater_fraction value other ≡ true → IsRow numbers (k + 1) failing (record { predicate = k; tally = t; failing = failing })
 row-instead numbers k failing row t value other fractions best is passes value_is other_is more =
     let v : value ≡ importance_of (numbers k) failing = of-same value t (numbers k) failing value_is is in
     let o : other ≡ importance_of (numbers row.predicate) failing = of-same other row.tally (numbers row.predicate) failing other_is best.tally in
@@ -62,7 +62,7 @@ row-instead numbers k failing row t value other fractions best is passes value_i
 
 -- one of no greater importance
 pub row-stays : (numbers : ℕ → Tally) (k failing : ℕ) (row : Listed) (t : Tally) (value other : Fraction) → IsRow numbers k failing row → t ≡ numbers k
-    → value ≡ importance_of t failing → other ≡ importance_of row.tally failing → exceeds value other ≡ false → IsRow numbers (k + 1) failing row
+    → value ≡ importance_of t failing → other ≡ importance_of row.tally failing → is_greater_fraction value other ≡ false → IsRow numbers (k + 1) failing row
 row-stays numbers k failing row t value other best is value_is other_is most =
     let v : value ≡ importance_of (numbers k) failing = of-same value t (numbers k) failing value_is is in
     let o : other ≡ importance_of (numbers row.predicate) failing = of-same other row.tally (numbers row.predicate) failing other_is best.tally in
@@ -100,7 +100,7 @@ changed-more {A = A} f xs now i d less is =
     ∙ ap (λ (n : ℕ). map f (take n xs) ++ drop n xs) next
 
 -- the two policies that discard
-pub discards : (branches : List Bool) (policy : Policy) (leader : ℕ) (runs : List LabelledRun) → (policy ≡ Relabel → ⊥) → after branches policy leader runs ≡ filter (λ r. not (is_taken branches policy leader r)) runs
+pub discards : (branches : List Bool) (policy : Policy) (leader : ℕ) (runs : List LabelledRun) → (policy ≡ Relabel → ⊥) → runs_after_leader branches policy leader runs ≡ filter (λ r. not (is_taken branches policy leader r)) runs
 discards branches Every leader runs other = refl
 discards branches Failing leader runs other = refl
 discards branches Relabel leader runs other = absurd (other refl)
@@ -109,13 +109,13 @@ discards branches Relabel leader runs other = absurd (other refl)
 few-left : (test : LabelledRun → Bool) (runs : List LabelledRun) → length (filter test runs) ≤ length runs
 few-left test runs = omega (arith, length-filter test runs, count_by-le-length test runs)
 
-pub after-few : (branches : List Bool) (policy : Policy) (leader : ℕ) (runs : List LabelledRun) → length (after branches policy leader runs) ≤ length runs
+pub after-few : (branches : List Bool) (policy : Policy) (leader : ℕ) (runs : List LabelledRun) → length (runs_after_leader branches policy leader runs) ≤ length runs
 after-few branches Every leader runs = few-left (λ r. not (is_taken branches Every leader r)) runs
 after-few branches Failing leader runs = few-left (λ r. not (is_taken branches Failing leader r)) runs
-after-few branches Relabel leader runs = omega (arith, length-map runs (λ (r : LabelledRun). cond (is_taken branches Relabel leader r) (passed r) r))
+after-few branches Relabel leader runs = omega (arith, length-map runs (λ (r : LabelledRun). cond (is_taken branches Relabel leader r) (run_as_successful r) r))
 
 -- one more leader
 pub one-more : (branches : List Bool) (policy : Policy) (all left : List LabelledRun) (rows new : List Listed) (row : Listed) → ((rest : List Listed) → IsElimination branches policy left rest → IsElimination branches policy all (rows ++ rest))
-    → IsLeader branches left row → new ≡ rows ++ row ∷ [] → (rest : List Listed) → IsElimination branches policy (after branches policy row.predicate left) rest → IsElimination branches policy all (new ++ rest)
+    → IsLeader branches left row → new ≡ rows ++ row ∷ [] → (rest : List Listed) → IsElimination branches policy (runs_after_leader branches policy row.predicate left) rest → IsElimination branches policy all (new ++ rest)
 one-more branches policy all left rows new row so_far leads is rest elimination =
     subst (IsElimination branches policy all) (sym (ap (λ (xs : List Listed). xs ++ rest) is ∙ append_assoc rows (row ∷ []) rest)) (so_far (row ∷ rest) (leads, elimination))

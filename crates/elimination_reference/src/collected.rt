@@ -1,7 +1,7 @@
-ghost use Rattle.std.specs.Prelude.{◌≡◌, IfOk, map};
+ghost use Rattle.std.specs.Prelude.{◌≡◌, IfOk};
 ghost use Rattle.collector.specs.Sites.{branches_of, is_branch};
 ghost use Rattle.elimination.specs.Elimination.{IsElimination};
-ghost use Rattle.elimination_tallies.specs.Recount.{labelled, runs_of};
+ghost use Rattle.elimination_tallies.specs.Recount.{run_of_report, runs_of};
 
 use crate::listing::eliminate;
 use cbi_base::{Memory, Policy, Seq};
@@ -33,7 +33,7 @@ pub fn branches_of(alloc: Global, sites: &[Site]) -> Result<Vec<bool>, Memory>
 
 // The label of a report, and what it observed.
 fn labelled(alloc: Global, report: &Report) -> Result<LabelledRun, Memory>
-    ensures { IfOk result (λ run. run ≡ labelled report.now) }
+    ensures { IfOk result (λ run. run ≡ run_of_report report.now) }
 {
     let entries = Vec::from_slice(alloc, report.entries.as_slice())?;
     Ok(LabelledRun {

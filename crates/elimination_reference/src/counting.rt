@@ -1,6 +1,6 @@
 ghost use Rattle.std.specs.Prelude.{◌≡◌, ◌≤◌, length};
-ghost use Rattle.elimination_tallies.specs.Recount.{failing_runs, fails, is_observed, is_true, recount};
-ghost use Rattle.elimination_tallies.specs.Tallies.{Allows, changed, counted_as, one_if};
+ghost use Rattle.elimination_tallies.specs.Recount.{failing_runs, is_failing, is_observed, is_true, recount};
+ghost use Rattle.elimination_tallies.specs.Tallies.{Allows, tally_changed, counted_as, one_if};
 ghost use Rattle.elimination_tallies.specs.declared.numbers.Change.TheVariants.{PutIn};
 
 use crate::entries::{is_observed, is_true};
@@ -10,7 +10,7 @@ use report_file::Label;
 
 /// Whether a run with this label counts as failing.
 pub fn fails(label: Label) -> bool
-    ensures { result ≡ fails label }
+    ensures { result ≡ is_failing label }
 {
     match label {
         Label::Fail => true,
@@ -40,7 +40,7 @@ fn with_run(branches: &[bool], predicate: u32, run: &LabelledRun, tally: Tally) 
     requires sites { length branches.now ≤ 65536 }
     requires room { Allows (PutIn (counted_as run.now.label))
         (one_if (is_observed branches.now predicate run.now)) (one_if (is_true branches.now predicate run.now)) tally }
-    ensures { result ≡ changed (PutIn (counted_as run.now.label))
+    ensures { result ≡ tally_changed (PutIn (counted_as run.now.label))
         (one_if (is_observed branches.now predicate run.now)) (one_if (is_true branches.now predicate run.now)) tally }
 {
     let truth = u32::from(is_true(branches, predicate, run));

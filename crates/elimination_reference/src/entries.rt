@@ -1,5 +1,5 @@
 ghost use Rattle.std.specs.Prelude.{◌≡◌, ◌≤◌, ◌<◌, ◌*◌, ◌^◌, length, slice_index_or, false};
-ghost use Rattle.elimination_tallies.specs.Predicates.{first_predicate, is_of, makes_true, observes, predicates_in, shows, width_of};
+ghost use Rattle.elimination_tallies.specs.Predicates.{first_predicate, is_of, makes_true, is_observed_in_entry, predicates_in, is_true_in_entry, width_of};
 ghost use Rattle.elimination_tallies.specs.Recount.{is_observed, is_true};
 
 use cbi_base::Counts;
@@ -76,10 +76,10 @@ fn makes_true(branch: bool, number: u32, counts: Counts) -> bool
     }
 }
 
-#[tactic(auto, unfolding(elimination_tallies::specs::Predicates::shows))]
+#[tactic(auto, unfolding(elimination_tallies::specs::Predicates::is_true_in_entry))]
 fn shows(branches: &[bool], predicate: u32, entry: &Entry) -> bool
     requires { length branches.now ≤ 65536 }
-    ensures { result ≡ shows branches.now predicate entry.now }
+    ensures { result ≡ is_true_in_entry branches.now predicate entry.now }
 {
     if !is_of(branches, entry.site, predicate) {
         return false;
@@ -88,10 +88,10 @@ fn shows(branches: &[bool], predicate: u32, entry: &Entry) -> bool
     makes_true(is_branch(branches, entry.site), number, entry.counts)
 }
 
-#[tactic(auto, unfolding(elimination_tallies::specs::Predicates::observes))]
+#[tactic(auto, unfolding(elimination_tallies::specs::Predicates::is_observed_in_entry))]
 fn observes(branches: &[bool], predicate: u32, entry: &Entry) -> bool
     requires { length branches.now ≤ 65536 }
-    ensures { result ≡ observes branches.now predicate entry.now }
+    ensures { result ≡ is_observed_in_entry branches.now predicate entry.now }
 {
     let counts = entry.counts;
     is_of(branches, entry.site, predicate)

@@ -2,7 +2,7 @@ ghost use Rattle.std.specs.Prelude.{◌≡◌, ◌≤◌, ◌+◌, ◌<◌, leng
 ghost use Rattle.elimination_tallies.specs.Leading.{IsLeader, NonePasses};
 ghost use Rattle.elimination_tallies.specs.Predicates.{predicates_in};
 ghost use Rattle.elimination_tallies.specs.Recount.{failing_runs, recount};
-ghost use Rattle.elimination_tallies.specs.Scanning.{exceeds};
+ghost use Rattle.elimination_tallies.specs.Scanning.{is_greater_fraction};
 ghost use Rattle.fractions.specs.Fraction.{IsFraction};
 ghost use Rattle.elimination_reference.specs.Best.{AreFractions, IsBest};
 
@@ -16,7 +16,7 @@ use std::cmp::Ordering;
 fn exceeds(left: Fraction, right: Fraction) -> bool
     requires left { IsFraction left }
     requires right { IsFraction right }
-    ensures { result ≡ exceeds left right }
+    ensures { result ≡ is_greater_fraction left right }
 {
     compare(left, right) == Ordering::Greater
 }

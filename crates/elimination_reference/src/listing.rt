@@ -1,5 +1,5 @@
 ghost use Rattle.std.specs.Prelude.{◌≡◌, ◌≤◌, length, map, IfOk};
-ghost use Rattle.elimination.specs.Elimination.{IsElimination, after, is_taken};
+ghost use Rattle.elimination.specs.Elimination.{IsElimination, runs_after_leader, is_taken};
 ghost use Rattle.elimination_reference.specs.Relabelling.{relabelled_run};
 
 use crate::counting::fails;
@@ -45,7 +45,7 @@ fn relabel(branches: &[bool], leader: u32, runs: &mut [LabelledRun])
 /// What the policy leaves after a leader.
 pub fn step(branches: &[bool], policy: Policy, leader: u32, runs: &mut Vec<LabelledRun>)
     requires { length branches.now ≤ 65536 }
-    ensures { runs.new.items ≡ after branches.now policy leader runs.old.items }
+    ensures { runs.new.items ≡ runs_after_leader branches.now policy leader runs.old.items }
 {
     match policy {
         Policy::All | Policy::Failing => {

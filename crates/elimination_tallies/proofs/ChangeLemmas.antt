@@ -8,7 +8,7 @@ use Rattle.report_file.specs.declared.report.Entry.{Entry}
 use Rattle.elimination_tallies.specs.declared.numbers.Counted.TheVariants as counted
 use Rattle.elimination_tallies.specs.declared.numbers.Change.{Change}
 use Rattle.elimination_tallies.specs.declared.numbers.Change.TheVariants.{PutIn, TakeOut, MoveOver}
-use Rattle.elimination_tallies.specs.Tallies.{Allows, IsAllowed, IsMade, Tallies, changed, one_if}
+use Rattle.elimination_tallies.specs.Tallies.{Allows, IsAllowed, IsMade, Tallies, tally_changed, one_if}
 
 abbrev tally_of : ℕ → ℕ → ℕ → ℕ → Tally
 tally_of a b c d = record { a = a; b = b; c = c; d = d }
@@ -17,7 +17,7 @@ pub tally-is : (t : Tally) (a b c d : ℕ) → a ≡ t.a → b ≡ t.b → c ≡
 tally-is t a b c d p q r s = ap (λ x. tally_of x b c d) p ∙ ap (λ x. tally_of t.a x c d) q ∙ ap (λ x. tally_of t.a t.b x d) r ∙ ap (λ x. tally_of t.a t.b t.c x) s
 
 -- entries that say nothing of a predicate change nothing
-pub changed-none : (change : Change) (t : Tally) → changed change 0 0 t ≡ t
+pub changed-none : (change : Change) (t : Tally) → tally_changed change 0 0 t ≡ t
 changed-none (PutIn counted.Failing) t = tally-is t (t.a + 0) t.b (t.c + 0) t.d (omega arith) refl (omega arith) refl
 changed-none (PutIn counted.Successful) t = tally-is t t.a (t.b + 0) t.c (t.d + 0) refl (omega arith) refl (omega arith)
 changed-none (PutIn counted.Neither) t = refl
@@ -27,17 +27,17 @@ changed-none (TakeOut counted.Neither) t = refl
 changed-none MoveOver t = tally-is t (t.a - 0) (t.b + 0) (t.c - 0) (t.d + 0) (omega arith) (omega arith) (omega arith) (omega arith)
 
 -- one change after another
-pub changed-add : (change : Change) (m n i j : ℕ) (t : Tally) → changed change n j (changed change m i t) ≡ changed change (m + n) (i + j) t
-changed-add (PutIn counted.Failing) m n i j t = tally-is (changed (PutIn counted.Failing) (m + n) (i + j) t) (t.a + i + j) t.b (t.c + m + n) t.d (omega arith) refl (omega arith) refl
-changed-add (PutIn counted.Successful) m n i j t = tally-is (changed (PutIn counted.Successful) (m + n) (i + j) t) t.a (t.b + i + j) t.c (t.d + m + n) refl (omega arith) refl (omega arith)
+pub changed-add : (change : Change) (m n i j : ℕ) (t : Tally) → tally_changed change n j (tally_changed change m i t) ≡ tally_changed change (m + n) (i + j) t
+changed-add (PutIn counted.Failing) m n i j t = tally-is (tally_changed (PutIn counted.Failing) (m + n) (i + j) t) (t.a + i + j) t.b (t.c + m + n) t.d (omega arith) refl (omega arith) refl
+changed-add (PutIn counted.Successful) m n i j t = tally-is (tally_changed (PutIn counted.Successful) (m + n) (i + j) t) t.a (t.b + i + j) t.c (t.d + m + n) refl (omega arith) refl (omega arith)
 changed-add (PutIn counted.Neither) m n i j t = refl
-changed-add (TakeOut counted.Failing) m n i j t = tally-is (changed (TakeOut counted.Failing) (m + n) (i + j) t) (t.a - i - j) t.b (t.c - m - n) t.d (omega arith) refl (omega arith) refl
-changed-add (TakeOut counted.Successful) m n i j t = tally-is (changed (TakeOut counted.Successful) (m + n) (i + j) t) t.a (t.b - i - j) t.c (t.d - m - n) refl (omega arith) refl (omega arith)
+changed-add (TakeOut counted.Failing) m n i j t = tally-is (tally_changed (TakeOut counted.Failing) (m + n) (i + j) t) (t.a - i - j) t.b (t.c - m - n) t.d (omega arith) refl (omega arith) refl
+changed-add (TakeOut counted.Successful) m n i j t = tally-is (tally_changed (TakeOut counted.Successful) (m + n) (i + j) t) t.a (t.b - i - j) t.c (t.d - m - n) refl (omega arith) refl (omega arith)
 changed-add (TakeOut counted.Neither) m n i j t = refl
-changed-add MoveOver m n i j t = tally-is (changed MoveOver (m + n) (i + j) t) (t.a - i - j) (t.b + i + j) (t.c - m - n) (t.d + m + n) (omega arith) (omega arith) (omega arith) (omega arith)
+changed-add MoveOver m n i j t = tally-is (tally_changed MoveOver (m + n) (i + j) t) (t.a - i - j) (t.b + i + j) (t.c - m - n) (t.d + m + n) (omega arith) (omega arith) (omega arith) (omega arith)
 
 -- what is left of an allowed change is allowed after a part of it
-pub allowed-rest : (change : Change) (m n all i j every : ℕ) (t : Tally) → m + n ≤ all → i + j ≤ every → Allows change all every t → Allows change n j (changed change m i t)
+pub allowed-rest : (change : Change) (m n all i j every : ℕ) (t : Tally) → m + n ≤ all → i + j ≤ every → Allows change all every t → Allows change n j (tally_changed change m i t)
 allowed-rest (PutIn counted.Neither) m n all i j every t a b h = tt
 allowed-rest (TakeOut counted.Neither) m n all i j every t a b h = tt
 allowed-rest MoveOver m n all i j every t a b h = (omega (arith, h), omega (arith, h), omega (arith, h), omega (arith, h))
@@ -53,10 +53,10 @@ made-more change f g h i m n old mid new ms ns first next = record {
   branches_stay = next.branches_stay ∙ first.branches_stay;
   as_many = next.as_many ∙ first.as_many;
   numbers = λ p t is.
-      next.numbers p (changed change (f p) (g p) t) (first.numbers p t is)
+      next.numbers p (tally_changed change (f p) (g p) t) (first.numbers p t is)
       ∙ ap Some (changed-add change (f p) (h p) (g p) (i p) t)
-      ∙ ap Some (ap (λ k. changed change k (g p + i p) t) (sym (ms p)))
-      ∙ ap Some (ap (λ k. changed change (m p) k t) (sym (ns p)));
+      ∙ ap Some (ap (λ k. tally_changed change k (g p + i p) t) (sym (ms p)))
+      ∙ ap Some (ap (λ k. tally_changed change (m p) k t) (sym (ns p)));
 }
 
 -- after a part of an allowed change the rest is allowed
@@ -64,7 +64,7 @@ pub allowed-more : (change : Change) (f g h i m n : ℕ → ℕ) (old mid : Tall
 allowed-more change f g h i m n old mid ms ns made allowed p t is =
     let before = old-tally old mid p t made.as_many is in
     let now = made.numbers p (get_or old.tallies p t) before in
-    let same : ◌≡◌ {A = Tally} (changed change (f p) (g p) (get_or old.tallies p t)) t = cc in
+    let same : ◌≡◌ {A = Tally} (tally_changed change (f p) (g p) (get_or old.tallies p t)) t = cc in
     let ok = allowed-rest change (f p) (h p) (m p) (g p) (i p) (n p) (get_or old.tallies p t) (ms p) (ns p) (allowed p (get_or old.tallies p t) before) in
     subst (λ (x : Tally). Allows change (h p) (i p) x) same ok
 

@@ -6,8 +6,8 @@ use Rattle.fractions.specs.declared.tally.Tally.{Tally}
 use Rattle.report_file.specs.declared.report.Entry.{Entry}
 use Rattle.report_file.specs.Report.{is_positive}
 use Rattle.elimination_tallies.specs.declared.numbers.Change.{Change}
-use Rattle.elimination_tallies.specs.Predicates.{first_predicate, is_of, makes_true, observes, shows, width_of}
-use Rattle.elimination_tallies.specs.Tallies.{Allows, AllowsEntries, AllowsEntry, ChangedBy, IsAllowed, IsMade, Tallies, changed, one_if}
+use Rattle.elimination_tallies.specs.Predicates.{first_predicate, is_of, makes_true, is_observed_in_entry, is_true_in_entry, width_of}
+use Rattle.elimination_tallies.specs.Tallies.{Allows, AllowsEntries, AllowsEntry, ChangedBy, IsAllowed, IsMade, Tallies, tally_changed, one_if}
 use Rattle.elimination_tallies.proofs.ChangeLemmas.{allowed-more, changed-none, count-more, count-more-le, made-more}
 use Rattle.elimination_tallies.proofs.PredicateLemmas.{first-next, observes-not, observes-own, of-not-before, of-not-behind, shows-not, shows-own}
 
@@ -19,26 +19,26 @@ pub own-allowed : (table : Tallies) (change : Change) (e : Entry) → e.site < l
     → slice_get table.tallies (first_predicate table.branches e.site + n) ≡ Some t → Allows change 1 (one_if (makes_true (branch_at table.branches e) n e.counts)) t
 own-allowed table change e inside positive allowed n t own is =
     let p = first_predicate table.branches e.site + n in
-    let observed : one_if (observes table.branches p e) ≡ 1 = ap one_if (observes-own table.branches p n e inside refl own ∙ positive) in
-    let shown : one_if (shows table.branches p e) ≡ one_if (makes_true (branch_at table.branches e) n e.counts) = ap one_if (shows-own table.branches p n e inside refl own) in
+    let observed : one_if (is_observed_in_entry table.branches p e) ≡ 1 = ap one_if (observes-own table.branches p n e inside refl own ∙ positive) in
+    let shown : one_if (is_true_in_entry table.branches p e) ≡ one_if (makes_true (branch_at table.branches e) n e.counts) = ap one_if (shows-own table.branches p n e inside refl own) in
     subst (λ (k : ℕ). Allows change k (one_if (makes_true (branch_at table.branches e) n e.counts)) t) observed
-    (subst (λ (k : ℕ). Allows change (one_if (observes table.branches p e)) k t) shown (allowed p t is))
+    (subst (λ (k : ℕ). Allows change (one_if (is_observed_in_entry table.branches p e)) k t) shown (allowed p t is))
 
-other-changed : (branches : List Bool) (change : Change) (e : Entry) (p : ℕ) (t : Tally) → is_of branches e.site p ≡ false → t ≡ changed change (one_if (observes branches p e)) (one_if (shows branches p e)) t
+other-changed : (branches : List Bool) (change : Change) (e : Entry) (p : ℕ) (t : Tally) → is_of branches e.site p ≡ false → t ≡ tally_changed change (one_if (is_observed_in_entry branches p e)) (one_if (is_true_in_entry branches p e)) t
 other-changed branches change e p t other =
     sym (changed-none change t)
-    ∙ ap (λ k. changed change k 0 t) (sym (ap one_if (observes-not branches p e other)))
-    ∙ ap (λ k. changed change (one_if (observes branches p e)) k t) (sym (ap one_if (shows-not branches p e other)))
+    ∙ ap (λ k. tally_changed change k 0 t) (sym (ap one_if (observes-not branches p e other)))
+    ∙ ap (λ k. tally_changed change (one_if (is_observed_in_entry branches p e)) k t) (sym (ap one_if (shows-not branches p e other)))
 
 own-changed : (branches : List Bool) (change : Change) (e : Entry) (p n : ℕ) (t : Tally) → e.site < length branches → IsTrue (is_positive e.counts) → p ≡ first_predicate branches e.site + n → n < width_of (branch_at branches e)
-    → changed change 1 (one_if (makes_true (branch_at branches e) n e.counts)) t ≡ changed change (one_if (observes branches p e)) (one_if (shows branches p e)) t
+    → tally_changed change 1 (one_if (makes_true (branch_at branches e) n e.counts)) t ≡ tally_changed change (one_if (is_observed_in_entry branches p e)) (one_if (is_true_in_entry branches p e)) t
 own-changed branches change e p n t inside positive is own =
-    ap (λ k. changed change k (one_if (makes_true (branch_at branches e) n e.counts)) t) (sym (ap one_if (observes-own branches p n e inside is own ∙ positive)))
-    ∙ ap (λ k. changed change (one_if (observes branches p e)) k t) (sym (ap one_if (shows-own branches p n e inside is own)))
+    ap (λ k. tally_changed change k (one_if (makes_true (branch_at branches e) n e.counts)) t) (sym (ap one_if (observes-own branches p n e inside is own ∙ positive)))
+    ∙ ap (λ k. tally_changed change (one_if (is_observed_in_entry branches p e)) k t) (sym (ap one_if (shows-own branches p n e inside is own)))
 
 -- where the predicates of the entry's site have changed and no other one has, the change by the entry is made
 pub entry-made : (table : Tallies) (change : Change) (e : Entry) (new : List Tally) → e.site < length table.branches → IsTrue (is_positive e.counts) → length new ≡ length table.tallies
-    → ((n : ℕ) (t : Tally) → n < width_of (branch_at table.branches e) → slice_get table.tallies (first_predicate table.branches e.site + n) ≡ Some t → slice_get new (first_predicate table.branches e.site + n) ≡ Some (changed change 1 (one_if (makes_true (branch_at table.branches e) n e.counts)) t))
+    → ((n : ℕ) (t : Tally) → n < width_of (branch_at table.branches e) → slice_get table.tallies (first_predicate table.branches e.site + n) ≡ Some t → slice_get new (first_predicate table.branches e.site + n) ≡ Some (tally_changed change 1 (one_if (makes_true (branch_at table.branches e) n e.counts)) t))
     → ((p : ℕ) → p < first_predicate table.branches e.site → slice_get new p ≡ slice_get table.tallies p)
     → ((p : ℕ) → first_predicate table.branches e.site + width_of (branch_at table.branches e) ≤ p → slice_get new p ≡ slice_get table.tallies p)
     → ChangedBy change e table (record { branches = table.branches; tallies = new })
@@ -60,21 +60,21 @@ entry-made table change e new inside positive as_many own before behind = record
 
 -- so far the entries below j
 abbrev pub MadeUpTo : Change → List Entry → ℕ → Tallies → Tallies → Type 0
-MadeUpTo change entries j old now = IsMade change (λ p. count_by (observes old.branches p) (take j entries)) (λ p. count_by (shows old.branches p) (take j entries)) old now
+MadeUpTo change entries j old now = IsMade change (λ p. count_by (is_observed_in_entry old.branches p) (take j entries)) (λ p. count_by (is_true_in_entry old.branches p) (take j entries)) old now
 
 pub entries-allowed : (change : Change) (entries : List Entry) (j : ℕ) (d : Entry) (old now : Tallies) → j < length entries → MadeUpTo change entries j old now → AllowsEntries change entries old → AllowsEntry change (get_or entries j d) now
 entries-allowed change entries j d old now less made allowed =
     let e = get_or entries j d in
-    subst (λ (bs : List Bool). IsAllowed change (λ p. one_if (observes bs p e)) (λ p. one_if (shows bs p e)) now) (sym made.branches_stay)
-    (allowed-more change (λ p. count_by (observes old.branches p) (take j entries)) (λ p. count_by (shows old.branches p) (take j entries)) (λ p. one_if (observes old.branches p e)) (λ p. one_if (shows old.branches p e)) (λ p. count_by (observes old.branches p) entries) (λ p. count_by (shows old.branches p) entries) old now
-    (λ p. count-more-le (observes old.branches p) entries j d less) (λ p. count-more-le (shows old.branches p) entries j d less) made allowed)
+    subst (λ (bs : List Bool). IsAllowed change (λ p. one_if (is_observed_in_entry bs p e)) (λ p. one_if (is_true_in_entry bs p e)) now) (sym made.branches_stay)
+    (allowed-more change (λ p. count_by (is_observed_in_entry old.branches p) (take j entries)) (λ p. count_by (is_true_in_entry old.branches p) (take j entries)) (λ p. one_if (is_observed_in_entry old.branches p e)) (λ p. one_if (is_true_in_entry old.branches p e)) (λ p. count_by (is_observed_in_entry old.branches p) entries) (λ p. count_by (is_true_in_entry old.branches p) entries) old now
+    (λ p. count-more-le (is_observed_in_entry old.branches p) entries j d less) (λ p. count-more-le (is_true_in_entry old.branches p) entries j d less) made allowed)
 
 pub entries-made : (change : Change) (entries : List Entry) (j : ℕ) (d : Entry) (old now new : Tallies) → j < length entries → MadeUpTo change entries j old now → ChangedBy change (get_or entries j d) now new → MadeUpTo change entries (j + 1) old new
 entries-made change entries j d old now new less made next =
     let e = get_or entries j d in
-    made-more change (λ p. count_by (observes old.branches p) (take j entries)) (λ p. count_by (shows old.branches p) (take j entries)) (λ p. one_if (observes old.branches p e)) (λ p. one_if (shows old.branches p e)) (λ p. count_by (observes old.branches p) (take (j + 1) entries)) (λ p. count_by (shows old.branches p) (take (j + 1) entries)) old now new
-    (λ p. count-more (observes old.branches p) entries j d less) (λ p. count-more (shows old.branches p) entries j d less) made
-    (subst (λ (bs : List Bool). IsMade change (λ p. one_if (observes bs p e)) (λ p. one_if (shows bs p e)) now new) made.branches_stay next)
+    made-more change (λ p. count_by (is_observed_in_entry old.branches p) (take j entries)) (λ p. count_by (is_true_in_entry old.branches p) (take j entries)) (λ p. one_if (is_observed_in_entry old.branches p e)) (λ p. one_if (is_true_in_entry old.branches p e)) (λ p. count_by (is_observed_in_entry old.branches p) (take (j + 1) entries)) (λ p. count_by (is_true_in_entry old.branches p) (take (j + 1) entries)) old now new
+    (λ p. count-more (is_observed_in_entry old.branches p) entries j d less) (λ p. count-more (is_true_in_entry old.branches p) entries j d less) made
+    (subst (λ (bs : List Bool). IsMade change (λ p. one_if (is_observed_in_entry bs p e)) (λ p. one_if (is_true_in_entry bs p e)) now new) made.branches_stay next)
 
 -- the same for parts that are equal to those of a table
 pub allowed-there : (old : Tallies) (branches : List Bool) (tallies : List Tally) (start : ℕ) (change : Change) (e : Entry) → branches ≡ old.branches → tallies ≡ old.tallies → start ≡ first_predicate old.branches e.site
@@ -86,13 +86,13 @@ allowed-there old branches tallies start change e b ts s inside positive allowed
 
 pub made-there : (old : Tallies) (branches : List Bool) (tallies new : List Tally) (start : ℕ) (change : Change) (e : Entry) → branches ≡ old.branches → tallies ≡ old.tallies → start ≡ first_predicate old.branches e.site
     → e.site < length old.branches → IsTrue (is_positive e.counts) → length new ≡ length tallies
-    → ((n : ℕ) (t : Tally) → n < width_of (branch_at branches e) → slice_get tallies (start + n) ≡ Some t → slice_get new (start + n) ≡ Some (changed change 1 (one_if (makes_true (branch_at branches e) n e.counts)) t))
+    → ((n : ℕ) (t : Tally) → n < width_of (branch_at branches e) → slice_get tallies (start + n) ≡ Some t → slice_get new (start + n) ≡ Some (tally_changed change 1 (one_if (makes_true (branch_at branches e) n e.counts)) t))
     → ((p : ℕ) → p < start → slice_get new p ≡ slice_get tallies p)
     → ((p : ℕ) → start + width_of (branch_at branches e) ≤ p → slice_get new p ≡ slice_get tallies p)
     → ChangedBy change e old (record { branches = old.branches; tallies = new })
 made-there old branches tallies new start change e b ts s inside positive as_many own before behind =
     let P : List Bool → List Tally → ℕ → Type 0 = λ bs old_tallies k. (length new ≡ length old_tallies)
-    × ((n : ℕ) (t : Tally) → n < width_of (branch_at bs e) → slice_get old_tallies (k + n) ≡ Some t → slice_get new (k + n) ≡ Some (changed change 1 (one_if (makes_true (branch_at bs e) n e.counts)) t))
+    × ((n : ℕ) (t : Tally) → n < width_of (branch_at bs e) → slice_get old_tallies (k + n) ≡ Some t → slice_get new (k + n) ≡ Some (tally_changed change 1 (one_if (makes_true (branch_at bs e) n e.counts)) t))
     × ((p : ℕ) → p < k → slice_get new p ≡ slice_get old_tallies p) × ((p : ℕ) → k + width_of (branch_at bs e) ≤ p → slice_get new p ≡ slice_get old_tallies p) in
     let all : P branches tallies start = (as_many, own, before, behind) in
     let there = subst (λ (k : ℕ). P old.branches old.tallies k) s (subst (λ (xs : List Tally). P old.branches xs start) ts (subst (λ (xs : List Bool). P xs tallies start) b all)) in

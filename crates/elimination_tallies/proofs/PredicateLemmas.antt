@@ -7,7 +7,7 @@ use Rattle.std.proofs.lemmas.List.Sums.{sum_by-cons, sum_by_more, sum_by-take-le
 use Rattle.cbi_base.specs.declared.outcome.Counts.{Counts}
 use Rattle.report_file.specs.declared.report.Entry.{Entry}
 use Rattle.report_file.specs.Report.{is_positive}
-use Rattle.elimination_tallies.specs.Predicates.{first_predicate, is_of, makes_true, observes, predicates_in, shows, width_of}
+use Rattle.elimination_tallies.specs.Predicates.{first_predicate, is_of, makes_true, is_observed_in_entry, predicates_in, is_true_in_entry, width_of}
 
 pub width-most : (b : Bool) → width_of b ≤ 6
 width-most true = omega arith
@@ -62,31 +62,31 @@ of-once branches i j p one other =
     ]
 
 -- what an entry says of the predicates of its site
-pub shows-own : (branches : List Bool) (p number : ℕ) (e : Entry) → e.site < length branches → p ≡ first_predicate branches e.site + number → number < width_of (get_or branches e.site false) → shows branches p e ≡ makes_true (get_or branches e.site false) number e.counts
-unfolding shows
+pub shows-own : (branches : List Bool) (p number : ℕ) (e : Entry) → e.site < length branches → p ≡ first_predicate branches e.site + number → number < width_of (get_or branches e.site false) → is_true_in_entry branches p e ≡ makes_true (get_or branches e.site false) number e.counts
+unfolding is_true_in_entry
 shows-own branches p number e inside is own =
     ap (λ b. b && makes_true (get_or branches e.site false) (p - first_predicate branches e.site) e.counts) (of-from branches e.site p (omega arith) (omega (arith, first-next branches e.site inside)))
     ∙ ap (λ n. makes_true (get_or branches e.site false) n e.counts) (omega arith)
 
-pub observes-own : (branches : List Bool) (p number : ℕ) (e : Entry) → e.site < length branches → p ≡ first_predicate branches e.site + number → number < width_of (get_or branches e.site false) → observes branches p e ≡ is_positive e.counts
-unfolding observes
+pub observes-own : (branches : List Bool) (p number : ℕ) (e : Entry) → e.site < length branches → p ≡ first_predicate branches e.site + number → number < width_of (get_or branches e.site false) → is_observed_in_entry branches p e ≡ is_positive e.counts
+unfolding is_observed_in_entry
 observes-own branches p number e inside is own =
     ap (λ b. b && is_positive e.counts) (of-from branches e.site p (omega arith) (omega (arith, first-next branches e.site inside)))
 
-pub shows-not : (branches : List Bool) (p : ℕ) (e : Entry) → is_of branches e.site p ≡ false → shows branches p e ≡ false
-unfolding shows
+pub shows-not : (branches : List Bool) (p : ℕ) (e : Entry) → is_of branches e.site p ≡ false → is_true_in_entry branches p e ≡ false
+unfolding is_true_in_entry
 shows-not branches p e h = and_left (is_of branches e.site p) (makes_true (get_or branches e.site false) (p - first_predicate branches e.site) e.counts) h
 
-pub observes-not : (branches : List Bool) (p : ℕ) (e : Entry) → is_of branches e.site p ≡ false → observes branches p e ≡ false
-unfolding observes
+pub observes-not : (branches : List Bool) (p : ℕ) (e : Entry) → is_of branches e.site p ≡ false → is_observed_in_entry branches p e ≡ false
+unfolding is_observed_in_entry
 observes-not branches p e h = and_left (is_of branches e.site p) (is_positive e.counts) h
 
-pub shows-of : (branches : List Bool) (p : ℕ) (e : Entry) → shows branches p e ≡ true → is_of branches e.site p ≡ true
-unfolding shows
+pub shows-of : (branches : List Bool) (p : ℕ) (e : Entry) → is_true_in_entry branches p e ≡ true → is_of branches e.site p ≡ true
+unfolding is_true_in_entry
 shows-of branches p e h = (and_parts (is_of branches e.site p) (makes_true (get_or branches e.site false) (p - first_predicate branches e.site) e.counts) h).0
 
-pub observes-of : (branches : List Bool) (p : ℕ) (e : Entry) → observes branches p e ≡ true → is_of branches e.site p ≡ true
-unfolding observes
+pub observes-of : (branches : List Bool) (p : ℕ) (e : Entry) → is_observed_in_entry branches p e ≡ true → is_of branches e.site p ≡ true
+unfolding is_observed_in_entry
 observes-of branches p e h = (and_parts (is_of branches e.site p) (is_positive e.counts) h).0
 
 first-positive : (x y z : Bool) → x ≡ true → (x || (y || z)) ≡ true
@@ -117,8 +117,8 @@ makes-positive false (suc (suc (suc (suc (suc n))))) c h =
       | inr other ↦ third-positive (nat_lt 0 c.first) (nat_lt 0 c.second) (nat_lt 0 c.third) other
     ]
 
-pub shows-observes : (branches : List Bool) (p : ℕ) (e : Entry) → shows branches p e ≡ true → observes branches p e ≡ true
-unfolding shows observes
+pub shows-observes : (branches : List Bool) (p : ℕ) (e : Entry) → is_true_in_entry branches p e ≡ true → is_observed_in_entry branches p e ≡ true
+unfolding is_true_in_entry is_observed_in_entry
 shows-observes branches p e h =
     let parts = and_parts (is_of branches e.site p) (makes_true (get_or branches e.site false) (p - first_predicate branches e.site) e.counts) h in
     and_from (is_of branches e.site p) (is_positive e.counts) parts.0 (makes-positive (get_or branches e.site false) (p - first_predicate branches e.site) e.counts parts.1)

@@ -1,5 +1,5 @@
 -- The numbers of a recount: their bounds, and the leader by them.
-use Rattle.std.proofs.Common.{◌≡◌, ℕ, ◌+◌, ◌<◌, ◌≤◌, Bool, true, false, ◌&&◌, cond, inl, inr, List, [], ◌∷◌, length, refl, sym, ap, subst, ◌∙◌, arith}
+use Rattle.std.proofs.Common.{◌≡◌, ℕ, ◌+◌, ◌<◌, ◌≤◌, Bool, true, false, ◌&&◌, cond, inl, inr, List, [], ◌∷◌, length, sym, ap, subst, ◌∙◌, arith}
 use Rattle.std.specs.Prelude.{count_by}
 use Rattle.std.specs.List.{list_any}
 use Rattle.std.proofs.lemmas.Bool.{false≢true, and_from, and_parts, or_cases, or_left, or_right}
@@ -14,8 +14,8 @@ use Rattle.report_file.specs.declared.report.Entry.{Entry}
 use Rattle.elimination_tallies.specs.declared.labelled.LabelledRun.{LabelledRun}
 use Rattle.elimination_tallies.specs.declared.listed.Listed.{Listed}
 use Rattle.elimination_tallies.specs.Leading.{IsLeader, Leads, NonePass, NonePasses}
-use Rattle.elimination_tallies.specs.Predicates.{observes, predicates_in, shows}
-use Rattle.elimination_tallies.specs.Recount.{failing_runs, fails, is_observed, is_true, recount, succeeds}
+use Rattle.elimination_tallies.specs.Predicates.{is_observed_in_entry, predicates_in, is_true_in_entry}
+use Rattle.elimination_tallies.specs.Recount.{failing_runs, is_failing, is_observed, is_true, recount, is_successful}
 use Rattle.elimination_tallies.specs.Scanning.{AreScanned, tally_at}
 use Rattle.elimination_tallies.specs.Tallies.{AreRecounts, Tallies}
 use Rattle.elimination_tallies.proofs.PredicateLemmas.{shows-observes}
@@ -33,9 +33,9 @@ any-less p q (e ∷ more) less has =
 true-observed : (branches : List Bool) (p : ℕ) (label : Label → Bool) (r : LabelledRun) → (label r.label && is_true branches p r) ≡ true → (label r.label && is_observed branches p r) ≡ true
 true-observed branches p label r has =
     let parts = and_parts (label r.label) (is_true branches p r) has in
-    and_from (label r.label) (is_observed branches p r) parts.0 (any-less (shows branches p) (observes branches p) r.entries (λ e shown. shows-observes branches p e shown) parts.1)
+    and_from (label r.label) (is_observed branches p r) parts.0 (any-less (is_true_in_entry branches p) (is_observed_in_entry branches p) r.entries (λ e shown. shows-observes branches p e shown) parts.1)
 
-one-label : (l : Label) (x : Bool) → cond (fails l && x) 1 0 + cond (succeeds l && x) 1 0 ≤ 1
+one-label : (l : Label) (x : Bool) → cond (is_failing l && x) 1 0 + cond (is_successful l && x) 1 0 ≤ 1
 one-label Fail true = omega arith
 one-label Fail false = omega arith
 one-label Pass true = omega arith
@@ -45,21 +45,21 @@ one-label Uncounted x = omega arith
 observed-most : (branches : List Bool) (p : ℕ) (runs : List LabelledRun) → (recount branches runs p).c + (recount branches runs p).d ≤ length runs
 observed-most branches p [] = omega arith
 observed-most branches p (r ∷ more) =
-    omega (arith, observed-most branches p more, one-label r.label (is_observed branches p r), sum_by-cons (λ (x : LabelledRun). cond (fails x.label && is_observed branches p x) 1 0) r more, sum_by-cons (λ (x : LabelledRun). cond (succeeds x.label && is_observed branches p x) 1 0) r more)
+    omega (arith, observed-most branches p more, one-label r.label (is_observed branches p r), sum_by-cons (λ (x : LabelledRun). cond (is_failing x.label && is_observed branches p x) 1 0) r more, sum_by-cons (λ (x : LabelledRun). cond (is_successful x.label && is_observed branches p x) 1 0) r more)
 
 -- a recount has the bounds of a tally
 pub recount-tally : (branches : List Bool) (runs : List LabelledRun) (p : ℕ) → length runs ≤ 100000 → IsTally (recount branches runs p)
 recount-tally branches runs p few = record {
-  failing = count-less (λ (r : LabelledRun). fails r.label && is_true branches p r) (λ (r : LabelledRun). fails r.label && is_observed branches p r) runs (true-observed branches p fails);
-  successful = count-less (λ (r : LabelledRun). succeeds r.label && is_true branches p r) (λ (r : LabelledRun). succeeds r.label && is_observed branches p r) runs (true-observed branches p succeeds);
+  failing = count-less (λ (r : LabelledRun). is_failing r.label && is_true branches p r) (λ (r : LabelledRun). is_failing r.label && is_observed branches p r) runs (true-observed branches p is_failing);
+  successful = count-less (λ (r : LabelledRun). is_successful r.label && is_true branches p r) (λ (r : LabelledRun). is_successful r.label && is_observed branches p r) runs (true-observed branches p is_successful);
   runs = omega (arith, observed-most branches p runs);
 }
 
 pub recount-failing : (branches : List Bool) (runs : List LabelledRun) (p : ℕ) → (recount branches runs p).c ≤ failing_runs runs
-recount-failing branches runs p = count-less (λ (r : LabelledRun). fails r.label && is_observed branches p r) (λ (r : LabelledRun). fails r.label) runs (λ r has. (and_parts (fails r.label) (is_observed branches p r) has).0)
+recount-failing branches runs p = count-less (λ (r : LabelledRun). is_failing r.label && is_observed branches p r) (λ (r : LabelledRun). is_failing r.label) runs (λ r has. (and_parts (is_failing r.label) (is_observed branches p r) has).0)
 
 pub fails-most : (runs : List LabelledRun) → failing_runs runs ≤ length runs
-fails-most runs = count_by-le-length (λ (r : LabelledRun). fails r.label) runs
+fails-most runs = count_by-le-length (λ (r : LabelledRun). is_failing r.label) runs
 
 -- kept numbers that are the recount can be scanned
 pub recounts-scanned : (branches : List Bool) (runs : List LabelledRun) (table : Tallies) (failing : ℕ) → AreRecounts branches runs table → length runs ≤ 100000 → failing ≡ failing_runs runs → AreScanned table.tallies failing

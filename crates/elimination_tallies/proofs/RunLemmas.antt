@@ -5,7 +5,7 @@ use Rattle.std.proofs.lemmas.Bool.{cases_lt, lt-ltb, le-ltb}
 use Rattle.std.proofs.lemmas.List.Elements.{All-cons, All-nil}
 use Rattle.std.proofs.lemmas.Option.{slice_get_within}
 use Rattle.collector.specs.declared.collection.Held.{Held}
-use Rattle.collector.specs.Collected.{IsOurs, next_after}
+use Rattle.collector.specs.Collected.{IsOfCollection, next_after}
 use Rattle.collector.specs.Collecting.{IsCollection}
 use Rattle.collector.specs.Merging.{AreReports}
 use Rattle.collector.specs.Order.{IsOneOfReports}
@@ -15,7 +15,7 @@ use Rattle.report_file.specs.declared.report.Entry.{Entry}
 use Rattle.report_file.specs.declared.report.Report.{Report}
 use Rattle.report_file.specs.Report.{AreEntries, IsReport, is_positive}
 use Rattle.elimination_tallies.specs.declared.labelled.LabelledRun.{LabelledRun}
-use Rattle.elimination_tallies.specs.Recount.{labelled, runs_of}
+use Rattle.elimination_tallies.specs.Recount.{run_of_report, runs_of}
 use Rattle.elimination_tallies.specs.Runs.{AreEntriesOf, AreRunsOf, reports_after}
 
 -- the answer of one test, for a list with a first report
@@ -91,14 +91,14 @@ are-sites branches (e ∷ more) none =
     let parts = bad-cases branches e more (has_site branches e) refl none in
     All-cons (λ (x : Entry). x.site < length branches) e more (site-there branches e (slice_get branches e.site) refl parts.0) (are-sites branches more parts.1)
 
-pub are-entries : (c : Held) (r : Report) → IsReport r → IsOurs c r → AreEntriesOf c.branches r.entries
+pub are-entries : (c : Held) (r : Report) → IsReport r → IsOfCollection c r → AreEntriesOf c.branches r.entries
 are-entries c r report ours = record { rising = report.rising; sites = are-sites c.branches r.entries ours.sites; positive = are-positive r.entries report.entries }
 
 -- the runs of a collection are well formed
-pub runs-well : (c : Held) (reports : List Report) → AreReports reports → ((r : Report) → IsOneOfReports r reports → IsOurs c r) → AreRunsOf c.branches (runs_of reports)
+pub runs-well : (c : Held) (reports : List Report) → AreReports reports → ((r : Report) → IsOneOfReports r reports → IsOfCollection c r) → AreRunsOf c.branches (runs_of reports)
 runs-well c [] are ours = All-nil (λ (x : LabelledRun). AreEntriesOf c.branches x.entries)
 runs-well c (r ∷ more) are ours =
-    All-cons (λ (x : LabelledRun). AreEntriesOf c.branches x.entries) (labelled r) (runs_of more) (are-entries c r are.0 (ours r (inl refl))) (runs-well c more are.1 (λ x has. ours x (inr has)))
+    All-cons (λ (x : LabelledRun). AreEntriesOf c.branches x.entries) (run_of_report r) (runs_of more) (are-entries c r are.0 (ours r (inl refl))) (runs-well c more are.1 (λ x has. ours x (inr has)))
 
 pub collection-well : (c : Held) → IsCollection c → AreRunsOf c.branches (runs_of c.reports)
 collection-well c is = runs-well c c.reports is.reports is.ours

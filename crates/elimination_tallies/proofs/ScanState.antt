@@ -8,7 +8,7 @@ use Rattle.fractions.specs.Fraction.{IsAtMost}
 use Rattle.fractions.specs.Tally.{Passes, importance_of}
 use Rattle.elimination_tallies.specs.declared.scan.Candidate.{Candidate}
 use Rattle.elimination_tallies.specs.Leading.{Leads, NonePass}
-use Rattle.elimination_tallies.specs.Scanning.{IsCandidate, exceeds}
+use Rattle.elimination_tallies.specs.Scanning.{IsCandidate, is_greater_fraction}
 use Rattle.elimination_tallies.proofs.ScanLemmas.{AreFractions, first-leads, leads-instead, leads-on, none-more}
 
 -- the best so far leads those below
@@ -25,9 +25,9 @@ pub passed-over : (best : Option Candidate) (numbers : ℕ → Tally) (k failing
 passed-over None numbers k failing so_far not_here = none-more numbers k so_far not_here
 passed-over (Some b) numbers k failing so_far not_here = record { leads = leads-on numbers k failing b.predicate so_far.leads (λ passes. absurd (not_here passes)); is = so_far.is }
 
-next-best : (numbers : ℕ → Tally) (k failing : ℕ) (b next new : Candidate) → AreFractions numbers k failing → IsBest numbers k failing b → IsCandidate k (numbers k) failing next → new ≡ cond (exceeds next.importance b.importance) next b → IsBest numbers (k + 1) failing new
+next-best : (numbers : ℕ → Tally) (k failing : ℕ) (b next new : Candidate) → AreFractions numbers k failing → IsBest numbers k failing b → IsCandidate k (numbers k) failing next → new ≡ cond (is_greater_fraction next.importance b.importance) next b → IsBest numbers (k + 1) failing new
 next-best numbers k failing b next new fractions best here is =
-    elim (cases_Bool (exceeds next.importance b.importance)) [
+    elim (cases_Bool (is_greater_fraction next.importance b.importance)) [
       | inl more ↦
           let less = ltb-true (b.importance.top * next.importance.bottom) (next.importance.top * b.importance.bottom) more in
           let there : k ≡ next.predicate = sym here.predicate_is in
@@ -42,18 +42,18 @@ next-best numbers k failing b next new fractions best here is =
             leads = subst (Leads numbers (k + 1) failing) there leads;
             is = subst (λ (n : ℕ). IsCandidate n (numbers n) failing next) there here;
           } in
-          subst (IsBest numbers (k + 1) failing) (sym (is ∙ cond-true (exceeds next.importance b.importance) next b more)) now
+          subst (IsBest numbers (k + 1) failing) (sym (is ∙ cond-true (is_greater_fraction next.importance b.importance) next b more)) now
       | inr most ↦
           let less = ltb-false (b.importance.top * next.importance.bottom) (next.importance.top * b.importance.bottom) most in
           let to_best : IsAtMost (importance_of (numbers k) failing) (importance_of (numbers b.predicate) failing) =
           subst (λ (x : Fraction). IsAtMost x (importance_of (numbers b.predicate) failing)) here.importance_is (subst (λ (x : Fraction). IsAtMost next.importance x) best.is.importance_is (omega arith)) in
           let now : IsBest numbers (k + 1) failing b = record { leads = leads-on numbers k failing b.predicate best.leads (λ _. to_best); is = best.is } in
-          subst (IsBest numbers (k + 1) failing) (sym (is ∙ cond-false (exceeds next.importance b.importance) next b most)) now
+          subst (IsBest numbers (k + 1) failing) (sym (is ∙ cond-false (is_greater_fraction next.importance b.importance) next b most)) now
     ]
 
 -- one that passes
 pub looked-at : (best : Option Candidate) (numbers : ℕ → Tally) (k failing : ℕ) (next new : Candidate) → AreFractions numbers k failing → BestSoFar numbers k failing best → IsCandidate k (numbers k) failing next
-    → MatchOption best (new ≡ next) (λ b. new ≡ cond (exceeds next.importance b.importance) next b) → BestSoFar numbers (k + 1) failing (Some new)
+    → MatchOption best (new ≡ next) (λ b. new ≡ cond (is_greater_fraction next.importance b.importance) next b) → BestSoFar numbers (k + 1) failing (Some new)
 looked-at None numbers k failing next new fractions so_far here is =
     let there : k ≡ next.predicate = sym here.predicate_is in
     let now : IsBest numbers (k + 1) failing next = record {

@@ -14,10 +14,10 @@ use Rattle.elimination_tallies.specs.declared.labelled.LabelledRun.{LabelledRun}
 use Rattle.elimination_tallies.specs.declared.numbers.Counted.{Counted}
 use Rattle.elimination_tallies.specs.declared.numbers.Counted.TheVariants as counted
 use Rattle.elimination_tallies.specs.declared.numbers.Change.TheVariants.{PutIn, TakeOut, MoveOver}
-use Rattle.elimination_tallies.specs.Predicates.{observes, predicates_in, shows}
-use Rattle.elimination_tallies.specs.Recount.{fails, succeeds, recount}
+use Rattle.elimination_tallies.specs.Predicates.{is_observed_in_entry, predicates_in, is_true_in_entry}
+use Rattle.elimination_tallies.specs.Recount.{is_failing, is_successful, recount}
 use Rattle.elimination_tallies.specs.Runs.{AreEntriesOf, AreRunsOf}
-use Rattle.elimination_tallies.specs.Tallies.{Allows, AllowsEntries, AreRecounts, ChangedByAll, IsAllowed, IsMade, Tallies, changed, counted_as, one_if}
+use Rattle.elimination_tallies.specs.Tallies.{Allows, AllowsEntries, AreRecounts, ChangedByAll, IsAllowed, IsMade, Tallies, tally_changed, counted_as, one_if}
 use Rattle.elimination_tallies.proofs.ChangeLemmas.{old-tally, tally-is}
 use Rattle.std.proofs.lemmas.Option.{same_Some, slice_get-get_or, slice_get_within}
 use Rattle.elimination_tallies.proofs.PredicateLemmas.{observes-of, of-once, shows-of}
@@ -31,10 +31,10 @@ total label test runs = sum_by (part label test) runs
 
 unfoldable pub totals : List Bool → List LabelledRun → ℕ → Tally
 totals branches runs p = record {
-  a = total fails (shows branches p) runs;
-  b = total succeeds (shows branches p) runs;
-  c = total fails (observes branches p) runs;
-  d = total succeeds (observes branches p) runs;
+  a = total is_failing (is_true_in_entry branches p) runs;
+  b = total is_successful (is_true_in_entry branches p) runs;
+  c = total is_failing (is_observed_in_entry branches p) runs;
+  d = total is_successful (is_observed_in_entry branches p) runs;
 }
 
 -- rising entries of which those that pass have one site pass once at most
@@ -79,26 +79,26 @@ total-is branches label test (r ∷ more) one are =
 pub totals-recount : (branches : List Bool) (runs : List LabelledRun) (p : ℕ) → AreRunsOf branches runs → totals branches runs p ≡ recount branches runs p
 unfolding totals
 totals-recount branches runs p are =
-    let shown : (x y : Entry) → shows branches p x ≡ true → shows branches p y ≡ true → x.site ≡ y.site = λ x y a b. of-once branches x.site y.site p (shows-of branches p x a) (shows-of branches p y b) in
-    let observed : (x y : Entry) → observes branches p x ≡ true → observes branches p y ≡ true → x.site ≡ y.site = λ x y a b. of-once branches x.site y.site p (observes-of branches p x a) (observes-of branches p y b) in
-    tally-is (recount branches runs p) (total fails (shows branches p) runs) (total succeeds (shows branches p) runs) (total fails (observes branches p) runs) (total succeeds (observes branches p) runs)
-    (total-is branches fails (shows branches p) runs shown are) (total-is branches succeeds (shows branches p) runs shown are) (total-is branches fails (observes branches p) runs observed are) (total-is branches succeeds (observes branches p) runs observed are)
+    let shown : (x y : Entry) → is_true_in_entry branches p x ≡ true → is_true_in_entry branches p y ≡ true → x.site ≡ y.site = λ x y a b. of-once branches x.site y.site p (shows-of branches p x a) (shows-of branches p y b) in
+    let observed : (x y : Entry) → is_observed_in_entry branches p x ≡ true → is_observed_in_entry branches p y ≡ true → x.site ≡ y.site = λ x y a b. of-once branches x.site y.site p (observes-of branches p x a) (observes-of branches p y b) in
+    tally-is (recount branches runs p) (total is_failing (is_true_in_entry branches p) runs) (total is_successful (is_true_in_entry branches p) runs) (total is_failing (is_observed_in_entry branches p) runs) (total is_successful (is_observed_in_entry branches p) runs)
+    (total-is branches is_failing (is_true_in_entry branches p) runs shown are) (total-is branches is_successful (is_true_in_entry branches p) runs shown are) (total-is branches is_failing (is_observed_in_entry branches p) runs observed are) (total-is branches is_successful (is_observed_in_entry branches p) runs observed are)
 
 total-middle : (label : Label → Bool) (test : Entry → Bool) (xs ys : List LabelledRun) (r : LabelledRun) → total label test (xs ++ r ∷ ys) ≡ total label test (xs ++ ys) + part label test r
 total-middle label test xs ys r = omega (arith, sum_by-append (part label test) xs (r ∷ ys), sum_by-append (part label test) xs ys, sum_by-cons (part label test) r ys)
 
 by-label : (l : Label) (m n : ℕ) (t : Tally) (u : Tally)
-    → t.a ≡ u.a + cond (fails l) n 0 → t.b ≡ u.b + cond (succeeds l) n 0 → t.c ≡ u.c + cond (fails l) m 0 → t.d ≡ u.d + cond (succeeds l) m 0 → t ≡ changed (PutIn (counted_as l)) m n u
-by-label Fail m n t u a b c d = tally-is (changed (PutIn counted.Failing) m n u) t.a t.b t.c t.d a (omega (arith, b)) c (omega (arith, d))
-by-label Pass m n t u a b c d = tally-is (changed (PutIn counted.Successful) m n u) t.a t.b t.c t.d (omega (arith, a)) b (omega (arith, c)) d
+    → t.a ≡ u.a + cond (is_failing l) n 0 → t.b ≡ u.b + cond (is_successful l) n 0 → t.c ≡ u.c + cond (is_failing l) m 0 → t.d ≡ u.d + cond (is_successful l) m 0 → t ≡ tally_changed (PutIn (counted_as l)) m n u
+by-label Fail m n t u a b c d = tally-is (tally_changed (PutIn counted.Failing) m n u) t.a t.b t.c t.d a (omega (arith, b)) c (omega (arith, d))
+by-label Pass m n t u a b c d = tally-is (tally_changed (PutIn counted.Successful) m n u) t.a t.b t.c t.d (omega (arith, a)) b (omega (arith, c)) d
 by-label Uncounted m n t u a b c d = tally-is u t.a t.b t.c t.d (omega (arith, a)) (omega (arith, b)) (omega (arith, c)) (omega (arith, d))
 
 -- one more run among others
-pub totals-middle : (branches : List Bool) (xs ys : List LabelledRun) (r : LabelledRun) (p : ℕ) → totals branches (xs ++ r ∷ ys) p ≡ changed (PutIn (counted_as r.label)) (count_by (observes branches p) r.entries) (count_by (shows branches p) r.entries) (totals branches (xs ++ ys) p)
+pub totals-middle : (branches : List Bool) (xs ys : List LabelledRun) (r : LabelledRun) (p : ℕ) → totals branches (xs ++ r ∷ ys) p ≡ tally_changed (PutIn (counted_as r.label)) (count_by (is_observed_in_entry branches p) r.entries) (count_by (is_true_in_entry branches p) r.entries) (totals branches (xs ++ ys) p)
 unfolding totals
 totals-middle branches xs ys r p =
-    by-label r.label (count_by (observes branches p) r.entries) (count_by (shows branches p) r.entries) (totals branches (xs ++ r ∷ ys) p) (totals branches (xs ++ ys) p)
-    (total-middle fails (shows branches p) xs ys r) (total-middle succeeds (shows branches p) xs ys r) (total-middle fails (observes branches p) xs ys r) (total-middle succeeds (observes branches p) xs ys r)
+    by-label r.label (count_by (is_observed_in_entry branches p) r.entries) (count_by (is_true_in_entry branches p) r.entries) (totals branches (xs ++ r ∷ ys) p) (totals branches (xs ++ ys) p)
+    (total-middle is_failing (is_true_in_entry branches p) xs ys r) (total-middle is_successful (is_true_in_entry branches p) xs ys r) (total-middle is_failing (is_observed_in_entry branches p) xs ys r) (total-middle is_successful (is_observed_in_entry branches p) xs ys r)
 
 -- the first two together are the third
 pub record IsSum (t u v : Tally) : Type 0 where
@@ -107,7 +107,7 @@ pub record IsSum (t u v : Tally) : Type 0 where
   pub c : t.c + u.c ≡ v.c
   pub d : t.d + u.d ≡ v.d
 
-pub sum-moves : (k : Counted) (m n : ℕ) (t u v : Tally) → IsSum t (changed (PutIn k) m n u) v → IsSum (changed (PutIn k) m n t) u v
+pub sum-moves : (k : Counted) (m n : ℕ) (t u v : Tally) → IsSum t (tally_changed (PutIn k) m n u) v → IsSum (tally_changed (PutIn k) m n t) u v
 sum-moves counted.Failing m n t u v s = record { a = omega (arith, s.a); b = s.b; c = omega (arith, s.c); d = s.d }
 sum-moves counted.Successful m n t u v s = record { a = s.a; b = omega (arith, s.b); c = s.c; d = omega (arith, s.d) }
 sum-moves counted.Neither m n t u v s = s
@@ -121,28 +121,28 @@ pub record Below (bound : ℕ) (t : Tally) : Type 0 where
 
 pub recount-below : (branches : List Bool) (runs : List LabelledRun) (p : ℕ) → length runs ≤ 100000 → Below 100001 (recount branches runs p)
 recount-below branches runs p few = record {
-  a = omega (arith, count_by-le-length (λ (r : LabelledRun). fails r.label && list_any (shows branches p) r.entries) runs);
-  b = omega (arith, count_by-le-length (λ (r : LabelledRun). succeeds r.label && list_any (shows branches p) r.entries) runs);
-  c = omega (arith, count_by-le-length (λ (r : LabelledRun). fails r.label && list_any (observes branches p) r.entries) runs);
-  d = omega (arith, count_by-le-length (λ (r : LabelledRun). succeeds r.label && list_any (observes branches p) r.entries) runs);
+  a = omega (arith, count_by-le-length (λ (r : LabelledRun). is_failing r.label && list_any (is_true_in_entry branches p) r.entries) runs);
+  b = omega (arith, count_by-le-length (λ (r : LabelledRun). is_successful r.label && list_any (is_true_in_entry branches p) r.entries) runs);
+  c = omega (arith, count_by-le-length (λ (r : LabelledRun). is_failing r.label && list_any (is_observed_in_entry branches p) r.entries) runs);
+  d = omega (arith, count_by-le-length (λ (r : LabelledRun). is_successful r.label && list_any (is_observed_in_entry branches p) r.entries) runs);
 }
 
 -- what was put in is taken out
-pub take-undoes : (k : Counted) (m n : ℕ) (t : Tally) → changed (TakeOut k) m n (changed (PutIn k) m n t) ≡ t
+pub take-undoes : (k : Counted) (m n : ℕ) (t : Tally) → tally_changed (TakeOut k) m n (tally_changed (PutIn k) m n t) ≡ t
 take-undoes counted.Failing m n t = tally-is t (t.a + n - n) t.b (t.c + m - m) t.d (omega arith) refl (omega arith) refl
 take-undoes counted.Successful m n t = tally-is t t.a (t.b + n - n) t.c (t.d + m - m) refl (omega arith) refl (omega arith)
 take-undoes counted.Neither m n t = refl
 
-pub take-allowed : (k : Counted) (m n : ℕ) (t : Tally) → Allows (TakeOut k) m n (changed (PutIn k) m n t)
+pub take-allowed : (k : Counted) (m n : ℕ) (t : Tally) → Allows (TakeOut k) m n (tally_changed (PutIn k) m n t)
 take-allowed counted.Failing m n t = (omega arith, omega arith)
 take-allowed counted.Successful m n t = (omega arith, omega arith)
 take-allowed counted.Neither m n t = tt
 
 -- what was put in as failing is moved over
-pub move-moves : (m n : ℕ) (t : Tally) → changed MoveOver m n (changed (PutIn counted.Failing) m n t) ≡ changed (PutIn counted.Successful) m n t
-move-moves m n t = tally-is (changed (PutIn counted.Successful) m n t) (t.a + n - n) (t.b + n) (t.c + m - m) (t.d + m) (omega arith) refl (omega arith) refl
+pub move-moves : (m n : ℕ) (t : Tally) → tally_changed MoveOver m n (tally_changed (PutIn counted.Failing) m n t) ≡ tally_changed (PutIn counted.Successful) m n t
+move-moves m n t = tally-is (tally_changed (PutIn counted.Successful) m n t) (t.a + n - n) (t.b + n) (t.c + m - m) (t.d + m) (omega arith) refl (omega arith) refl
 
-pub move-allowed : (m n : ℕ) (t : Tally) → t.b + n ≤ 100000 → t.d + m ≤ 100000 → Allows MoveOver m n (changed (PutIn counted.Failing) m n t)
+pub move-allowed : (m n : ℕ) (t : Tally) → t.b + n ≤ 100000 → t.d + m ≤ 100000 → Allows MoveOver m n (tally_changed (PutIn counted.Failing) m n t)
 move-allowed m n t b d = (omega arith, omega arith, b, d)
 
 -- a number of runs is added to each of the numbers
@@ -152,7 +152,7 @@ pub record IsWithin (more bound : ℕ) (t : Tally) : Type 0 where
   pub c : t.c + more ≤ bound
   pub d : t.d + more ≤ bound
 
-within-more : (k : Counted) (m n more bound : ℕ) (t : Tally) → m ≤ 1 → n ≤ 1 → IsWithin (more + 1) bound t → IsWithin more bound (changed (PutIn k) m n t)
+within-more : (k : Counted) (m n more bound : ℕ) (t : Tally) → m ≤ 1 → n ≤ 1 → IsWithin (more + 1) bound t → IsWithin more bound (tally_changed (PutIn k) m n t)
 within-more counted.Failing m n more bound t ms ns w = record { a = omega (arith, w.a); b = omega (arith, w.b); c = omega (arith, w.c); d = omega (arith, w.d) }
 within-more counted.Successful m n more bound t ms ns w = record { a = omega (arith, w.a); b = omega (arith, w.b); c = omega (arith, w.c); d = omega (arith, w.d) }
 within-more counted.Neither m n more bound t ms ns w = record { a = omega (arith, w.a); b = omega (arith, w.b); c = omega (arith, w.c); d = omega (arith, w.d) }
@@ -166,11 +166,11 @@ pub one-most : (b : Bool) → one_if b ≤ 1
 one-most true = omega arith
 one-most false = omega arith
 
-pub shown-once : (branches : List Bool) (entries : List Entry) (p : ℕ) → AreEntriesOf branches entries → count_by (shows branches p) entries ≤ 1
-shown-once branches entries p are = omega (arith, count-once (shows branches p) 0 entries (λ x y a b. of-once branches x.site y.site p (shows-of branches p x a) (shows-of branches p y b)) are.rising, one-most (list_any (shows branches p) entries))
+pub shown-once : (branches : List Bool) (entries : List Entry) (p : ℕ) → AreEntriesOf branches entries → count_by (is_true_in_entry branches p) entries ≤ 1
+shown-once branches entries p are = omega (arith, count-once (is_true_in_entry branches p) 0 entries (λ x y a b. of-once branches x.site y.site p (shows-of branches p x a) (shows-of branches p y b)) are.rising, one-most (list_any (is_true_in_entry branches p) entries))
 
-pub observed-once : (branches : List Bool) (entries : List Entry) (p : ℕ) → AreEntriesOf branches entries → count_by (observes branches p) entries ≤ 1
-observed-once branches entries p are = omega (arith, count-once (observes branches p) 0 entries (λ x y a b. of-once branches x.site y.site p (observes-of branches p x a) (observes-of branches p y b)) are.rising, one-most (list_any (observes branches p) entries))
+pub observed-once : (branches : List Bool) (entries : List Entry) (p : ℕ) → AreEntriesOf branches entries → count_by (is_observed_in_entry branches p) entries ≤ 1
+observed-once branches entries p are = omega (arith, count-once (is_observed_in_entry branches p) 0 entries (λ x y a b. of-once branches x.site y.site p (observes-of branches p x a) (observes-of branches p y b)) are.rising, one-most (list_any (is_observed_in_entry branches p) entries))
 
 -- a table has the numbers of some runs, which with those of the runs left are those of all
 pub record AreSummed (branches : List Bool) (rest all : List LabelledRun) (table : Tallies) : Type 0 where
@@ -196,30 +196,30 @@ summed-start branches all table are = record {
 
 pub summed-allows : (branches : List Bool) (r : LabelledRun) (rest all : List LabelledRun) (table : Tallies) → AreSummed branches (r ∷ rest) all table → AreEntriesOf branches r.entries → length all ≤ 100000 → AllowsEntries (PutIn (counted_as r.label)) r.entries table
 summed-allows branches r rest all table summed are few =
-    subst (λ (bs : List Bool). IsAllowed (PutIn (counted_as r.label)) (λ p. count_by (observes bs p) r.entries) (λ p. count_by (shows bs p) r.entries) table) (sym summed.branches_are)
-    (λ p t is. within-allows (counted_as r.label) (count_by (observes branches p) r.entries) (count_by (shows branches p) r.entries) (length rest) (length all) t few (observed-once branches r.entries p are) (shown-once branches r.entries p are)
+    subst (λ (bs : List Bool). IsAllowed (PutIn (counted_as r.label)) (λ p. count_by (is_observed_in_entry bs p) r.entries) (λ p. count_by (is_true_in_entry bs p) r.entries) table) (sym summed.branches_are)
+    (λ p t is. within-allows (counted_as r.label) (count_by (is_observed_in_entry branches p) r.entries) (count_by (is_true_in_entry branches p) r.entries) (length rest) (length all) t few (observed-once branches r.entries p are) (shown-once branches r.entries p are)
     (subst (λ (k : ℕ). IsWithin k (length all) t) (omega arith) (summed.bounds p t is)))
 
-stepped-tally : (branches : List Bool) (r : LabelledRun) (table new : Tallies) → IsMade (PutIn (counted_as r.label)) (λ p. count_by (observes branches p) r.entries) (λ p. count_by (shows branches p) r.entries) table new → (p : ℕ) (t : Tally) → slice_get new.tallies p ≡ Some t
-    → ◌≡◌ {A = Tally} (changed (PutIn (counted_as r.label)) (count_by (observes branches p) r.entries) (count_by (shows branches p) r.entries) (get_or table.tallies p t)) t
+stepped-tally : (branches : List Bool) (r : LabelledRun) (table new : Tallies) → IsMade (PutIn (counted_as r.label)) (λ p. count_by (is_observed_in_entry branches p) r.entries) (λ p. count_by (is_true_in_entry branches p) r.entries) table new → (p : ℕ) (t : Tally) → slice_get new.tallies p ≡ Some t
+    → ◌≡◌ {A = Tally} (tally_changed (PutIn (counted_as r.label)) (count_by (is_observed_in_entry branches p) r.entries) (count_by (is_true_in_entry branches p) r.entries) (get_or table.tallies p t)) t
 stepped-tally branches r table new made p t is =
-    same_Some (changed (PutIn (counted_as r.label)) (count_by (observes branches p) r.entries) (count_by (shows branches p) r.entries) (get_or table.tallies p t)) t
+    same_Some (tally_changed (PutIn (counted_as r.label)) (count_by (is_observed_in_entry branches p) r.entries) (count_by (is_true_in_entry branches p) r.entries) (get_or table.tallies p t)) t
     (sym (made.numbers p (get_or table.tallies p t) (old-tally table new p t made.as_many is)) ∙ is)
 
 pub summed-step : (branches : List Bool) (r : LabelledRun) (rest all : List LabelledRun) (table new : Tallies) → AreSummed branches (r ∷ rest) all table → AreEntriesOf branches r.entries → ChangedByAll (PutIn (counted_as r.label)) r.entries table new → AreSummed branches rest all new
 summed-step branches r rest all table new summed are change =
-    let made = subst (λ (bs : List Bool). IsMade (PutIn (counted_as r.label)) (λ p. count_by (observes bs p) r.entries) (λ p. count_by (shows bs p) r.entries) table new) summed.branches_are change in record {
+    let made = subst (λ (bs : List Bool). IsMade (PutIn (counted_as r.label)) (λ p. count_by (is_observed_in_entry bs p) r.entries) (λ p. count_by (is_true_in_entry bs p) r.entries) table new) summed.branches_are change in record {
       branches_are = change.branches_stay ∙ summed.branches_are;
       as_many = change.as_many ∙ summed.as_many;
       sums = λ p t is.
           let before = old-tally table new p t made.as_many is in
           subst (λ (x : Tally). IsSum x (totals branches rest p) (totals branches all p)) (stepped-tally branches r table new made p t is)
-          (sum-moves (counted_as r.label) (count_by (observes branches p) r.entries) (count_by (shows branches p) r.entries) (get_or table.tallies p t) (totals branches rest p) (totals branches all p)
+          (sum-moves (counted_as r.label) (count_by (is_observed_in_entry branches p) r.entries) (count_by (is_true_in_entry branches p) r.entries) (get_or table.tallies p t) (totals branches rest p) (totals branches all p)
           (subst (λ (x : Tally). IsSum (get_or table.tallies p t) x (totals branches all p)) (totals-middle branches [] rest r p) (summed.sums p (get_or table.tallies p t) before)));
       bounds = λ p t is.
           let before = old-tally table new p t made.as_many is in
           subst (λ (x : Tally). IsWithin (length rest) (length all) x) (stepped-tally branches r table new made p t is)
-          (within-more (counted_as r.label) (count_by (observes branches p) r.entries) (count_by (shows branches p) r.entries) (length rest) (length all) (get_or table.tallies p t) (observed-once branches r.entries p are) (shown-once branches r.entries p are)
+          (within-more (counted_as r.label) (count_by (is_observed_in_entry branches p) r.entries) (count_by (is_true_in_entry branches p) r.entries) (length rest) (length all) (get_or table.tallies p t) (observed-once branches r.entries p are) (shown-once branches r.entries p are)
           (subst (λ (k : ℕ). IsWithin k (length all) (get_or table.tallies p t)) (omega arith) (summed.bounds p (get_or table.tallies p t) before)));
       entries = λ each. summed.entries (All-cons (λ (x : LabelledRun). AreEntriesOf branches x.entries) r rest are each);
     }

@@ -34,10 +34,10 @@ makes_true false (suc (suc (suc (suc zero)))) c = nat_lt 0 c.second
 makes_true false (suc (suc (suc (suc (suc n))))) c = nat_lt 0 c.first || nat_lt 0 c.third
 
 -- the entry observes the predicate's site
-unfoldable pub observes : List Bool → ℕ → Entry → Bool
-observes branches predicate e = is_of branches e.site predicate && is_positive e.counts
+unfoldable pub is_observed_in_entry : List Bool → ℕ → Entry → Bool
+is_observed_in_entry branches predicate e = is_of branches e.site predicate && is_positive e.counts
 
 -- the entry makes the predicate true
-unfoldable pub shows : List Bool → ℕ → Entry → Bool
-shows branches predicate e =
+unfoldable pub is_true_in_entry : List Bool → ℕ → Entry → Bool
+is_true_in_entry branches predicate e =
     is_of branches e.site predicate && makes_true (slice_index_or branches e.site false) (predicate - first_predicate branches e.site) e.counts

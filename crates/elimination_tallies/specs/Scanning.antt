@@ -15,8 +15,8 @@ abbrev pub AreScanned : List Tally → ℕ → Type 0
 AreScanned tallies failing = (p : ℕ) (t : Tally) → slice_get tallies p ≡ Some t → IsTally t × (t.c ≤ failing)
 
 -- the first of two values is greater
-abbrev pub exceeds : Fraction → Fraction → Bool
-exceeds left right = nat_lt (right.top * left.bottom) (left.top * right.bottom)
+abbrev pub is_greater_fraction : Fraction → Fraction → Bool
+is_greater_fraction left right = nat_lt (right.top * left.bottom) (left.top * right.bottom)
 
 -- a passing predicate with its importance
 pub record IsCandidate (predicate : ℕ) (tally : Tally) (failing : ℕ) (c : Candidate) : Type 0 where

@@ -1,5 +1,5 @@
 ghost use Rattle.std.specs.Prelude.{◌≡◌};
-ghost use Rattle.elimination_tallies.specs.Recount.{fails};
+ghost use Rattle.elimination_tallies.specs.Recount.{is_failing};
 ghost use Rattle.elimination_tallies.specs.Tallies.{one_if};
 
 use cbi_base::Seq;
@@ -14,7 +14,7 @@ pub struct LabelledRun {
 
 /// Whether a run with this label fails.
 pub fn fails(label: Label) -> bool
-    ensures { result ≡ fails label }
+    ensures { result ≡ is_failing label }
 {
     match label {
         Label::Fail => true,
@@ -24,7 +24,7 @@ pub fn fails(label: Label) -> bool
 
 /// How many failing runs one with this label is.
 pub fn failures(label: Label) -> u32
-    ensures { result ≡ one_if (fails label) }
+    ensures { result ≡ one_if (is_failing label) }
 {
     match label {
         Label::Fail => 1,

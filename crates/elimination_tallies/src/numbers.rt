@@ -3,10 +3,11 @@ ghost use Rattle.std.specs.List.{list_any};
 ghost use Rattle.collector.specs.Sites.{branches_of};
 ghost use Rattle.fractions.specs.declared.tally.Tally.{Tally};
 ghost use Rattle.report_file.specs.Report.{is_positive};
-ghost use Rattle.elimination_tallies.specs.Predicates.{first_predicate, is_of, makes_true, predicates_in, shows, width_of};
+ghost use Rattle.elimination_tallies.specs.Predicates.{is_of, makes_true, predicates_in, is_true_in_entry, width_of};
 ghost use Rattle.elimination_tallies.specs.Recount.{runs_of};
 ghost use Rattle.elimination_tallies.specs.Runs.{AreEntriesOf};
-ghost use Rattle.elimination_tallies.specs.Tallies.{Allows, AllowsEntries, AllowsEntry, AreRecounts, ChangedBy, ChangedByAll, changed, counted_as, one_if};
+ghost use Rattle.elimination_tallies.specs.Tallies.{Allows, AllowsEntries, AllowsEntry, AreRecounts, ChangedBy, ChangedByAll, tally_changed, counted_as};
+ghost use Rattle.elimination_tallies.specs.Tallies.{one_if};
 ghost use Rattle.elimination_tallies.specs.Table.{AreStarts};
 
 use crate::predicates::{makes_true, width_of};
@@ -78,7 +79,7 @@ pub fn counted_as(label: Label) -> Counted
 // The numbers of a predicate after a change by an entry of its site.
 fn changed(change: Change, shows: bool, tally: Tally) -> Tally
     requires { Allows change 1 (one_if shows) tally }
-    ensures { result ≡ changed change 1 (one_if shows) tally }
+    ensures { result ≡ tally_changed change 1 (one_if shows) tally }
 {
     let shown = u32::from(shows);
     let Tally { a, b, c, d } = tally;
@@ -151,7 +152,7 @@ fn change_site(tallies: &mut [Tally], start: usize, branch: bool, counts: Counts
     requires allows { (n : ℕ) (t : Tally) → n < width_of branch → slice_get tallies.old (start + n) ≡ Some t
         → Allows change 1 (one_if (makes_true branch n counts)) t }
     ensures inside { (n : ℕ) (t : Tally) → n < width_of branch → slice_get tallies.old (start + n) ≡ Some t
-        → slice_get tallies.new (start + n) ≡ Some (changed change 1 (one_if (makes_true branch n counts)) t) }
+        → slice_get tallies.new (start + n) ≡ Some (tally_changed change 1 (one_if (makes_true branch n counts)) t) }
     ensures before { (p : ℕ) → p < start → slice_get tallies.new p ≡ slice_get tallies.old p }
     ensures behind { (p : ℕ) → start + width_of branch ≤ p → slice_get tallies.new p ≡ slice_get tallies.old p }
 {
@@ -233,7 +234,7 @@ impl Numbers {
 
     /// Whether the entry makes the predicate true.
     pub fn shows(&self, predicate: u32, entry: &Entry) -> bool
-        ensures { result ≡ shows self.now.branches predicate entry.now }
+        ensures { result ≡ is_true_in_entry self.now.branches predicate entry.now }
     {
         let site = entry.site as usize;
         if site >= self.branches.len() {
@@ -297,7 +298,7 @@ impl Numbers {
 
 /// Whether one of the entries makes the predicate true.
 pub fn is_true(predicate: u32, numbers: &Numbers, entries: &[Entry]) -> bool
-    ensures { result ≡ list_any (shows numbers.now.branches predicate) entries.now }
+    ensures { result ≡ list_any (is_true_in_entry numbers.now.branches predicate) entries.now }
 {
     for entry in entries {
         if numbers.shows(predicate, entry) {

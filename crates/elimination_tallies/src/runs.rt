@@ -1,7 +1,5 @@
 ghost use Rattle.std.specs.Prelude.{◌≡◌, [], ◌∷◌, ◌<◌, ◌^◌, IfOk, IfSome, MatchOption};
-ghost use Rattle.collector.specs.Collected.{IsOurs};
-ghost use Rattle.report_file.specs.Report.{IsReport};
-ghost use Rattle.elimination_tallies.specs.Recount.{labelled};
+ghost use Rattle.elimination_tallies.specs.Recount.{run_of_report};
 ghost use Rattle.elimination_tallies.specs.Runs.{AreEntriesOf, reports_after};
 
 use crate::labelled::LabelledRun;
@@ -27,7 +25,7 @@ pub fn report_after(collection: &Collection, run: u32) -> Option<&Report>
 
 /// What a ranking needs of a report.
 pub fn labelled_run(alloc: Global, report: &Report) -> Result<LabelledRun, Memory>
-    ensures { IfOk result (λ r. r ≡ labelled report.now) }
+    ensures { IfOk result (λ r. r ≡ run_of_report report.now) }
 {
     let entries = Vec::from_slice(alloc, report.entries.as_slice())?;
     Ok(LabelledRun {

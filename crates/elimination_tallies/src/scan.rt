@@ -1,10 +1,10 @@
-ghost use Rattle.std.specs.Prelude.{◌≡◌, ◌≤◌, ℕ, Some, length, slice_get, if◌then◌else◌, IfSome, IfNone, MatchOption};
+ghost use Rattle.std.specs.Prelude.{◌≡◌, ◌≤◌, ℕ, Some, if◌then◌else◌, IfSome, IfNone, MatchOption};
 ghost use Rattle.fractions.specs.declared.tally.Tally.{Tally};
 ghost use Rattle.fractions.specs.Fraction.{IsFraction};
 ghost use Rattle.fractions.specs.Tally.{IsTally, Passes};
 ghost use Rattle.elimination_tallies.specs.Predicates.{predicates_in};
 ghost use Rattle.elimination_tallies.specs.Leading.{Leads, NonePass};
-ghost use Rattle.elimination_tallies.specs.Scanning.{AreScanned, IsCandidate, exceeds, tally_at};
+ghost use Rattle.elimination_tallies.specs.Scanning.{AreScanned, IsCandidate, is_greater_fraction, tally_at};
 
 use crate::listed::Listed;
 use crate::numbers::Numbers;
@@ -23,7 +23,7 @@ struct Candidate {
 fn better(best: Option<Candidate>, next: Candidate) -> Candidate
     requires best { IfSome best (λ b. IsFraction b.importance) }
     requires next { IsFraction next.importance }
-    ensures { MatchOption best (result ≡ next) (λ b. result ≡ (if exceeds next.importance b.importance then next else b)) }
+    ensures { MatchOption best (result ≡ next) (λ b. result ≡ (if is_greater_fraction next.importance b.importance then next else b)) }
 {
     let Some(best) = best else {
         return next;

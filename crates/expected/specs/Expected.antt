@@ -7,6 +7,6 @@ abbrev pub expect_limit : ℕ
 expect_limit = 16777216
 
 -- The output is as it should be: it equals the bytes of the file that it is to equal, where one is given. One that is too large equals none.
-abbrev pub agrees : Option (List ℕ) → List ℕ → Bool
-agrees None output = true
-agrees (Some bytes) output = nat_le (length bytes) expect_limit && is_word bytes output
+abbrev pub is_expected_output : Option (List ℕ) → List ℕ → Bool
+is_expected_output None output = true
+is_expected_output (Some bytes) output = nat_le (length bytes) expect_limit && is_word bytes output

@@ -1,7 +1,7 @@
 -- Runs that the definition of the machine computes by itself.
 use Rattle.std.proofs.Common.{◌≡◌, ℕ, ◌%◌, List, [], ◌∷◌, true, pos, codes, refl}
 use Rattle.std.specs.Prelude.{slice_index}
-use Rattle.cbi_base.specs.Words.{pieces_of, printed_format, these, Objects}
+use Rattle.cbi_base.specs.Words.{pieces_of, printed_format, bytes_printed, Objects}
 use Rattle.cbi_base.specs.declared.observation.Observation.{Observation}
 use Rattle.cbi_base.specs.declared.observation.Seen.TheVariants.{First}
 use Rattle.cbi_base.specs.declared.outcome.Outcome.{Outcome}
@@ -18,9 +18,9 @@ use Rattle.flow.specs.declared.site.Site.{Site}
 use Rattle.flow.specs.declared.site.SiteKind.{SiteKind}
 use Rattle.flow.specs.declared.site.SiteKind.TheVariants as kind
 use Rattle.flow.specs.Machine.{MachineEnds, run, next_of, no_work}
-use Rattle.flow.specs.Rows.{act}
+use Rattle.flow.specs.Rows.{row_effect}
 use Rattle.flow.specs.State.{Ending}
-use Rattle.flow.specs.Truths.{looked}
+use Rattle.flow.specs.Truths.{seen_at_site}
 
 abbrev function_of : ℕ → List ℕ → List Node → Function
 function_of params locals nodes = record { name = codes "main"; value = true; params = params; locals = locals; nodes = nodes }
@@ -39,7 +39,7 @@ abbrev ended : Outcome → List ℕ → Ending
 ended outcome output = record { outcome = outcome; output = output; seen = []; work = no_work; drawn = 1 }
 
 -- `printf` of bytes and `%`
-printf_writes : (o : Objects) → printed_format (pieces_of (codes "<%c%%%c>")) (Number Int (pos 65) ∷ Number Int (pos 322) ∷ []) o ≡ these (codes "<A%B>")
+printf_writes : (o : Objects) → printed_format (pieces_of (codes "<%c%%%c>")) (Number Int (pos 65) ∷ Number Int (pos 322) ∷ []) o ≡ bytes_printed (codes "<A%B>")
 printf_writes o = refl
 
 -- eight visits with the bank 3, 1: the visits 3, 4, 7 and 8 are observed
@@ -67,7 +67,7 @@ sampled : MachineEnds
       work = record { fast = 0; slow = 0; tests = 8 };
       drawn = 5;
     })
-unfolding run next_of act looked three_and_one
+unfolding run next_of row_effect seen_at_site three_and_one
 sampled = record { steps = 10; is = refl }
 
 -- a copy is given back once

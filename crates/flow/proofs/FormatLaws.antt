@@ -2,7 +2,7 @@
 use Rattle.std.proofs.Common.{◌≡◌, ℕ, ◌+◌, List, [], ◌∷◌, Bool, true, false, not, ◌&&◌, cond, IsTrue, Option, Some, None, refl, ap, ◌∙◌, arith}
 use Rattle.std.specs.List.{list_all, count_by}
 use Rattle.std.proofs.lemmas.List.Sums.{sum_by-cons}
-use Rattle.cbi_base.specs.Words.{Byte, Conversion, FormatPiece, after_bytes, pieces_of, printed_format, these, is_percent, is_conversion, one_conversion_more}
+use Rattle.cbi_base.specs.Words.{Byte, Conversion, FormatPiece, after_bytes, pieces_of, printed_format, bytes_printed, is_percent, is_conversion, one_conversion_more}
 use Rattle.cbi_base.specs.Words.{conversions_of, Objects}
 use Rattle.cbi_base.specs.declared.scalar.Scalar.{Scalar}
 use Rattle.flow.specs.Laws.{takes_piece}
@@ -15,7 +15,7 @@ from_byte : (b c : ℕ) (rest : List ℕ) → is_percent b ≡ false → pieces_
 from_byte b c rest e =
     ap (λ (p : Bool). cond p ((cond (is_conversion c) (Conversion c) (Byte c)) ∷ pieces_of rest) (Byte b ∷ pieces_of (c ∷ rest))) e
 
-pub plain : (format : List ℕ) (values : List Scalar) (o : Objects) → IsTrue (list_all (λ b. not (is_percent b)) format) → printed_format (pieces_of format) values o ≡ these format
+pub plain : (format : List ℕ) (values : List Scalar) (o : Objects) → IsTrue (list_all (λ b. not (is_percent b)) format) → printed_format (pieces_of format) values o ≡ bytes_printed format
 plain [] values o h = refl
 plain (b ∷ []) values o h = refl
 plain (b ∷ c ∷ rest) values o h =

@@ -6,7 +6,7 @@ use Rattle.std.proofs.lemmas.Int.{ints}
 use Rattle.cbi_base.specs.declared.scalar.Scalar.{Scalar}
 use Rattle.cbi_base.specs.declared.scalar.Scalar.TheVariants.{Place}
 use Rattle.cbi_base.specs.declared.trap.Trap.TheVariants as trap
-use Rattle.cbi_base.specs.Objects.{Object, Objects, live_or, ◌>>=◌, moved, moved_in}
+use Rattle.cbi_base.specs.Objects.{Object, Objects, live_or, ◌>>=◌, moved_pointer, moved_in}
 
 -- what a move answers lies within the object
 in_object : (number n most : ℕ) (there : Scalar) (t : Bool) → (nat_le 0 n && nat_le n most) ≡ t → cond t (Ok (Place number n)) (Err trap.Bounds) ≡ Ok there →
@@ -39,10 +39,10 @@ back_in number offset cells (Some object) there here h =
     let back : pos b.0 +ℤ neg_ℤ cells ≡ pos offset = omega (arith, ints, b.1) in
     (b.0, b.3, ap (λ (z : ℤ). moved_in number z object) back ∙ reaches number offset object within)
 
-pub back : (pointer there : Scalar) (cells : ℤ) (o : Objects) → moved pointer (pos 0) o ≡ Ok pointer → moved pointer cells o ≡ Ok there →
-    moved there (neg_ℤ cells) o ≡ Ok pointer
-unfolding moved
+pub back : (pointer there : Scalar) (cells : ℤ) (o : Objects) → moved_pointer pointer (pos 0) o ≡ Ok pointer → moved_pointer pointer cells o ≡ Ok there →
+    moved_pointer there (neg_ℤ cells) o ≡ Ok pointer
+unfolding moved_pointer
 back (Place number offset) there cells o here h =
     let b = back_in number offset cells (get o.live number) there here h in
-    ap (λ (p : Scalar). moved p (neg_ℤ cells) o) b.1 ∙ b.2
+    ap (λ (p : Scalar). moved_pointer p (neg_ℤ cells) o) b.1 ∙ b.2
 back pointer there cells o here h = cc

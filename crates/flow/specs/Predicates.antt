@@ -2,7 +2,7 @@
 -- has six, how its value stands to 0 or to its partner. They are numbered from 0 through all sites in order.
 use Rattle.std.specs.Prelude.{◌≡◌, ℕ, zero, suc, ◌+◌, ◌-◌, ◌<◌, nat_lt, if◌then◌else◌, List, [], ◌∷◌, take, slice_get, Option, None, Some, sum_by, codes}
 use Rattle.std.specs.Fmt.{signed_decimal}
-use Rattle.cbi_base.specs.Text.{spaced}
+use Rattle.cbi_base.specs.Text.{line_of_fields}
 use Rattle.flow.specs.declared.site.BranchWord.{BranchWord}
 use Rattle.flow.specs.declared.site.BranchWord.TheVariants.{If, While, Do, For, Question, AndAnd, OrOr}
 use Rattle.flow.specs.declared.site.Partner.{Partner}
@@ -68,9 +68,9 @@ partner_text (Constant value) = signed_decimal value
 
 -- the text of a site's predicate with this number
 abbrev pub text_of_kind : SiteKind → ℕ → List ℕ
-text_of_kind (Branch word) number = spaced (branch_word word ∷ codes "is" ∷ truth_word number ∷ [])
-text_of_kind (Return callee) number = spaced (callee ∷ relation_sign number ∷ codes "0" ∷ [])
-text_of_kind (Pair target slot partner) number = spaced (target ∷ relation_sign number ∷ partner_text partner ∷ [])
+text_of_kind (Branch word) number = line_of_fields (branch_word word ∷ codes "is" ∷ truth_word number ∷ [])
+text_of_kind (Return callee) number = line_of_fields (callee ∷ relation_sign number ∷ codes "0" ∷ [])
+text_of_kind (Pair target slot partner) number = line_of_fields (target ∷ relation_sign number ∷ partner_text partner ∷ [])
 
 -- the text of a predicate, by its number among all
 abbrev pub predicate_text : List Site → ℕ → List ℕ

@@ -4,7 +4,7 @@ use Rattle.std.specs.List.{flat_map}
 use Rattle.std.specs.Fmt.{signed_decimal}
 use Rattle.std.specs.Ordering.{int_eq}
 use Rattle.hex.specs.Hex.{encode_lower}
-use Rattle.cbi_base.specs.Text.{spaced, text_of}
+use Rattle.cbi_base.specs.Text.{line_of_fields, text_of}
 use Rattle.cbi_base.specs.declared.scalar.Kind.{Kind}
 use Rattle.cbi_base.specs.declared.scalar.Kind.TheVariants.{Char, Int, Unsigned}
 use Rattle.flow.specs.declared.node.Node.{Node}
@@ -228,12 +228,12 @@ abbrev pub body_rows : Function → List (List (List ℕ))
 body_rows f = locals_fields f.locals ∷ map node_fields f.nodes
 
 -- a word, and a number after it
-abbrev pub counted : List ℕ → ℕ → List (List ℕ)
-counted word count = word ∷ decimal count ∷ []
+abbrev pub word_and_number : List ℕ → ℕ → List (List ℕ)
+word_and_number word count = word ∷ decimal count ∷ []
 
 -- a list: how many lines it has, and a line for each item
 abbrev pub list_rows : {A : Type 0} → List ℕ → (A → List (List ℕ)) → ℕ → List A → List (List (List ℕ))
-list_rows word fields count items = counted word count ∷ map fields items
+list_rows word fields count items = word_and_number word count ∷ map fields items
 
 abbrev pub whole_list : {A : Type 0} → List ℕ → (A → List (List ℕ)) → List A → List (List (List ℕ))
 whole_list word fields items = list_rows word fields (length items) items
@@ -243,13 +243,13 @@ end_row = codes "end" ∷ []
 
 abbrev pub program_rows : ProgramParts → List (List (List ℕ))
 program_rows p =
-    (counted (codes "cbi-program") 1 ∷ whole_list (codes "texts") text_fields p.texts) ++ whole_list (codes "globals") global_fields p.globals
-    ++ whole_list (codes "functions") head_fields (map head_of p.functions) ++ (counted (codes "main") p.main ∷ [])
+    (word_and_number (codes "cbi-program") 1 ∷ whole_list (codes "texts") text_fields p.texts) ++ whole_list (codes "globals") global_fields p.globals
+    ++ whole_list (codes "functions") head_fields (map head_of p.functions) ++ (word_and_number (codes "main") p.main ∷ [])
     ++ whole_list (codes "sites") site_fields p.sites ++ flat_map body_rows p.functions ++ (end_row ∷ [])
 
 -- the text of a program
 abbrev pub program_text : ProgramParts → List ℕ
-program_text p = text_of (map spaced (program_rows p))
+program_text p = text_of (map line_of_fields (program_rows p))
 
 -- the bytes are the text of this program
 pub record SpellsProgram (bytes : List ℕ) (p : ProgramParts) : Type 0 where

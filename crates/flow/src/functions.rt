@@ -1,6 +1,6 @@
-ghost use Rattle.std.specs.Prelude.{◌≡◌, ◌↔◌, ◌<◌, ◌≤◌, ◌^◌, length, take, IsTrue, IfOk, OnOk};
+ghost use Rattle.std.specs.Prelude.{◌≡◌, ◌↔◌, ◌<◌, ◌≤◌, ◌^◌, length, IsTrue, IfOk};
 ghost use Rattle.std.specs.List.{All, sum_by};
-ghost use Rattle.flow.specs.Limits.{function_limit, local_limit, node_limit};
+ghost use Rattle.flow.specs.Limits.{local_limit, node_limit};
 ghost use Rattle.flow.specs.Program.{AreDistinct, AreFew, AreLocals, FunctionsFit, HasMain, IsFunction, IsMain, bounds_of, is_size};
 
 use crate::program::Function;

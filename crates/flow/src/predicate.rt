@@ -1,5 +1,5 @@
 ghost use Rattle.std.specs.Prelude.{◌≡◌, ◌≤◌, ◌<◌, [], ◌∷◌, ℕ, List, All, IfOk, Some, length};
-ghost use Rattle.cbi_base.specs.Text.{spaced};
+ghost use Rattle.cbi_base.specs.Text.{line_of_fields};
 ghost use Rattle.flow.specs.declared.site.Site.{Site};
 ghost use Rattle.flow.specs.Predicates.{IsPlaced, IsPredicate, branch_word, partner_text, predicate_count, predicate_text, predicates_of, relation_sign};
 ghost use Rattle.flow.specs.Predicates.{site_at, text_of_kind, truth_word};
@@ -66,7 +66,7 @@ fn relation_sign(number: u32) -> &'static [u8]
 
 /// Three words, parted by spaces.
 fn three_words(alloc: Global, first: &[u8], second: &[u8], third: &[u8]) -> Result<Vec<u8>, Memory>
-    ensures { IfOk result (λ text. text.items ≡ spaced (first.now ∷ second.now ∷ third.now ∷ [])) }
+    ensures { IfOk result (λ text. text.items ≡ line_of_fields (first.now ∷ second.now ∷ third.now ∷ [])) }
 {
     let mut text = Vec::from_slice(alloc, first)?;
     text.push(b' ')?;
@@ -83,7 +83,7 @@ fn pair_text(
     number: u32,
     partner: &Partner,
 ) -> Result<Vec<u8>, Memory>
-    ensures { IfOk result (λ text. text.items ≡ spaced (target.now ∷ relation_sign number ∷ partner_text partner.now ∷ [])) }
+    ensures { IfOk result (λ text. text.items ≡ line_of_fields (target.now ∷ relation_sign number ∷ partner_text partner.now ∷ [])) }
 {
     let sign = relation_sign(number);
     match partner {

@@ -1,7 +1,7 @@
 ghost use Rattle.std.specs.Prelude.{◌≡◌, ◌↔◌, ◌<◌, ◌≤◌, ◌^◌, length, map, IsTrue, IfOk};
 ghost use Rattle.std.specs.List.{All, sum_by};
 ghost use Rattle.cbi_base.specs.Format.{conversions_of};
-ghost use Rattle.flow.specs.Limits.{text_limit, byte_limit, global_limit, static_limit};
+ghost use Rattle.flow.specs.Limits.{byte_limit, static_limit};
 ghost use Rattle.flow.specs.Program.{AreTexts, AreGlobals, GlobalFits, cell_fits};
 
 use crate::program::{Cell, Global, Text};

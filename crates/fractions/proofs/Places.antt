@@ -2,7 +2,7 @@ use Rattle.std.proofs.Common.{le_trans, ◌≡◌, ℕ, zero, suc, ◌+◌, ◌*
 use Rattle.std.proofs.Math.Nat.{one-mul, one-le-pow, pow-zero, pow-suc, mul-le-mul, mul-le-mul_left, mul-le-mul_right, le_of_mul-le-mul_right, lt_of_mul-lt-mul_right, div-mul-le_self, lt-div-mul-add}
 use Rattle.std.proofs.lemmas.Nat.{pow-add, mul-pow, pow_pos, mul-lt, le-div, div_below}
 use Rattle.std.proofs.lemmas.Bool.{cases_lt, lt-leb, le-leb}
-use Rattle.fractions.specs.Logarithm.{square_of, first_place, rest_of, places}
+use Rattle.fractions.specs.Logarithm.{square_of, first_place, rest_of, logarithm_places}
 
 -- one step of the repeated squaring
 pub data Step (m : ℕ) : ℕ → ℕ → Type 0 where
@@ -15,8 +15,8 @@ step m = elim (cases_lt (square_of m) (2 ^ 63)) [
   | inr above ↦ subst (λ b. Step m (cond b 1 0) (cond b (square_of m / 2) (square_of m))) (sym (le-leb (2 ^ 63) (square_of m) above)) (set above)
 ]
 
-pub places-suc : (count m : ℕ) → places (suc count) m ≡ first_place m * 2 ^ count + places count (rest_of m)
-unfolding places
+pub places-suc : (count m : ℕ) → logarithm_places (suc count) m ≡ first_place m * 2 ^ count + logarithm_places count (rest_of m)
+unfolding logarithm_places
 places-suc count m = refl
 
 -- the squaring keeps a mantissa in its range
@@ -38,11 +38,11 @@ Step-place (clear _) = omega arith
 Step-place (set _) = omega arith
 
 -- all places together are worth less than one place before them
-pub places-below : (count m : ℕ) → places count m < 2 ^ count
-unfolding places
+pub places-below : (count m : ℕ) → logarithm_places count m < 2 ^ count
+unfolding logarithm_places
 places-below zero m = omega (arith, pow-zero 2)
 places-below (suc count) m =
-    room (first_place m) (2 ^ count) (places count (rest_of m)) (2 ^ suc count) (Step-place (step m)) (places-below count (rest_of m)) (pow-suc 2 count)
+    room (first_place m) (2 ^ count) (logarithm_places count (rest_of m)) (2 ^ suc count) (Step-place (step m)) (places-below count (rest_of m)) (pow-suc 2 count)
   where
     room : (place power rest next : ℕ) → place ≤ 1 → rest < power → next ≡ power * 2 → place * power + rest < next
     room place power rest next small below twice = omega (arith, mul-le-mul_right power small)
@@ -64,12 +64,12 @@ Step-monotone {m} {n} (set above) (clear below) order = absurd (between (square_
 Step-monotone {m} {n} (set _) (set _) order = inl (refl, half-monotone (square_of m) (square_of n) order)
 
 -- so the first place that differs decides
-pub places-monotone : (count m n : ℕ) → m ≤ n → places count m ≤ places count n
-unfolding places
+pub places-monotone : (count m n : ℕ) → m ≤ n → logarithm_places count m ≤ logarithm_places count n
+unfolding logarithm_places
 places-monotone zero m n order = omega arith
 places-monotone (suc count) m n order = elim (Step-monotone (step m) (step n) (square-monotone m n order)) [
-  | inl same ↦ alike (first_place m) (first_place n) (2 ^ count) (places count (rest_of m)) (places count (rest_of n)) same.0 (places-monotone count (rest_of m) (rest_of n) same.1)
-  | inr less ↦ decided (first_place m) (first_place n) (2 ^ count) (places count (rest_of m)) (places count (rest_of n)) less (places-below count (rest_of m))
+  | inl same ↦ alike (first_place m) (first_place n) (2 ^ count) (logarithm_places count (rest_of m)) (logarithm_places count (rest_of n)) same.0 (places-monotone count (rest_of m) (rest_of n) same.1)
+  | inr less ↦ decided (first_place m) (first_place n) (2 ^ count) (logarithm_places count (rest_of m)) (logarithm_places count (rest_of n)) less (places-below count (rest_of m))
 ]
   where
     alike : (place place' power rest rest' : ℕ) → place ≡ place' → rest ≤ rest' → place * power + rest ≤ place' * power + rest'
@@ -116,8 +116,8 @@ lower-step m s place rest x l root half bound =
 pow-one : (x : ℕ) → x ^ 1 ≡ x
 pow-one x = pow-suc x 0 ∙ ap (λ p. p * x) (pow-zero x) ∙ one-mul x
 
-pub places-lower : (count l m x : ℕ) → 2 ^ 62 ≤ m → m < 2 ^ 63 → m * 2 ^ l ≤ x * 2 ^ 62 → 2 ^ (l * 2 ^ count + places count m) ≤ x ^ (2 ^ count)
-unfolding places
+pub places-lower : (count l m x : ℕ) → 2 ^ 62 ≤ m → m < 2 ^ 63 → m * 2 ^ l ≤ x * 2 ^ 62 → 2 ^ (l * 2 ^ count + logarithm_places count m) ≤ x ^ (2 ^ count)
+unfolding logarithm_places
 places-lower zero l m x one_or_more below_two bound =
     let last : l * 2 ^ 0 + 0 ≡ l = omega (arith, pow-zero 2) in
     rw (last, pow-one x) (le_of_mul-le-mul_right {k = 2 ^ 62} (omega (arith, bound, mul-le-mul_right (2 ^ l) one_or_more)) (omega arith))
@@ -126,8 +126,8 @@ places-lower (suc count) l m x one_or_more below_two bound =
     let range = Step-range this one_or_more below_two in
     let next = lower-step m (square_of m) (first_place m) (rest_of m) x l (div-mul-le_self (m * m) (2 ^ 62)) (Step-square this).0 bound in
     let rest = places-lower count (l + l + first_place m) (rest_of m) (x * x) range.0 range.1 next in
-    subst (λ e. 2 ^ e ≤ x ^ (2 ^ suc count)) (exponent-step l (first_place m) count (places count (rest_of m)))
-    (subst (λ p. 2 ^ ((l + l + first_place m) * 2 ^ count + places count (rest_of m)) ≤ p) (square-power x count) rest)
+    subst (λ e. 2 ^ e ≤ x ^ (2 ^ suc count)) (exponent-step l (first_place m) count (logarithm_places count (rest_of m)))
+    (subst (λ p. 2 ^ ((l + l + first_place m) * 2 ^ count + logarithm_places count (rest_of m)) ≤ p) (square-power x count) rest)
 
 -- what one step adds to the error of the mantissa
 upper-step : (m place rest x l error : ℕ) → 2 ^ 62 ≤ m → m < 2 ^ 63 → Step m place rest → 1 ≤ error → error ≤ 2 ^ 62
@@ -148,8 +148,8 @@ last-step m x l error below_two small bound =
     lt_of_mul-lt-mul_right (2 ^ 62) (omega (arith, bound, pow-add 2 l 2, mul-le-mul_right (2 ^ l) whole))
 
 pub places-upper : (count l m x error : ℕ) → 2 ^ 62 ≤ m → m < 2 ^ 63 → 1 ≤ error → error * 8 ^ count ≤ 2 ^ 62
-    → x * 2 ^ 62 < (m + error) * 2 ^ l → x ^ (2 ^ count) < 2 ^ (l * 2 ^ count + places count m + 2)
-unfolding places
+    → x * 2 ^ 62 < (m + error) * 2 ^ l → x ^ (2 ^ count) < 2 ^ (l * 2 ^ count + logarithm_places count m + 2)
+unfolding logarithm_places
 places-upper zero l m x error one_or_more below_two some small bound =
     let last : l ≡ l * 2 ^ 0 + 0 = omega (arith, pow-zero 2) in
     subst (λ e. x ^ 1 < 2 ^ (e + 2)) last (subst (λ y. y < 2 ^ (l + 2)) (sym (pow-one x)) (last-step m x l error below_two (omega (arith, small, pow-zero 8)) bound))
@@ -159,8 +159,8 @@ places-upper (suc count) l m x error one_or_more below_two some small bound =
     let room = spent error (8 ^ count) (8 ^ suc count) (pow-suc 8 count) (pow_pos' count) small in
     let next = upper-step m (first_place m) (rest_of m) x l error one_or_more below_two this some room.0 bound in
     let rest = places-upper count (l + l + first_place m) (rest_of m) (x * x) (8 * error) range.0 range.1 (omega arith) room.1 next in
-    subst (λ e. x ^ (2 ^ suc count) < 2 ^ (e + 2)) (exponent-step l (first_place m) count (places count (rest_of m)))
-    (subst (λ p. p < 2 ^ ((l + l + first_place m) * 2 ^ count + places count (rest_of m) + 2)) (square-power x count) rest)
+    subst (λ e. x ^ (2 ^ suc count) < 2 ^ (e + 2)) (exponent-step l (first_place m) count (logarithm_places count (rest_of m)))
+    (subst (λ p. p < 2 ^ ((l + l + first_place m) * 2 ^ count + logarithm_places count (rest_of m) + 2)) (square-power x count) rest)
   where
     pow_pos' : (k : ℕ) → 1 ≤ 8 ^ k
     pow_pos' k = one-le-pow k 8 (omega arith)

@@ -36,13 +36,13 @@ abbrev pub rest_of : ℕ → ℕ
 rest_of m = if reaches_two m then square_of m / 2 else square_of m
 
 -- the first places of a mantissa's logarithm, as many as are wanted, read as one number
-unfoldable pub places : ℕ → ℕ → ℕ
-places zero m = 0
-places (suc count) m = first_place m * 2 ^ count + places count (rest_of m)
+unfoldable pub logarithm_places : ℕ → ℕ → ℕ
+logarithm_places zero m = 0
+logarithm_places (suc count) m = first_place m * 2 ^ count + logarithm_places count (rest_of m)
 
 -- the binary logarithm in parts of 65536: the exponent, and then sixteen binary places
 unfoldable pub log_of : ℕ → ℕ
-log_of n = exponent_of n * 65536 + places 16 (mantissa_of n)
+log_of n = exponent_of n * 65536 + logarithm_places 16 (mantissa_of n)
 
 -- l / 65536 is at most the binary logarithm of n, and lacks less than 2 / 65536
 unfoldable pub IsLogarithm : ℕ → ℕ → Type 0

@@ -11,7 +11,6 @@ use Rattle.flow.specs.declared.program.ProgramParts.{ProgramParts}
 use Rattle.flow.specs.declared.site.Site.{Site}
 use Rattle.flow.specs.Words.{counts_of, run_result, OneEnding, SpellsProgram}
 use Rattle.probes.specs.Told.{AllGrew}
-use Rattle.countdown_bank.specs.Bank.{number_after}
 use Rattle.report_file.specs.declared.report.Report.{Report}
 use Rattle.report_file.specs.Label.{label_of}
 use Rattle.report_file.specs.Report.{entries_of}
@@ -21,8 +20,8 @@ use Rattle.compiler.specs.declared.plan.Plan.{Plan}
 use Rattle.compiler.proofs.Refusing.{OneKnown, OneTree}
 use Rattle.command_base.specs.Outside.{Outside}
 use Rattle.cbi_options.specs.declared.words.RunWords.{RunWords}
-use Rattle.command_run.specs.Run.{IsReported, Ran, Reports, agrees, report_of}
-use Rattle.headline.specs.Chain.{GoesAsMeant, IsReportOf, Made, meant, meant_report, meant_sites}
+use Rattle.command_run.specs.Run.{IsReported, Ran, Reports, is_expected_output, report_of}
+use Rattle.headline.specs.Chain.{IsReportOf, Made, meant_behaviour, meant_report, meant_sites}
 use Rattle.headline.specs.Running.{DoesAsMeant, ReportsAsMeant, made_of}
 use Rattle.headline.proofs.Chaining.{OneProgram}
 use Rattle.headline.proofs.Ranking.{run-goes}
@@ -49,21 +48,18 @@ report-by made work outcome output sites seen = record {
   program = record { bytes = sha256 made.files.program };
   run = made.words.run;
   outcome = outcome;
-  label = label_of outcome (agrees made.files.expect output);
+  label = label_of outcome (is_expected_output made.files.expect output);
   work = work;
   entries = entries_of (counts_of sites seen);
 }
 
 module _ (one_ending : OneEnding) (one_program : OneProgram) (one_tree : OneTree) (one_known : OneKnown) (text file : List ℕ) (by : Plan) (p : ProgramParts) (compiled : IsCompiled text by p) (spells : SpellsProgram file p)
     (tree : SourceTree) (known : Walk) (accepted : IsAccepted text tree known) where
-  goes-so : (made : Made) (report : Report) (is : IsReportOf file made report) → GoesAsMeant tree known by made.files.input (number_after made.bank) made.words.turns is.parts is.ending
-  goes-so made report is = run-goes one_ending one_program one_tree one_known text file by p compiled spells tree known accepted made report is
-
   -- a report is that of the meaning, but for its work
   pub report-means : (made : Made) (report : Report) (is : IsReportOf file made report) → report ≡ meant_report tree known by made.files.program is.ending.work made
   report-means made report is =
-      let goes = goes-so made report is in
-      let m = meant tree known by made.files.input made.words.turns in
+      let goes = run-goes one_ending one_program one_tree one_known text file by p compiled spells tree known accepted made report is in
+      let m = meant_behaviour tree known by made.files.input made.words.turns in
       is.report_is
       ∙ ap (λ o. report-by made is.ending.work o is.ending.output is.parts.sites is.ending.seen) goes.goes.outcome
       ∙ ap (λ w. report-by made is.ending.work m.outcome w is.parts.sites is.ending.seen) goes.goes.output
@@ -84,7 +80,7 @@ module _ (one_ending : OneEnding) (one_program : OneProgram) (one_tree : OneTree
       → DoesAsMeant tree known by (made_of r before.held after.held ran.is) told before after
   unfolding is-report-of
   does-as-meant told r before after ran same =
-      let goes = goes-so (made_of r before.held after.held ran.is) (report_in r before.held after.held ran.is) (is-report-of file r before.held after.held ran.is same) in record {
+      let goes = run-goes one_ending one_program one_tree one_known text file by p compiled spells tree known accepted (made_of r before.held after.held ran.is) (report_in r before.held after.held ran.is) (is-report-of file r before.held after.held ran.is same) in record {
         reports = reports-as-meant r before.held after.held ran.is same;
         took = subst (Takes before.out after.out) goes.goes.output ran.took;
         grew = subst (λ v. AllGrew told v before.boxes after.boxes) goes.goes.seen_is ran.grew;

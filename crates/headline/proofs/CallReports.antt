@@ -1,14 +1,13 @@
 -- The reports that `runs` collects are those of its calls.
-use Rattle.std.proofs.Common.{arith, ◌≡◌, ℕ, suc, pred, List, [], ◌∷◌, length, Option, IsSome, ap, sym, subst, ◌∙◌, refl}
+use Rattle.std.proofs.Common.{arith, ◌≡◌, ℕ, suc, pred, List, [], ◌∷◌, length, Option, IsSome, ap, sym, subst, ◌∙◌}
 use Rattle.sha2.specs.Sha256.{sha256}
 use Rattle.cbi_base.specs.Store.{Held}
 use Rattle.cbi_base.specs.declared.identity.ProgramId.{ProgramId}
 use Rattle.flow.specs.declared.program.ProgramParts.{ProgramParts}
-use Rattle.flow.specs.Words.{run_result, MachineEnds, SpellsProgram}
+use Rattle.flow.specs.Words.{MachineEnds, SpellsProgram}
 use Rattle.countdown_bank.specs.Bank.{number_after}
 use Rattle.planned_runs.specs.declared.input.RunInput.{RunInput}
 use Rattle.planned_runs.specs.Runs.{ArePlannedRuns, IsPlannedRun, JudgedRun, planned_report, planned_reports}
-use Rattle.command_run.specs.Run.{report_of}
 use Rattle.command_runs.specs.declared.plan.ListedPlan.{ListedPlan}
 use Rattle.command_runs.specs.Line.{IsMadeOn}
 use Rattle.command_runs.specs.Once.{given-once}

@@ -14,9 +14,9 @@ use Rattle.collector.specs.Collecting.{bundle_of}
 use Rattle.collector.specs.Order.{SameReports, map_of}
 use Rattle.collector.specs.Spelling.{SpellsBundle, bundle_text}
 use Rattle.elimination_tallies.specs.declared.labelled.LabelledRun.{LabelledRun}
-use Rattle.elimination_tallies.specs.Recount.{labelled, runs_of}
+use Rattle.elimination_tallies.specs.Recount.{run_of_report, runs_of}
 use Rattle.ranking.specs.Ranked.{IsRankingOf}
-use Rattle.site_parts.specs.Widened.{widened, widened_report}
+use Rattle.site_parts.specs.Widened.{widened_entries, widened_report}
 use Rattle.compiler.specs.Accepted.{IsAccepted}
 use Rattle.compiler.proofs.Refusing.{OneKnown, OneTree}
 use Rattle.cbi_options.specs.declared.words.TransformWords.{TransformWords}
@@ -29,7 +29,7 @@ use Rattle.command_widen.specs.Widen.{widened_as}
 use Rattle.headline.specs.Chain.{AreEach, AreReportsOf, IsReportOf, Made, meant_table}
 use Rattle.headline.specs.Farm.{HoldParts, IsLeftByWiden, PartRun, meant_part_run, part_runs, run_number}
 use Rattle.headline.specs.Farm.HoldParts.{APart, NoParts, SomeParts}
-use Rattle.headline.specs.Handed.{IsLeftByCollect, by_number, firsts}
+use Rattle.headline.specs.Handed.{IsLeftByCollect, by_number, firsts_by_number}
 use Rattle.headline.specs.Laws.{AWidenedCollectionIsOfTheWhole}
 use Rattle.headline.proofs.Chaining.{OneProgram}
 use Rattle.headline.proofs.Firsts.{each-both, each-first}
@@ -44,7 +44,7 @@ widened-titled b = refl
 -- the report is of that run, and shows what the text means of it
 record IsPartReport (tree : SourceTree) (known : Walk) (run : PartRun) (r : Report) : Type 0 where
   pub number : run.made.words.run ≡ r.run
-  pub means : labelled r ≡ meant_part_run tree known run
+  pub means : run_of_report r ≡ meant_part_run tree known run
 
 seen-each : (tree : SourceTree) (known : Walk) (runs : List PartRun) (reports : List Report) → AreEach (IsPartReport tree known) runs reports → runs_of reports ≡ map (meant_part_run tree known) runs
 seen-each tree known [] [] are = refl
@@ -58,7 +58,7 @@ module _ (one_ending : OneEnding) (one_program : OneProgram) (one_tree : OneTree
       → IsPartReport tree known (record { words = words; share = share; made = one }) (widened_report id share r)
   part-report words share file id is one r of_run = record {
     number = ap (λ (x : Report). x.run) (sym of_run.report_is);
-    means = ap (λ (run : LabelledRun). record run { entries = widened share run.entries })
+    means = ap (λ (run : LabelledRun). record run { entries = widened_entries share run.entries })
         (run-means one_ending one_program one_tree one_known text file (plan_of words) is.program is.compiled is.spells tree known accepted one r of_run);
   }
 
@@ -148,7 +148,7 @@ module _ (one_ending : OneEnding) (one_program : OneProgram) (one_tree : OneTree
     -- the ranking of such a collection
     pub ranks-farm : (words : TransformWords) (collection ranking : List ℕ) (runs : List PartRun) (texts : List (List ℕ)) (held : Option Held) (r : RankWords) → IsFileOf words text whole → HoldParts text whole runs texts
         → IsLeftByCollect whole texts collection → (ranked : IsRanked held r ranking) → ranked.texts.program ≡ whole → ranked.texts.collection ≡ collection
-        → IsRankingOf (meant_table tree known (plan_of words)) r.policy (map (meant_part_run tree known) (firsts run_number runs)) ranking
+        → IsRankingOf (meant_table tree known (plan_of words)) r.policy (map (meant_part_run tree known) (firsts_by_number run_number runs)) ranking
     ranks-farm words collection ranking runs texts held r is hold left ranked program_is collection_is =
         let c = left.collected.collection in
         let within = held-parts hold in
@@ -157,8 +157,8 @@ module _ (one_ending : OneEnding) (one_program : OneProgram) (one_tree : OneTree
         let same : b ≡ bundle_of c = one_collection collection b (bundle_of c) spelled (collection-spelled written collection c left.collected.gathered.fits left.collected.text_is) in
         let reports : b.reports ≡ map_of within.reports = ap (λ (x : Bundle). x.reports) same ∙ is-mapped texts collection left runs within in
         let each = each-first (IsPartReport tree known) run_number (λ run x of_run. of_run.number) runs within.reports within.are in
-        let seen : runs_of b.reports ≡ map (meant_part_run tree known) (firsts run_number runs) = ap runs_of reports ∙ seen-each tree known (firsts run_number runs) (map_of within.reports) each in
+        let seen : runs_of b.reports ≡ map (meant_part_run tree known) (firsts_by_number run_number runs) = ap runs_of reports ∙ seen-each tree known (firsts_by_number run_number runs) (map_of within.reports) each in
         let table = table-means one_ending one_program one_tree one_known text whole (plan_of words) is.program is.compiled is.spells tree known accepted ranked.parts
         (subst (λ bytes. SpellsProgram bytes ranked.parts) program_is ranked.spell.spell.program) in
-        subst (λ t. IsRankingOf t r.policy (map (meant_part_run tree known) (firsts run_number runs)) ranking) table
+        subst (λ t. IsRankingOf t r.policy (map (meant_part_run tree known) (firsts_by_number run_number runs)) ranking) table
         (subst (λ rs. IsRankingOf (table_of ranked.parts) r.policy rs ranking) seen ranked.ranking)

@@ -6,7 +6,7 @@ use Rattle.collector.specs.Collected.{with_report}
 use Rattle.collector.specs.Order.{map_of}
 use Rattle.collector.proofs.Ordering.{with_by}
 use Rattle.headline.specs.Chain.{AreEach}
-use Rattle.headline.specs.Handed.{firsts, with_first}
+use Rattle.headline.specs.Handed.{firsts_by_number, with_first}
 
 module _ {A : Type 0} (R : A → Report → Type 0) where
   pub each-both : (a b : List A) (xs ys : List Report) → AreEach R a xs → AreEach R b ys → AreEach R (a ++ b) (xs ++ ys)
@@ -32,8 +32,8 @@ module _ {A : Type 0} (R : A → Report → Type 0) where
         subst (λ n. AreEach R (with_first number one (x ∷ more)) (with_by (nat_lt n y.run) (n == y.run) r y reports others)) (numbered one r is)
         (subst (λ n. AreEach R (with_first number one (x ∷ more)) (with_by (nat_lt (number one) n) (number one == n) r y reports others)) (numbered x y are.0) goes)
 
-    pub each-first : (all : List A) (reports : List Report) → AreEach R all reports → AreEach R (firsts number all) (map_of reports)
+    pub each-first : (all : List A) (reports : List Report) → AreEach R all reports → AreEach R (firsts_by_number number all) (map_of reports)
     each-first [] [] are = tt
     each-first [] (r ∷ reports) are = absurd are
     each-first (one ∷ all) [] are = absurd are
-    each-first (one ∷ all) (r ∷ reports) are = placed one r (firsts number all) (map_of reports) are.0 (each-first all reports are.1)
+    each-first (one ∷ all) (r ∷ reports) are = placed one r (firsts_by_number number all) (map_of reports) are.0 (each-first all reports are.1)

@@ -12,7 +12,7 @@ use Rattle.report_file.specs.declared.report.Report.{Report}
 use Rattle.collector.specs.Sites.{branches_of}
 use Rattle.elimination_tallies.specs.declared.labelled.LabelledRun.{LabelledRun}
 use Rattle.elimination_tallies.specs.declared.listed.Listed.{Listed}
-use Rattle.elimination_tallies.specs.Recount.{fails, is_true, labelled, recount, runs_of}
+use Rattle.elimination_tallies.specs.Recount.{is_failing, is_true, run_of_report, recount, runs_of}
 use Rattle.elimination.specs.Elimination.{IsElimination}
 use Rattle.affinity.specs.declared.dealing.Card.{Card}
 use Rattle.affinity.specs.Cards.{AreCards, IsCard, IsLeastOf, failing_true, is_failing_true}
@@ -32,7 +32,7 @@ abbrev AreSeenAlike : List Report → List Report → Type 0
 AreSeenAlike [] [] = Unit {0}
 AreSeenAlike [] (y ∷ ys) = ⊥
 AreSeenAlike (x ∷ xs) [] = ⊥
-AreSeenAlike (x ∷ xs) (y ∷ ys) = (x.run ≡ y.run) × (labelled x ≡ labelled y) × AreSeenAlike xs ys
+AreSeenAlike (x ∷ xs) (y ∷ ys) = (x.run ≡ y.run) × (run_of_report x ≡ run_of_report y) × AreSeenAlike xs ys
 
 seen-runs : (xs ys : List Report) → AreSeenAlike xs ys → runs_of xs ≡ runs_of ys
 seen-runs [] [] alike = refl
@@ -54,7 +54,7 @@ module _ (branches : List Bool) (p : ℕ) where
   seen-failing (x ∷ xs) [] alike = absurd alike
   seen-failing (x ∷ xs) (y ∷ ys) alike =
       let others = filter (is_failing_true branches p) xs in
-      ap (λ (run : LabelledRun). map number_of (cond (fails run.label && is_true branches p run) (x ∷ others) others)) alike.1
+      ap (λ (run : LabelledRun). map number_of (cond (is_failing run.label && is_true branches p run) (x ∷ others) others)) alike.1
       ∙ failing-by (is_failing_true branches p y) x y others (filter (is_failing_true branches p) ys) alike.0 (seen-failing xs ys alike.2)
 
 seen-card : (branches : List Bool) (xs ys : List Report) (p : ℕ) (c : Card) → AreSeenAlike xs ys → IsCard branches xs p c → IsCard branches ys p c

@@ -9,8 +9,7 @@ use Rattle.flow.specs.Program.{table_of}
 use Rattle.report_file.specs.declared.report.Report.{Report}
 use Rattle.collector.specs.declared.collection.Bundle.{Bundle}
 use Rattle.collector.specs.Order.{map_of}
-use Rattle.collector.specs.Spelling.{IsText, RunsFrom, SpellsBundle}
-use Rattle.collector.specs.Spelling.SpellsBundle.{WithLabels, Without}
+use Rattle.collector.specs.Spelling.{RunsFrom, SpellsBundle}
 use Rattle.collector.proofs.Ordering.{from-rising, map-members, rising-alike, rising-map, rising-once}
 use Rattle.elimination_tallies.specs.Recount.{runs_of}
 use Rattle.ranking.specs.Ranked.{IsRankingOf}

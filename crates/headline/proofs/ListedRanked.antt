@@ -1,5 +1,5 @@
 -- What `runs` writes is what is collected of its calls, and what is ranked are its runs.
-use Rattle.std.proofs.Common.{◌≡◌, ◌≤◌, ◌<◌, ◌+◌, ℕ, suc, Bool, List, [], ◌∷◌, length, Option, None, IsSome, ap, sym, subst, ◌∙◌, refl, arith}
+use Rattle.std.proofs.Common.{◌≡◌, ◌≤◌, ◌<◌, ◌+◌, ℕ, suc, Bool, List, [], ◌∷◌, length, Option, None, ap, sym, subst, ◌∙◌, refl, arith}
 use Rattle.sha2.specs.Sha256.{sha256}
 use Rattle.cbi_base.specs.Store.{Held}
 use Rattle.cbi_base.specs.declared.identity.ProgramId.{ProgramId}
@@ -18,14 +18,14 @@ use Rattle.collector.specs.Order.{map_of}
 use Rattle.collector.specs.Sites.{branches_of}
 use Rattle.collector.specs.Spelling.{SpellsBundle, collection_text}
 use Rattle.planned_runs.specs.declared.input.RunInput.{RunInput}
-use Rattle.planned_runs.specs.Runs.{ArePlannedRuns, JudgedRun, planned_reports}
+use Rattle.planned_runs.specs.Runs.{ArePlannedRuns, JudgedRun}
 use Rattle.command_run.specs.Run.{IsBankOf}
 use Rattle.command_collect.specs.Collect.{reports_in}
 use Rattle.command_runs.specs.declared.plan.ListedPlan.{ListedPlan}
 use Rattle.cbi_options.specs.declared.words.RunsWords.{RunsWords}
 use Rattle.command_runs.specs.Line.{IsMadeOn, bank_numbers}
 use Rattle.command_runs.specs.Runs.{runs_collection}
-use Rattle.headline.specs.Calls.{AreCallsFor, IsCallFor, IsLeftByRuns}
+use Rattle.headline.specs.Calls.{AreCallsFor, IsLeftByRuns}
 use Rattle.headline.specs.Chain.{AreReportsOf, Made}
 use Rattle.headline.specs.Handed.{HoldRuns, IsLeftByCollect}
 use Rattle.headline.proofs.CallReports.{left-reports}

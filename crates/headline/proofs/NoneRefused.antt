@@ -17,7 +17,7 @@ use Rattle.collector.specs.Collecting.{bundle_of}
 use Rattle.collector.specs.Order.{AreAlike, map_of}
 use Rattle.collector.proofs.Ordering.{alike-same}
 use Rattle.elimination_tallies.specs.declared.labelled.LabelledRun.{LabelledRun}
-use Rattle.elimination_tallies.specs.Recount.{labelled}
+use Rattle.elimination_tallies.specs.Recount.{run_of_report}
 use Rattle.command_run.specs.declared.files.RunFiles.{RunFiles}
 use Rattle.cbi_options.specs.declared.words.RunWords.{RunWords}
 use Rattle.command_run.specs.Files.{AreFiles, IsReadOr, bank_limit, input_limit, text_of_one}
@@ -81,7 +81,7 @@ module _ (one_report : OneReport) (one_collection : OneCollection) (written : Wr
       (same-refused-runs held program collection texts refused.texts tells are refused.are_texts refused.refused)
 
   module _ (members : HasMembers) (has_same : HasSame) (groups : GroupsRefused) (taken : TakenFault) (one_ending : OneEnding) (one_bank : OneBankText) (fits : ReportsOfRunsAreTaken)
-      (p : ProgramParts) (spells : SpellsProgram file p) (run : Made → LabelledRun) (means : (one : Made) (r : Report) → IsReportOf file one r → labelled r ≡ run one) where
+      (p : ProgramParts) (spells : SpellsProgram file p) (run : Made → LabelledRun) (means : (one : Made) (r : Report) → IsReportOf file one r → run_of_report r ≡ run one) where
     none-refused : (made : List Made) (files : List (List ℕ)) → HoldRuns file made files → AreOneByNumber made → length (by_number made) ≤ report_limit
         → sum_by (λ m. length (run m).entries) (by_number made) ≤ mark_limit → AreRefusedTexts (record { program = file; files = files }) → ⊥
     none-refused made files hold one few few_lines (inl none) = none p spells

@@ -12,11 +12,11 @@ use Rattle.countdown_bank.specs.BankFile.{numbers_text}
 use Rattle.machine_laws.specs.Laws.{ReportsOfRunsAreTaken}
 use Rattle.report_file.specs.declared.report.Report.{Report}
 use Rattle.report_file.specs.Report.{entries_of}
-use Rattle.collector.specs.Collected.{IsOurs, marks_of}
+use Rattle.collector.specs.Collected.{IsOfCollection, marks_of}
 use Rattle.collector.specs.Order.{AreAlike, IsOneOfReports}
 use Rattle.collector.specs.Sites.{branches_of, first_bad}
 use Rattle.elimination_tallies.specs.declared.labelled.LabelledRun.{LabelledRun}
-use Rattle.elimination_tallies.specs.Recount.{labelled}
+use Rattle.elimination_tallies.specs.Recount.{run_of_report}
 use Rattle.command_run.specs.declared.files.RunFiles.{RunFiles}
 use Rattle.command_run.specs.Run.{IsBankOf, report_of}
 use Rattle.command_collect.specs.Collect.{nothing_of}
@@ -84,7 +84,7 @@ module _ (one_ending : OneEnding) (one_program : OneProgram) (one_bank : OneBank
 
   -- each report is of the program and of its sites
   pub ours : ReportsOfRunsAreTaken → (p : ProgramParts) → SpellsProgram file p → (made : List Made) (reports : List Report) → AreReportsOf file made reports
-      → (r : Report) → IsOneOfReports r reports → IsOurs (nothing_of file p.sites) r
+      → (r : Report) → IsOneOfReports r reports → IsOfCollection (nothing_of file p.sites) r
   ours taken p spells made reports are r among =
       let k = has-made file made reports r are among in
       let is = k.is in
@@ -104,7 +104,7 @@ as-many file (one ∷ made) [] are = absurd are
 as-many file (one ∷ made) (r ∷ reports) are = ap suc (as-many file made reports are.1)
 
 -- the entries of reports are those of their runs
-pub lines : (file : List ℕ) (run : Made → LabelledRun) → ((one : Made) (r : Report) → IsReportOf file one r → labelled r ≡ run one) → (made : List Made) (reports : List Report) → AreReportsOf file made reports
+pub lines : (file : List ℕ) (run : Made → LabelledRun) → ((one : Made) (r : Report) → IsReportOf file one r → run_of_report r ≡ run one) → (made : List Made) (reports : List Report) → AreReportsOf file made reports
     → marks_of reports ≡ sum_by (λ m. length (run m).entries) made
 lines file run means [] [] are = refl
 lines file run means [] (r ∷ reports) are = absurd are

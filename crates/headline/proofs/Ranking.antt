@@ -15,20 +15,20 @@ use Rattle.report_file.specs.declared.report.Report.{Report}
 use Rattle.report_file.specs.Label.{label_of}
 use Rattle.report_file.specs.Report.{entries_of}
 use Rattle.elimination_tallies.specs.declared.labelled.LabelledRun.{LabelledRun}
-use Rattle.elimination_tallies.specs.Recount.{labelled, runs_of}
+use Rattle.elimination_tallies.specs.Recount.{run_of_report, runs_of}
 use Rattle.ranking.specs.Ranked.{IsRankingOf}
 use Rattle.compiler.specs.Accepted.{IsAccepted}
 use Rattle.compiler.specs.Compiled.{DoesPlan, IsCompiled}
 use Rattle.compiler.specs.declared.plan.Plan.{Plan}
 use Rattle.compiler.specs.declared.plan.Plan.TheVariants as plan
 use Rattle.compiler.proofs.Refusing.{OneKnown, OneTree, moved}
-use Rattle.command_run.specs.Run.{agrees}
-use Rattle.headline.specs.Chain.{AreReportsOf, GoesAsMeant, IsReportOf, Made, looked_at, meant, meant_run, meant_sites, meant_table}
+use Rattle.command_run.specs.Run.{is_expected_output}
+use Rattle.headline.specs.Chain.{AreReportsOf, GoesAsMeant, IsReportOf, Made, looked_at, meant_behaviour, meant_run, meant_sites, meant_table}
 use Rattle.headline.proofs.Chaining.{OneProgram, bank-positive, runs-as-meant}
 
 -- a run as a ranking sees it, by how it ends, what it writes and what is seen at which sites
 abbrev run-of : Made → Outcome → (output : List ℕ) → List Site → List Observation → LabelledRun
-run-of made outcome output sites seen = record { label = label_of outcome (agrees made.files.expect output); entries = entries_of (counts_of sites seen) }
+run-of made outcome output sites seen = record { label = label_of outcome (is_expected_output made.files.expect output); entries = entries_of (counts_of sites seen) }
 
 -- the sites of a plan are those of its program
 has-sites : (by : Plan) (tree : SourceTree) (known : Walk) (p : ProgramParts) → DoesPlan by tree known p → p.sites ≡ meant_sites tree known by
@@ -46,13 +46,13 @@ has-table text by tree known p names does = is-table (table_of p) (functions_of 
 
 -- a run that goes as the text means it
 as-meant : (made : Made) (tree : SourceTree) (known : Walk) (by : Plan) (p : ProgramParts) (outcome : Outcome) (output : List ℕ) (seen : List Observation)
-    → p.sites ≡ meant_sites tree known by → outcome ≡ (meant tree known by made.files.input made.words.turns).outcome → output ≡ (meant tree known by made.files.input made.words.turns).output
-    → seen ≡ looked_at by (number_after made.bank) (meant tree known by made.files.input made.words.turns).seen → run-of made outcome output p.sites seen ≡ meant_run tree known by made
+    → p.sites ≡ meant_sites tree known by → outcome ≡ (meant_behaviour tree known by made.files.input made.words.turns).outcome → output ≡ (meant_behaviour tree known by made.files.input made.words.turns).output
+    → seen ≡ looked_at by (number_after made.bank) (meant_behaviour tree known by made.files.input made.words.turns).seen → run-of made outcome output p.sites seen ≡ meant_run tree known by made
 as-meant made tree known by p outcome output seen sites_are outcome_is output_is seen_is =
     ap (λ o. run-of made o output p.sites seen) outcome_is
-    ∙ ap (λ w. run-of made (meant tree known by made.files.input made.words.turns).outcome w p.sites seen) output_is
-    ∙ ap (λ t. run-of made (meant tree known by made.files.input made.words.turns).outcome (meant tree known by made.files.input made.words.turns).output t seen) sites_are
-    ∙ ap (λ v. run-of made (meant tree known by made.files.input made.words.turns).outcome (meant tree known by made.files.input made.words.turns).output (meant_sites tree known by) v) seen_is
+    ∙ ap (λ w. run-of made (meant_behaviour tree known by made.files.input made.words.turns).outcome w p.sites seen) output_is
+    ∙ ap (λ t. run-of made (meant_behaviour tree known by made.files.input made.words.turns).outcome (meant_behaviour tree known by made.files.input made.words.turns).output t seen) sites_are
+    ∙ ap (λ v. run-of made (meant_behaviour tree known by made.files.input made.words.turns).outcome (meant_behaviour tree known by made.files.input made.words.turns).output (meant_sites tree known by) v) seen_is
 
 module _ (one_ending : OneEnding) (one_program : OneProgram) (one_tree : OneTree) (one_known : OneKnown) (text file : List ℕ) (by : Plan) (p : ProgramParts) (compiled : IsCompiled text by p) (spells : SpellsProgram file p)
     (tree : SourceTree) (known : Walk) (accepted : IsAccepted text tree known) where
@@ -64,10 +64,10 @@ module _ (one_ending : OneEnding) (one_program : OneProgram) (one_tree : OneTree
       (subst (IsCompiled text by) same compiled) (bank-positive made.bank is.bank_is.numbers) is.ends in
       runs.only tree known accepted
 
-  pub run-means : (made : Made) (report : Report) → IsReportOf file made report → labelled report ≡ meant_run tree known by made
+  pub run-means : (made : Made) (report : Report) → IsReportOf file made report → run_of_report report ≡ meant_run tree known by made
   run-means made report is =
       let goes = run-goes made report is in
-      ap labelled is.report_is
+      ap run_of_report is.report_is
       ∙ as-meant made tree known by is.parts is.ending.outcome is.ending.output is.ending.seen goes.sites goes.goes.outcome goes.goes.output goes.goes.seen_is
 
   pub runs-mean : (made : List Made) (reports : List Report) → AreReportsOf file made reports → runs_of reports ≡ map (meant_run tree known by) made

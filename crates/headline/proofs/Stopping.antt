@@ -13,7 +13,7 @@ use Rattle.collector.specs.declared.answers.Merged.{Merged}
 use Rattle.collector.specs.declared.collection.Bundle.{Bundle}
 use Rattle.collector.specs.declared.collection.Held.{Held as Collected}
 use Rattle.collector.specs.Collected.{mark_limit, marks_of, report_limit}
-use Rattle.collector.specs.Collecting.{AreOurs, IsCollection, MayTake}
+use Rattle.collector.specs.Collecting.{AreOfCollection, IsCollection, MayTake}
 use Rattle.collector.specs.Merging.{AddsAll, OfAnother, OfThis}
 use Rattle.collector.specs.Order.{AreAlike, map_of}
 use Rattle.command_collect.specs.Collect.{MeetsFault, nothing_of, reports_in}
@@ -64,7 +64,7 @@ TakenFault = (c after : Collected) (reports : List Report) (why : AddFault) → 
 
 -- bundles whose reports may be taken stop for want of memory alone
 pub only-memory : GroupsRefused → TakenFault → (program : List ℕ) (sites : List Site) (bundles : List Bundle) (why : AddFault) → IsId (record { bytes = sha256 program })
-    → AreOfFile program bundles → AreOurs (nothing_of program sites) (reports_in bundles) → AreAlike (reports_in bundles) → length (map_of (reports_in bundles)) ≤ report_limit
+    → AreOfFile program bundles → AreOfCollection (nothing_of program sites) (reports_in bundles) → AreAlike (reports_in bundles) → length (map_of (reports_in bundles)) ≤ report_limit
     → marks_of (map_of (reports_in bundles)) ≤ mark_limit → MeetsFault (nothing_of program sites) bundles why → why ≡ fault.Memory
 only-memory groups taken program sites bundles why id of ours alike few few_marks stops =
     let reports = reports_in bundles in
@@ -79,6 +79,6 @@ only-memory groups taken program sites bundles why id of ours alike few few_mark
     taken (nothing_of program sites) one.0 reports why (begins-whole program sites id) may one.1
 
 -- the reports of a collection are of its sites
-pub have-sites : (c : Collected) (reports : List Report) → AreOurs c reports → HaveSites c.branches reports
+pub have-sites : (c : Collected) (reports : List Report) → AreOfCollection c reports → HaveSites c.branches reports
 have-sites c [] ours = tt
 have-sites c (r ∷ more) ours = ((ours r (inl refl)).sites, have-sites c more (λ x is. ours x (inr is)))

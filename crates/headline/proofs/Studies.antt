@@ -2,26 +2,20 @@
 use Rattle.std.proofs.Common.{◌≡◌, ℕ, suc, true, List, [], ◌∷◌, length, map, None, Option, ap, ap₂, sym, ◌∙◌, refl, arith}
 use Rattle.cbi_base.specs.declared.observation.Observation.{Observation}
 use Rattle.cbi_base.specs.declared.outcome.Outcome.{Outcome}
-use Rattle.cbi_base.specs.declared.policy.Policy.{Policy}
 use Rattle.c_syntax.specs.ItemTree.{SourceTree}
 use Rattle.c_types_expressions.specs.declared.walk.Walk.{Walk}
 use Rattle.flow.specs.declared.site.Site.{Site}
-use Rattle.flow.specs.declared.site.TableParts.{TableParts}
 use Rattle.flow.specs.Words.{counts_of, samples, Ending}
 use Rattle.countdown_bank.specs.Bank.{BankState, number_after}
 use Rattle.report_file.specs.Label.{label_of}
 use Rattle.report_file.specs.Report.{entries_of}
 use Rattle.elimination_tallies.specs.declared.labelled.LabelledRun.{LabelledRun}
-use Rattle.elimination.specs.Laws.{OneElimination}
-use Rattle.collector.specs.Sites.{branches_of}
-use Rattle.ranking.specs.Ranked.{IsRankingOf}
-use Rattle.ranking.specs.Ranking.{ranking_text}
 use Rattle.study_runs.specs.declared.plan.StudyPlan.{StudyPlan}
 use Rattle.study.proofs.Studying.{OneBank, OneInput}
 use Rattle.study.specs.Study.{AreStudyRuns, IsStudyRun, StudyRun, labelled_run}
 use Rattle.study.specs.Studied.{run_of, study_form}
-use Rattle.command_run.specs.Run.{agrees}
-use Rattle.headline.specs.Chain.{AreMadeFor, IsMadeFor, Made, meant, meant_run, meant_sites}
+use Rattle.command_run.specs.Run.{is_expected_output}
+use Rattle.headline.specs.Chain.{AreMadeFor, IsMadeFor, Made, meant_behaviour, meant_run, meant_sites}
 
 -- a run as a ranking sees it, where no output is asked for
 abbrev seen-as : List Site → Outcome → List Observation → LabelledRun
@@ -30,8 +24,8 @@ seen-as sites outcome seen = record { label = label_of outcome true; entries = e
 -- the same run by its bank, its input and its turns
 abbrev run-by : SourceTree → Walk → BankState → (input : List ℕ) → (turns : ℕ) → (expect : Option (List ℕ)) → LabelledRun
 run-by tree known bank input turns expect = record {
-  label = label_of (meant tree known study_form input turns).outcome (agrees expect (meant tree known study_form input turns).output);
-  entries = entries_of (counts_of (meant_sites tree known study_form) (samples (number_after bank) (meant tree known study_form input turns).seen));
+  label = label_of (meant_behaviour tree known study_form input turns).outcome (is_expected_output expect (meant_behaviour tree known study_form input turns).output);
+  entries = entries_of (counts_of (meant_sites tree known study_form) (samples (number_after bank) (meant_behaviour tree known study_form input turns).seen));
 }
 
 module _ (one_bank : OneBank) (one_input : OneInput) (tree : SourceTree) (known : Walk) (plan : StudyPlan) where

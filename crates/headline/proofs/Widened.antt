@@ -8,8 +8,7 @@ use Rattle.hex.specs.Hex.{IsBytes}
 use Rattle.sha2.specs.Sha256.{digest_bytes, sha256}
 use Rattle.sha2.proofs.Facts256.{length-sha256}
 use Rattle.cbi_base.specs.Words.{IsId, Held}
-use Rattle.collector.specs.Spelling.{IsText, SpellsBundle, WithLabels, Without}
-use Rattle.collector.specs.declared.collection.Bundle.{Bundle}
+use Rattle.collector.specs.Spelling.{WithLabels}
 use Rattle.site_parts.specs.Laws.{FitsWhenWidened, MayWidenWhatFits}
 use Rattle.site_parts.proofs.Widening.{text_is}
 use Rattle.command_inputs.specs.Runs.{SpellRuns}

@@ -26,7 +26,7 @@ use Rattle.compiler.specs.declared.plan.Plan.{Plan}
 use Rattle.compiler.specs.declared.plan.Plan.TheVariants as plan
 use Rattle.command_run.specs.declared.files.RunFiles.{RunFiles}
 use Rattle.cbi_options.specs.declared.words.RunWords.{RunWords}
-use Rattle.command_run.specs.Run.{IsBankOf, agrees, report_of}
+use Rattle.command_run.specs.Run.{IsBankOf, is_expected_output, report_of}
 
 -- which visits a program looks at: each, or those that a bank samples; where it has a part of the sites, of those of the part
 abbrev pub looked_at : Plan → (bank : ℕ → ℕ) → List Observation → List Observation
@@ -36,8 +36,8 @@ looked_at (plan.Sampled schemes part) bank visits = samples bank (kept_visits pa
 
 module _ (tree : SourceTree) (known : Walk) (plan : Plan) where
   -- what the text means, with the sites of the plan; a plain program has none
-  abbrev pub meant : (input : List ℕ) (turns : ℕ) → Behaviour
-  meant input turns = text_meaning tree known (planned_sites plan tree known) input turns
+  abbrev pub meant_behaviour : (input : List ℕ) (turns : ℕ) → Behaviour
+  meant_behaviour input turns = text_meaning tree known (planned_sites plan tree known) input turns
 
   -- the table of its program
   abbrev pub meant_sites : List Site
@@ -49,7 +49,7 @@ module _ (tree : SourceTree) (known : Walk) (plan : Plan) where
   -- a run goes so, and has the sites of the plan
   pub record GoesAsMeant (input : List ℕ) (bank : ℕ → ℕ) (turns : ℕ) (p : ProgramParts) (ending : Ending) : Type 0 where
     pub sites : p.sites ≡ meant_sites
-    pub goes : GoesAs (meant input turns) (looked_at plan bank (meant input turns).seen) p.sites ending
+    pub goes : GoesAs (meant_behaviour input turns) (looked_at plan bank (meant_behaviour input turns).seen) p.sites ending
 
 -- the text has a meaning, and each of its meanings, which are one, is that of the run
 pub record RunsAsMeant (text : List ℕ) (plan : Plan) (input : List ℕ) (bank : ℕ → ℕ) (turns : ℕ) (p : ProgramParts) (ending : Ending) : Type 0 where
@@ -90,10 +90,10 @@ AreReportsOf file made reports = AreEach (IsReportOf file) made reports
 -- program looks at
 abbrev pub meant_run : SourceTree → Walk → Plan → Made → LabelledRun
 meant_run tree known plan made = record {
-  label = label_of (meant tree known plan made.files.input made.words.turns).outcome
-      (agrees made.files.expect (meant tree known plan made.files.input made.words.turns).output);
+  label = label_of (meant_behaviour tree known plan made.files.input made.words.turns).outcome
+      (is_expected_output made.files.expect (meant_behaviour tree known plan made.files.input made.words.turns).output);
   entries = entries_of (counts_of (meant_sites tree known plan)
-      (looked_at plan (number_after made.bank) (meant tree known plan made.files.input made.words.turns).seen));
+      (looked_at plan (number_after made.bank) (meant_behaviour tree known plan made.files.input made.words.turns).seen));
 }
 
 -- the report of a run as the text means it, whatever its work is said to be
@@ -101,7 +101,7 @@ abbrev pub meant_report : SourceTree → Walk → Plan → (file : List ℕ) →
 meant_report tree known plan file work made = record {
   program = record { bytes = sha256 file };
   run = made.words.run;
-  outcome = (meant tree known plan made.files.input made.words.turns).outcome;
+  outcome = (meant_behaviour tree known plan made.files.input made.words.turns).outcome;
   label = (meant_run tree known plan made).label;
   work = work;
   entries = (meant_run tree known plan made).entries;

@@ -7,7 +7,7 @@ use Rattle.c_syntax.specs.ItemTree.{SourceTree}
 use Rattle.c_types_expressions.specs.declared.walk.Walk.{Walk}
 use Rattle.elimination_tallies.specs.declared.labelled.LabelledRun.{LabelledRun}
 use Rattle.ranking.specs.Ranked.{IsRankingOf}
-use Rattle.site_parts.specs.Widened.{widened}
+use Rattle.site_parts.specs.Widened.{widened_entries}
 use Rattle.compiler.specs.Accepted.{IsAccepted}
 use Rattle.cbi_options.specs.declared.words.TransformWords.{TransformWords}
 use Rattle.command_transform.specs.Transform.{IsFileOf, plan_of}
@@ -16,7 +16,7 @@ use Rattle.command_rank.specs.Rank.{IsRanked}
 use Rattle.cbi_options.specs.declared.words.WidenWords.{WidenWords}
 use Rattle.command_widen.specs.Widen.{IsWidened}
 use Rattle.headline.specs.Chain.{Made, meant_run, meant_table}
-use Rattle.headline.specs.Handed.{IsCollectionOf, IsLeftByCollect, by_number, firsts}
+use Rattle.headline.specs.Handed.{IsCollectionOf, IsLeftByCollect, by_number, firsts_by_number}
 
 -- a run of a part's program: what `transform` was asked for that program, the share of the sites that it has, and what the run was made of
 pub record PartRun : Type 0 where
@@ -28,7 +28,7 @@ pub record PartRun : Type 0 where
 -- looks at, which are of the part's sites, each under the number that its site has in the table of all sites.
 abbrev pub meant_part_run : SourceTree → Walk → PartRun → LabelledRun
 meant_part_run tree known run = record (meant_run tree known (plan_of run.words) run.made) {
-  entries = widened run.share (meant_run tree known (plan_of run.words) run.made).entries;
+  entries = widened_entries run.share (meant_run tree known (plan_of run.words) run.made).entries;
 }
 
 -- `transform` wrote the file of a part's program of the text, `run` and `collect` made a collection of runs of that file, and `widen` read it for this
@@ -71,4 +71,4 @@ AFarmIsTheElimination =
     (tree : SourceTree) (known : Walk) →
     IsFileOf words text whole → IsAccepted text tree known → HoldParts text whole runs texts → IsLeftByCollect whole texts collection →
     (ranked : IsRanked held r ranking) → ranked.texts.program ≡ whole → ranked.texts.collection ≡ collection →
-    IsRankingOf (meant_table tree known (plan_of words)) r.policy (map (meant_part_run tree known) (firsts run_number runs)) ranking
+    IsRankingOf (meant_table tree known (plan_of words)) r.policy (map (meant_part_run tree known) (firsts_by_number run_number runs)) ranking

@@ -59,13 +59,13 @@ with_first number one [] = one ∷ []
 with_first number one (x ∷ more) =
     if nat_lt (number one) (number x) then one ∷ x ∷ more else (if number one == number x then one ∷ more else x ∷ with_first number one more)
 
-abbrev pub firsts : {A : Type 0} → (A → ℕ) → List A → List A
-firsts number [] = []
-firsts number (one ∷ more) = with_first number one (firsts number more)
+abbrev pub firsts_by_number : {A : Type 0} → (A → ℕ) → List A → List A
+firsts_by_number number [] = []
+firsts_by_number number (one ∷ more) = with_first number one (firsts_by_number number more)
 
 abbrev pub made_number : Made → ℕ
 made_number made = made.words.run
 
 -- so are runs
 abbrev pub by_number : List Made → List Made
-by_number made = firsts made_number made
+by_number made = firsts_by_number made_number made

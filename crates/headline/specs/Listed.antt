@@ -1,5 +1,5 @@
 -- `runs` beside the other commands: it comes to what its calls come to, and what `rank` writes of it is the elimination of its runs.
-use Rattle.std.specs.Prelude.{◌≡◌, ℕ, List, length, map, Option, IsSome}
+use Rattle.std.specs.Prelude.{◌≡◌, ℕ, List, map, Option, IsSome}
 use Rattle.cbi_base.specs.Store.{Held}
 use Rattle.c_syntax.specs.ItemTree.{SourceTree}
 use Rattle.c_types_expressions.specs.declared.walk.Walk.{Walk}

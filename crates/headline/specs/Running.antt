@@ -15,7 +15,7 @@ use Rattle.command_transform.specs.Transform.{IsFileOf, plan_of}
 use Rattle.cbi_options.specs.declared.words.RunWords.{RunWords}
 use Rattle.command_run.specs.Files.{AreFiles}
 use Rattle.command_run.specs.Run.{IsBankOf, IsReported, Ran, Reports}
-use Rattle.headline.specs.Chain.{Made, looked_at, meant, meant_report}
+use Rattle.headline.specs.Chain.{Made, looked_at, meant_behaviour, meant_report}
 
 -- what the run that was reported was made of
 abbrev pub made_of : (r : RunWords) (before after : Option Held) → IsReported r before after → Made
@@ -32,8 +32,8 @@ module _ (tree : SourceTree) (known : Walk) (plan : Plan) (made : Made) where
   -- Besides, out takes what the text means to write, and each watcher is told the visits that the program looks at, in their order.
   pub record DoesAsMeant {B : Type 0} (told : B → List Observation) (before after : Outside B) : Type 0 where
     pub reports : ReportsAsMeant before.held after.held
-    pub took : Takes before.out after.out (meant tree known plan made.files.input made.words.turns).output
-    pub grew : AllGrew told (looked_at plan (number_after made.bank) (meant tree known plan made.files.input made.words.turns).seen)
+    pub took : Takes before.out after.out (meant_behaviour tree known plan made.files.input made.words.turns).output
+    pub grew : AllGrew told (looked_at plan (number_after made.bank) (meant_behaviour tree known plan made.files.input made.words.turns).seen)
         before.boxes after.boxes
 
 -- What `run` did with a file that `transform` wrote is what the text means, over any type of watchers.

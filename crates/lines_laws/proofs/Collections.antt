@@ -12,7 +12,7 @@ use Rattle.report_file.specs.RunLine.{IsRunLine, first_run_line, run_line_fields
 use Rattle.report_file.specs.Spelling.{site_fields}
 use Rattle.report_file.proofs.RunLines.{first-reads, second-reads}
 use Rattle.collector.specs.Collected.{mark_limit, report_limit}
-use Rattle.collector.specs.Grammar.{BundleEnds, BundleLineComes, BundleLineFollows, EndFollows, ProgramFollows, RunFollows, RunSiteFollows, TitleFollows, begun, bundle_start, closed, whole}
+use Rattle.collector.specs.Grammar.{BundleEnds, BundleLineComes, BundleLineFollows, EndFollows, ProgramFollows, RunFollows, RunSiteFollows, TitleFollows, report_without_sites, bundle_start, current_report_closed, draft_reports}
 use Rattle.collector.specs.Spelling.{SpellsBundle, bundle_title}
 use Rattle.collector.specs.declared.collection.Bundle.{Bundle}
 use Rattle.collector.specs.declared.draft.Draft.{Draft}
@@ -49,13 +49,13 @@ run-reads version.First line = first-reads line (first_run_line (fields_of line)
 run-reads version.Second line = second-reads line (second_of (fields_of line)) refl
 
 abbrev RunMayCome : Draft → RunLine → Type 0
-RunMayCome d x = (d.run ≤ x.run) × (length (whole d) < report_limit)
+RunMayCome d x = (d.run ≤ x.run) × (length (draft_reports d) < report_limit)
 
 run-line : (d : Draft) (line : List ℕ) → Told (RunFollows d line)
 run-line d line =
-    elim (told-with (run_line_fields d.version) (IsRunLine d.version) (RunMayCome d) line (run_read d.version line) (run-reads d.version line) (λ x. both-told (le-told d.run x.run) (lt-told (length (whole d)) report_limit))) [
+    elim (told-with (run_line_fields d.version) (IsRunLine d.version) (RunMayCome d) line (run_read d.version line) (run-reads d.version line) (λ x. both-told (le-told d.run x.run) (lt-told (length (draft_reports d)) report_limit))) [
       | inl is ↦ inl (
-        record d { reports = whole d; current = Some (begun d.program is.0); run = is.0.run + 1; site = 0 },
+        record d { reports = draft_reports d; current = Some (report_without_sites d.program is.0); run = is.0.run + 1; site = 0 },
         record {
           value = is.0;
           is_line = is.1.0.is_good;
@@ -89,7 +89,7 @@ site-behind d line (Some r) is (inl entry) (inl room) =
 
 end-line : (d : Draft) (line : List ℕ) → Told (EndFollows d line)
 end-line d line =
-    elim (word-told line (codes "end")) [ inl is ↦ inl (record (closed d) { due = due.Nothing }, record { line_is = is; after_is = refl }) | inr other ↦ inr (λ after s. other s.line_is) ]
+    elim (word-told line (codes "end")) [ inl is ↦ inl (record (current_report_closed d) { due = due.Nothing }, record { line_is = is; after_is = refl }) | inr other ↦ inr (λ after s. other s.line_is) ]
 
 tells : (now : Due) (d : Draft) (line : List ℕ) → Told (BundleLineComes now d line)
 tells due.Title d line = title-line d line

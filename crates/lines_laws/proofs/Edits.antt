@@ -18,7 +18,7 @@ use Rattle.session_edits.specs.declared.draft.Reading.{Reading}
 use Rattle.session_edits.specs.declared.edit.Edit.{Edit}
 use Rattle.session_edits.specs.declared.edit.Edit.TheVariants.{Rank}
 use Rattle.session_edits.specs.Fields.{change_in}
-use Rattle.session_edits.specs.Grammar.{AddFollows, AddedSiteFollows, ChangeFollows, EditLineComes, EditLineFollows, EditsEnd, EditsEndFollows, Goes, RankFollows, TitleFollows, begun, closed, edits_start, whole}
+use Rattle.session_edits.specs.Grammar.{AddFollows, AddedSiteFollows, ChangeFollows, EditLineComes, EditLineFollows, EditsEnd, EditsEndFollows, Goes, RankFollows, TitleFollows, report_of_run_line, report_closed, edits_start, edits_so_far}
 use Rattle.session_edits.specs.Spelling.{IsChange, SpellsEdits, add_fields, edit_fields, rank_limit}
 use Rattle.session_edits.proofs.LineLemmas.{add-none, add-reads, change-reads}
 use Rattle.session_edits.proofs.Leads.{spelled-reads}
@@ -43,7 +43,7 @@ add-behind line (inl is) =
 add-line : (d : Draft) (line : List ℕ) → Told (AddFollows d line)
 add-line d line =
     elim (add-behind line (word-told (take 4 line) (codes "add "))) [
-      | inl is ↦ inl (record d { edits = whole d; current = Some (begun d.program is.0); site = 0 }, record { value = is.0; is_line = is.1.is_good; line_is = is.1.line_is; after_is = refl })
+      | inl is ↦ inl (record d { edits = edits_so_far d; current = Some (report_of_run_line d.program is.0); site = 0 }, record { value = is.0; is_line = is.1.is_good; line_is = is.1.line_is; after_is = refl })
       | inr never ↦ inr (λ after s. never s.value (record { is_good = s.is_line; line_is = s.line_is }))
     ]
 
@@ -67,7 +67,7 @@ site-behind d line (Some r) is (inl entry) =
 change-line : (d : Draft) (line : List ℕ) → Told (ChangeFollows d line)
 change-line d line =
     elim (read-told edit_fields IsChange line (change_in (fields_of line)) (change-reads line (change_in (fields_of line)) refl)) [
-      | inl is ↦ inl (record (closed d) { edits = whole d ++ is.0 ∷ [] }, record { value = is.0; is_change = is.1.is_good; line_is = is.1.line_is; after_is = refl })
+      | inl is ↦ inl (record (report_closed d) { edits = edits_so_far d ++ is.0 ∷ [] }, record { value = is.0; is_change = is.1.is_good; line_is = is.1.line_is; after_is = refl })
       | inr never ↦ inr (λ after s. never s.value (record { is_good = s.is_change; line_is = s.line_is }))
     ]
 
@@ -76,14 +76,14 @@ rank-line d line =
     elim (word-told line (codes "rank")) [
       | inr other ↦ inr (λ after s. other s.line_is)
       | inl is ↦ elim (lt-told d.ranks rank_limit) [
-        | inl room ↦ inl (record (closed d) { edits = whole d ++ Rank ∷ []; ranks = d.ranks + 1 }, record { room = room; line_is = is; after_is = refl })
+        | inl room ↦ inl (record (report_closed d) { edits = edits_so_far d ++ Rank ∷ []; ranks = d.ranks + 1 }, record { room = room; line_is = is; after_is = refl })
         | inr full ↦ inr (λ after s. full s.room)
       ]
     ]
 
 end-line : (d : Draft) (line : List ℕ) → Told (EditsEndFollows d line)
 end-line d line =
-    elim (word-told line (codes "end")) [ inl is ↦ inl (record (closed d) { due = due.Nothing }, record { line_is = is; after_is = refl }) | inr other ↦ inr (λ after s. other s.line_is) ]
+    elim (word-told line (codes "end")) [ inl is ↦ inl (record (report_closed d) { due = due.Nothing }, record { line_is = is; after_is = refl }) | inr other ↦ inr (λ after s. other s.line_is) ]
 
 comes-told : (now : Due) (d : Draft) (line : List ℕ) → Told (EditLineComes now d line)
 comes-told due.Title d line = title-line d line

@@ -1,5 +1,5 @@
 -- Of each line of a list of names it can be told whether it may come.
-use Rattle.std.proofs.Common.{◌≡◌, ◌+◌, ◌||◌, ℕ, inl, inr, Bool, true, false, List, [], ◌∷◌, ◌++◌, length, refl, sym, ◌∙◌}
+use Rattle.std.proofs.Common.{◌≡◌, ◌+◌, ◌||◌, ℕ, inl, inr, Bool, false, List, [], ◌∷◌, ◌++◌, length, refl, sym, ◌∙◌}
 use Rattle.std.specs.Global.{Global}
 use Rattle.std.specs.List.{list_any}
 use Rattle.std.specs.Str.{IsUtf8, is_utf8}

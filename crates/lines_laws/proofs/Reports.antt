@@ -1,7 +1,7 @@
 -- Of each line of a report it can be told whether it may come.
 use Rattle.std.proofs.Common.{◌≡◌, ◌≤◌, ℕ, inl, inr, List, Option, None, Some, codes, refl, sym, ap, subst, ◌∙◌, arith}
 use Rattle.cbi_base.specs.Numbers.{◌>>=◌}
-use Rattle.cbi_base.specs.Words.{IsId, IsIdText, is_lower_digit, fields_of, spaced}
+use Rattle.cbi_base.specs.Words.{IsId, IsIdText, is_lower_digit, fields_of, line_of_fields}
 use Rattle.cbi_base.proofs.IdLemmas.{IsIdText-spells, IsIdText-text_of_id, text_of_id-once}
 use Rattle.std.specs.Prelude.{length}
 use Rattle.std.specs.List.{list_all}
@@ -13,7 +13,7 @@ use Rattle.report_file.specs.declared.draft.Due.TheVariants as due
 use Rattle.report_file.specs.declared.draft.Draft.{Draft}
 use Rattle.report_file.specs.declared.report.Entry.{Entry}
 use Rattle.report_file.specs.declared.report.Report.{Report}
-use Rattle.report_file.specs.Fields.{alone, entry_of_fields, label_at, outcome_in, program_field, run_at, work_at}
+use Rattle.report_file.specs.Fields.{value_at_end, entry_of_fields, label_at, outcome_in, program_field, run_at, work_at}
 use Rattle.report_file.specs.Grammar.{IsNextEntry, ReportEndFollows, ReportEnds, ReportLineComes, ReportLineFollows, Sets, SiteFollows, report_start, with_entry, with_label, with_outcome, with_program, with_run, with_version, with_work}
 use Rattle.report_file.specs.Report.{IsEntry, IsOutcome, IsRun, IsWork}
 use Rattle.report_file.specs.Spelling.{SpellsReport, label_fields, outcome_line, program_fields, run_fields, site_fields, title_fields, work_fields}
@@ -29,15 +29,15 @@ sets-told spell Good next line (inl is) = inl (next is.0, record { value = is.0;
 sets-told spell Good next line (inr never) = inr (λ after s. never s.value (record { is_good = s.is_good; line_is = s.line_is }))
 
 -- one of the two titles
-no-title : (title : Version → List (List ℕ)) (line : List ℕ) → (line ≡ spaced (title version.First) → ⊥) → (line ≡ spaced (title version.Second) → ⊥) → (v : Version) → line ≡ spaced (title v) → ⊥
+no-title : (title : Version → List (List ℕ)) (line : List ℕ) → (line ≡ line_of_fields (title version.First) → ⊥) → (line ≡ line_of_fields (title version.Second) → ⊥) → (v : Version) → line ≡ line_of_fields (title v) → ⊥
 no-title title line no_first no_second version.First is = no_first is
 no-title title line no_first no_second version.Second is = no_second is
 
 pub title-told : (title : Version → List (List ℕ)) (line : List ℕ) → Told (IsLineOf title (λ _. Unit {0}) line)
 title-told title line =
-    elim (word-told line (spaced (title version.First))) [
+    elim (word-told line (line_of_fields (title version.First))) [
       | inl is ↦ inl (version.First, record { is_good = tt; line_is = is })
-      | inr no_first ↦ elim (word-told line (spaced (title version.Second))) [
+      | inr no_first ↦ elim (word-told line (line_of_fields (title version.Second))) [
         | inl is ↦ inl (version.Second, record { is_good = tt; line_is = is })
         | inr no_second ↦ inr (λ v is. no-title title line no_first no_second v is.line_is)
       ]
@@ -85,11 +85,11 @@ end-told d line = elim (word-told line (codes "end")) [ inl is ↦ inl (record d
 tells : (now : Due) (d : Draft) (line : List ℕ) → Told (ReportLineComes now d line)
 tells due.Title d line = sets-told title_fields (λ _. Unit {0}) (with_version d) line (title-told title_fields line)
 tells due.Program d line = sets-told program_fields IsId (with_program d) line (program-told line)
-tells due.Run d line = sets-told run_fields IsRun (with_run d) line (read-told run_fields IsRun line (run_at (fields_of line) >>= alone) (run-reads line (run_at (fields_of line) >>= alone) refl))
+tells due.Run d line = sets-told run_fields IsRun (with_run d) line (read-told run_fields IsRun line (run_at (fields_of line) >>= value_at_end) (run-reads line (run_at (fields_of line) >>= value_at_end) refl))
 tells due.Outcome d line = sets-told outcome_line IsOutcome (with_outcome d) line (read-told outcome_line IsOutcome line (outcome_in (fields_of line)) (outcome-reads line (outcome_in (fields_of line)) refl))
 tells due.Label d line =
-    sets-told label_fields (λ _. Unit {0}) (with_label d) line (read-told label_fields (λ _. Unit {0}) line (label_at (fields_of line) >>= alone) (label-reads line (label_at (fields_of line) >>= alone) refl))
-tells due.Work d line = sets-told work_fields IsWork (with_work d) line (read-told work_fields IsWork line (work_at (fields_of line) >>= alone) (work-reads line (work_at (fields_of line) >>= alone) refl))
+    sets-told label_fields (λ _. Unit {0}) (with_label d) line (read-told label_fields (λ _. Unit {0}) line (label_at (fields_of line) >>= value_at_end) (label-reads line (label_at (fields_of line) >>= value_at_end) refl))
+tells due.Work d line = sets-told work_fields IsWork (with_work d) line (read-told work_fields IsWork line (work_at (fields_of line) >>= value_at_end) (work-reads line (work_at (fields_of line) >>= value_at_end) refl))
 tells due.Sites d line = either-told (SiteFollows d line) (ReportEndFollows d line) (sets-told site_fields (IsNextEntry d.site) (with_entry d) line (entry-told d.site line)) (end-told d line)
 tells due.Nothing d line = inr (λ after s. s)
 

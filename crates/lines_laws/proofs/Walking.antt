@@ -2,7 +2,7 @@
 use Rattle.std.proofs.Common.{◌≡◌, ◌⊎◌, ⊎_elim, ℕ, zero, suc, ◌<◌, ◌≤◌, false, inl, inr, List, [], ◌∷◌, ◌++◌, length, Option, None, Some, refl, sym, ap, subst, ◌∙◌, length-append, arith}
 use Rattle.std.proofs.lemmas.Bool.{cases_Bool, cases_order, eqb-true}
 use Rattle.base_lists.proofs.Options.{none_some, some_is}
-use Rattle.cbi_base.specs.Words.{IsGoodPrefix, LeadsOnce, ReadsLines, line_after, is_word, Lacks, is_newline, spaced}
+use Rattle.cbi_base.specs.Words.{IsGoodPrefix, LeadsOnce, ReadsLines, line_after, is_word, Lacks, is_newline, line_of_fields}
 use Rattle.cbi_base.proofs.LineLemmas.{bad-never, bad-stops, good-more, reads-whole, stops-at, stops-behind, stops-within}
 use Rattle.cbi_base.proofs.NumberLemmas.{is_word-same, same-word}
 use Rattle.report_file.specs.Reading.{Reads}
@@ -115,7 +115,7 @@ word-told line word =
 -- a line that spells a value
 pub record IsLineOf {A : Type 0} (spell : A → List (List ℕ)) (Good : A → Type 0) (line : List ℕ) (value : A) : Type 0 where
   pub is_good : Good value
-  pub line_is : line ≡ spaced (spell value)
+  pub line_is : line ≡ line_of_fields (spell value)
 
 -- a value of which one thing more holds
 abbrev IsLineWith : {A : Type 0} → (A → List (List ℕ)) → (A → Type 0) → (A → Type 0) → List ℕ → A → Type 0

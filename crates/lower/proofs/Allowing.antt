@@ -12,15 +12,15 @@ use Rattle.flow.specs.declared.site.Site.{Site}
 use Rattle.flow.specs.Code.{view_at}
 use Rattle.c_meaning.specs.declared.value_type.ValueType.{ValueType}
 use Rattle.c_meaning.specs.Words.{Facts, Signature, Sites, Source}
-use Rattle.lower_relation.specs.Functions.{BodyDoes, standing}
+use Rattle.lower_relation.specs.Functions.{BodyDoes, graph_of_nodes}
 use Rattle.lower_relation.specs.Paths.{Exits}
 use Rattle.lower_nodes.specs.Ends.{AllBelow, all_ends}
 use Rattle.lower_nodes.specs.Finished.{Finished, turned_number}
 use Rattle.lower_nodes.specs.Reach.{LeadOn}
-use Rattle.lower_nodes.specs.Made.{CameOut, Later, MadeAlone, MadeExits}
-use Rattle.lower_nodes.specs.Standing.{AllLike, AllStand, Allowed, Allowance, Stood, fork_at, forks, may_visit}
+use Rattle.lower_nodes.specs.Made.{IsEmittedNode, Later, MadeAlone, MadeExits}
+use Rattle.lower_nodes.specs.Standing.{AllLike, AllStand, Allowed, Allowance, PartStands, fork_at, is_fork, may_visit}
 use Rattle.lower_nodes.proofs.Building.{both_stand, later_self, later_trans, none_stand}
-use Rattle.lower_fits.specs.Fitting.{FitsAsBody, fitting}
+use Rattle.lower_fits.specs.Fitting.{FitsAsBody, fitting_subgraph}
 use Rattle.lower_fits.proofs.FittingNodes.{free_fits}
 use Rattle.lower_fits.proofs.NodesOfStatements as fits
 use Rattle.lower.specs.Bodies.{AtOnce, Before, BodyBegins, LeavesPart}
@@ -44,7 +44,7 @@ all_like : (names : Names) (bounds : Bounds) (site_of : ℕ → Option Site) (no
     AllLike (allowance_in names bounds site_of fin) now ks ks
 all_like names bounds site_of now fin later [] b = tt
 all_like names bounds site_of now fin later (k ∷ ks) b = (
-  λ e. ap (λ x. forks (view_at x)) (sym (later.same k (omega arith) b.0)) ∙ e,
+  λ e. ap (λ x. is_fork (view_at x)) (sym (later.same k (omega arith) b.0)) ∙ e,
   all_like names bounds site_of now fin later ks b.1,
 )
 
@@ -62,20 +62,20 @@ module _ (names : Names) (bounds : Bounds) (site_of : ℕ → Option Site) (grap
   kept_visits v is = refl
 
   -- a node of the graph that fits, and visits no condition but before its fork, is allowed
-  allowed : (at : ℕ) (v : View) → fitting names bounds (standing graph) at v → IsTrue (may_visit here.frees here.forks_at v) → Allowed here at v
+  allowed : (at : ℕ) (v : View) → fitting_subgraph names bounds (graph_of_nodes graph) at v → IsTrue (may_visit here.frees here.forks_at v) → Allowed here at v
   allowed at v h seen = record {
     fits = renamed_fits names bounds (λ _. 0) v h.1;
     visits = seen;
-    turns = λ e. ap forks (sym (view_found (slice_get graph at) v h.0)) ∙ e;
+    turns = λ e. ap is_fork (sym (view_found (slice_get graph at) v h.0)) ∙ e;
   }
 
-  keeps : Keeps (fitting names bounds (standing graph)) (Allowed here) (IsFree site_of)
+  keeps : Keeps (fitting_subgraph names bounds (graph_of_nodes graph)) (Allowed here) (IsFree site_of)
   keeps = record {
     kept = λ at v is h. allowed at v h (kept_visits v is);
     visit = λ at site next free h. allowed at (view.Marks site next) h (free_visit (is_condition (site_of site)) (fork_at graph next) free);
     decided = λ at site next when_true when_false h f.
         allowed at (view.Marks site next) h
-        (fork_visit (is_condition (site_of site)) (fork_at graph next) (ap forks (view_found (slice_get graph next) (view.Forks when_true when_false) f.0)));
+        (fork_visit (is_condition (site_of site)) (fork_at graph next) (ap is_fork (view_found (slice_get graph next) (view.Forks when_true when_false) f.0)));
   }
 
 module _ (facts : Facts) (sites : Sites) (apart : Apart (IsFree sites.site) sites) (names : Names) (bounds : Bounds) (is_main value : Bool) (f : Signature) (lo : ℕ) (body : EntryList)
@@ -92,28 +92,28 @@ module _ (facts : Facts) (sites : Sites) (apart : Apart (IsFree sites.site) site
   up = later_trans 0 0 n1 n2 n3 (omega arith) runs.keeps put
 
   -- the nodes at which the function is left
-  left_stand : Stood s (length n0) n1 x.leaves x.leaves
+  left_stand : PartStands s (length n0) n1 x.leaves x.leaves
   left_stand =
       let done = left.does n3 (later_trans 0 (length n0) n1 n1 n3 (omega arith) (later_self 0 n1) up) in
       left.stands s x.leaves x tt tt (
         refl,
-        leaves_into (fitting names bounds (standing n3)) (Allowed s) (IsFree sites.site) (keeps names bounds sites.site n3) is_main value x
-            (fits.leaves_into names bounds (standing n3) is_main value x done.1),
+        leaves_into (fitting_subgraph names bounds (graph_of_nodes n3)) (Allowed s) (IsFree sites.site) (keeps names bounds sites.site n3) is_main value x
+            (fits.leaves_into names bounds (graph_of_nodes n3) is_main value x done.1),
       )
 
   -- those of its body
-  body_stands : Stood s (length n1) n2 entry entry
+  body_stands : PartStands s (length n1) n2 entry entry
   body_stands =
       let done = runs.does n3 (later_trans 0 (length n1) n2 n2 n3 (omega arith) (later_self 0 n2) put) in
       runs.stands s entry x tt (all_like names bounds sites.site n1 n3 up (all_ends x) below)
-      ((body_into (fitting names bounds (standing n3)) (Allowed s) (IsFree sites.site) (keeps names bounds sites.site n3) facts sites apart f.result (Some body)).leads entry x
-      (fits.body_fits names bounds (standing n3) facts sites f lo body entry x fit done))
+      ((body_into (fitting_subgraph names bounds (graph_of_nodes n3)) (Allowed s) (IsFree sites.site) (keeps names bounds sites.site n3) facts sites apart f.result (Some body)).leads entry x
+      (fits.body_fits names bounds (graph_of_nodes n3) facts sites f lo body entry x fit done))
 
   -- the one at which it begins
   start_stands : BodyBegins n2 n3 start entry → AllStand s (length n2) n3
   start_stands (AtOnce e same) = subst (λ n. AllStand s (length n2) n) (sym same) (none_stand s n2)
   start_stands (Before made) =
-      let came : CameOut (length n1) n2 entry = runs.leads below in
+      let came : IsEmittedNode (length n1) n2 entry = runs.leads below in
       let done = made.does n3 (later_self (length n2) n3) in
       (made.stands s start entry tt (all_like names bounds sites.site n2 n3 put (entry ∷ []) (came.inside, tt))
       ((keeps names bounds sites.site n3).kept start (view.Row (node.Pass 0) entry) tt (done, free_fits names bounds (node.Pass 0) tt))).all

@@ -15,7 +15,7 @@ use Rattle.flow.specs.declared.program.Text.{Text}
 use Rattle.flow.specs.declared.scope.Names.{Names}
 use Rattle.flow.specs.declared.site.Site.{Site}
 use Rattle.flow.specs.declared.site.TableParts.{TableParts}
-use Rattle.c_meaning.specs.Words.{Signature, Source, literals, texts_of, source_of}
+use Rattle.c_meaning.specs.Words.{Signature, Source, string_literals, texts_of, source_of}
 use Rattle.lower_fits.specs.TextNames.{names_of_text}
 use Rattle.lower_relation.specs.Functions.{IsGraphOf}
 use Rattle.lower_fits.proofs.BegunGlobals.{objects_there}
@@ -68,9 +68,9 @@ none_there None is e = false≢true is
 none_there (Some x) is e = cc
 
 -- the strings are few
-pub few_strings : (tree : SourceTree) (walk : Walk) (table : TableParts) → IsReadyText tree walk table → length (literals tree) ≤ text_limit
+pub few_strings : (tree : SourceTree) (walk : Walk) (table : TableParts) → IsReadyText tree walk table → length (string_literals tree) ≤ text_limit
 few_strings tree walk table ready =
-    let same : length (texts_of (literals tree)) ≡ length (literals tree) = length-map (literals tree) _ in
+    let same : length (texts_of (string_literals tree)) ≡ length (string_literals tree) = length-map (string_literals tree) _ in
     omega (arith, few_texts tree walk ready.whole.accepted ready.whole.sited, same)
 
 -- the globals begin with constants

@@ -8,13 +8,13 @@ use Rattle.flow.specs.declared.node.Node.TheVariants as node
 use Rattle.flow.specs.declared.node.View.TheVariants as view
 use Rattle.c_meaning.specs.declared.value_type.ValueType.{ValueType}
 use Rattle.c_meaning.specs.Words.{Facts, Sites, has_value}
-use Rattle.lower_relation.specs.Functions.{BodyDoes, ComesTo, EndsAt, Leaves, Stays, Passes, standing}
+use Rattle.lower_relation.specs.Functions.{BodyDoes, ComesTo, EndsAt, FunctionExits, Stays, Passes, graph_of_nodes}
 use Rattle.lower_relation.specs.Paths.{Exits, Graph, Stuck, Does}
 use Rattle.lower.specs.Bodies.{AtOnce, Before, BodyBegins, BodyNodes, EndPart, GivesPart, LeavesPart}
 use Rattle.lower_nodes.specs.Finished.{Finished, turned_number}
 use Rattle.lower_nodes.specs.Ends.{AllBelow, all_ends}
-use Rattle.lower_nodes.specs.Made.{Later, LeadBack, Made, MadeAlone, MadeExits, CameOut}
-use Rattle.lower_nodes.specs.Standing.{Allowed, Like, Allowance, Stood}
+use Rattle.lower_nodes.specs.Made.{Later, LeadBack, Made, MadeAlone, MadeExits, IsEmittedNode}
+use Rattle.lower_nodes.specs.Standing.{Allowed, Like, Allowance, PartStands}
 use Rattle.lower_nodes.proofs.Building.{back_both, both_stand, later_self, later_trans, like_more, one_made, stays_put, stood_put, view_made}
 
 pub gives_made : (b : Bool) (n0 n1 : List Node) (i : ℕ) → b ≡ true → i ≡ length n0 → n1 ≡ n0 ++ node.Return ∷ [] → MadeAlone (GivesPart b) n0 n1 i 0
@@ -54,7 +54,7 @@ leaves_there G false value x none h = h
 
 pub left_made : (is_main value : Bool) (n : List Node) (x : Exits) → (is_main ≡ true → value ≡ true → ⊥) → MadeExits (EndPart is_main value) n n x.leaves x
 left_made is_main value n x none = record {
-  does = λ fin l. no_zero (standing fin) is_main value (record x { next = x.leaves }) refl none;
+  does = λ fin l. no_zero (graph_of_nodes fin) is_main value (record x { next = x.leaves }) refl none;
   keeps = later_self 0 n;
   leads = λ below. stays_put n x.leaves (below.1.1.1.1.0, tt);
   stands = λ s j y same like h.
@@ -71,11 +71,11 @@ module _ (is_main value : Bool) (n0 n1 n2 n3 n4 : List Node) (stuck leaves gives
   leave_made =
       view_made {K = ℕ} (λ k. view.Quits) node.Leave n1 n2 leaves 0 refl at is (λ all b. tt) (λ s l same like. record { same = refl; visits = λ h. h; fork = λ e. e })
 
-  end_stands : CameOut (length n3) n4 next
+  end_stands : IsEmittedNode (length n3) n4 next
   end_stands =
-      let first : CameOut (length n0) n1 stuck = halted.leads tt in
-      let second : CameOut (length n1) n2 leaves = leave_made.leads tt in
-      let third : CameOut (length n2) n3 gives = given.leads tt in
+      let first : IsEmittedNode (length n0) n1 stuck = halted.leads tt in
+      let second : IsEmittedNode (length n1) n2 leaves = leave_made.leads tt in
+      let third : IsEmittedNode (length n2) n3 gives = given.leads tt in
       let low : stuck < length n3 = omega (arith, first.inside, leave_made.keeps.longer, given.keeps.longer) in
       let last : leaves < length n3 = omega (arith, second.inside, given.keeps.longer) in
       ended.leads (last, (low, (low, (third.inside, (last, tt)))))
@@ -83,18 +83,18 @@ module _ (is_main value : Bool) (n0 n1 n2 n3 n4 : List Node) (stuck leaves gives
   -- all of them are there
   pub exits_below : AllBelow (length n4) (all_ends (exits_with stuck leaves gives next))
   exits_below =
-      let first : CameOut (length n0) n1 stuck = halted.leads tt in
-      let second : CameOut (length n1) n2 leaves = leave_made.leads tt in
-      let third : CameOut (length n2) n3 gives = given.leads tt in
+      let first : IsEmittedNode (length n0) n1 stuck = halted.leads tt in
+      let second : IsEmittedNode (length n1) n2 leaves = leave_made.leads tt in
+      let third : IsEmittedNode (length n2) n3 gives = given.leads tt in
       let low : stuck < length n4 = omega (arith, first.inside, leave_made.keeps.longer, given.keeps.longer, ended.keeps.longer) in
       let last : leaves < length n4 = omega (arith, second.inside, given.keeps.longer, ended.keeps.longer) in
       (end_stands.inside, (low, (low, (omega (arith, third.inside, ended.keeps.longer), (last, tt)))))
 
-  exits_stand : CameOut (length n0) n4 leaves
+  exits_stand : IsEmittedNode (length n0) n4 leaves
   exits_stand =
-      let first : CameOut (length n0) n1 stuck = halted.leads tt in
-      let second : CameOut (length n1) n2 leaves = leave_made.leads tt in
-      let third : CameOut (length n2) n3 gives = given.leads tt in
+      let first : IsEmittedNode (length n0) n1 stuck = halted.leads tt in
+      let second : IsEmittedNode (length n1) n2 leaves = leave_made.leads tt in
+      let third : IsEmittedNode (length n2) n3 gives = given.leads tt in
       record {
         inside = omega (arith, second.inside, given.keeps.longer, ended.keeps.longer);
         back = back_both (length n0) n3 n4 (back_both (length n0) n2 n3 (back_both (length n0) n1 n2 first.back leave_made.keeps second.back) given.keeps third.back)
@@ -102,15 +102,15 @@ module _ (is_main value : Bool) (n0 n1 n2 n3 n4 : List Node) (stuck leaves gives
       }
 
   -- and they stand where the nodes of a graph that do as much may stand
-  exits_stood : (s : Allowance) (j : ℕ) (y : Exits) → j ≡ y.leaves → Leaves (Allowed s) is_main value y → Stood s (length n0) n4 leaves j
+  exits_stood : (s : Allowance) (j : ℕ) (y : Exits) → j ≡ y.leaves → FunctionExits (Allowed s) is_main value y → PartStands s (length n0) n4 leaves j
   exits_stood s j y e h =
-      let breaks : Stood s (length n0) n1 stuck y.breaks = halted.stands s y.breaks 0 tt tt h.3 in
-      let continues : Stood s (length n0) n1 stuck y.continues = halted.stands s y.continues 0 tt tt h.4 in
-      let left : Stood s (length n1) n2 leaves y.leaves = leave_made.stands s y.leaves 0 tt tt h.1 in
-      let gave : Stood s (length n2) n3 gives y.gives = given.stands s y.gives 0 tt tt h.0 in
+      let breaks : PartStands s (length n0) n1 stuck y.breaks = halted.stands s y.breaks 0 tt tt h.3 in
+      let continues : PartStands s (length n0) n1 stuck y.continues = halted.stands s y.continues 0 tt tt h.4 in
+      let left : PartStands s (length n1) n2 leaves y.leaves = leave_made.stands s y.leaves 0 tt tt h.1 in
+      let gave : PartStands s (length n2) n3 gives y.gives = given.stands s y.gives 0 tt tt h.0 in
       let leaves_like : Like s n3 leaves y.leaves = like_more s n2 n3 leaves y.leaves given.keeps left.like in
       let up : Later 0 n1 n3 = later_trans 0 0 n1 n2 n3 (omega arith) leave_made.keeps given.keeps in
-      let last : Stood s (length n3) n4 next y.next =
+      let last : PartStands s (length n3) n4 next y.next =
       ended.stands s y.next (record y { next = y.leaves }) tt
       (leaves_like, (like_more s n1 n3 stuck y.breaks up breaks.like, (like_more s n1 n3 stuck y.continues up continues.like, (gave.like, (leaves_like, tt))))) h.2 in
       let three = both_stand s (length n0) n2 n3 (both_stand s (length n0) n1 n2 breaks.all leave_made.keeps left.all) given.keeps gave.all in
@@ -164,13 +164,13 @@ pub begins_keeps : (n0 n1 : List Node) (i k : ℕ) → BodyBegins n0 n1 i k → 
 begins_keeps n0 n1 i k (AtOnce e same) = subst (λ n. Later 0 n0 n) (sym same) (later_self 0 n0)
 begins_keeps n0 n1 i k (Before made) = made.keeps
 
-begins_there : (n0 n1 : List Node) (i k : ℕ) → BodyBegins n0 n1 i k → ComesTo (standing n1) i k
+begins_there : (n0 n1 : List Node) (i k : ℕ) → BodyBegins n0 n1 i k → ComesTo (graph_of_nodes n1) i k
 begins_there n0 n1 i k (AtOnce e same) = Stays e
 begins_there n0 n1 i k (Before made) = Passes (made.does n1 (later_self (length n0) n1))
 
-begins_back : (n0 n1 : List Node) (i k : ℕ) → k < length n0 → BodyBegins n0 n1 i k → CameOut (length n0) n1 i
+begins_back : (n0 n1 : List Node) (i k : ℕ) → k < length n0 → BodyBegins n0 n1 i k → IsEmittedNode (length n0) n1 i
 begins_back n0 n1 i k low (AtOnce e same) =
-    subst (λ n. CameOut (length n0) n i) (sym same) (subst (λ q. CameOut (length n0) n0 q) (sym e) (stays_put n0 k (low, tt)))
+    subst (λ n. IsEmittedNode (length n0) n i) (sym same) (subst (λ q. IsEmittedNode (length n0) n0 q) (sym e) (stays_put n0 k (low, tt)))
 begins_back n0 n1 i k low (Before made) = made.leads (low, tt)
 
 -- the whole function
@@ -191,7 +191,7 @@ function_made facts sites is_main value gives body n0 n1 n2 n3 nodes entry start
       begins = begins_there n2 n3 start entry begins;
       exits = x;
       runs = runs.does n3 (later_trans 0 (length n1) n2 n2 n3 (omega arith) (later_self 0 n2) put);
-      leaves = subst (λ b. Leaves (standing n3) is_main b x) e (left.does n3 first).1;
+      leaves = subst (λ b. FunctionExits (graph_of_nodes n3) is_main b x) e (left.does n3 first).1;
     }
 
 -- its nodes lead back
@@ -199,9 +199,9 @@ pub function_back : (facts : Facts) (sites : Sites) (is_main value : Bool) (give
     n0 ≡ [] → MadeAlone (LeavesPart is_main value) n0 n1 x.leaves x → AllBelow (length n1) (all_ends x) → MadeExits (λ G. BodyDoes G facts sites gives body) n1 n2 entry x →
     BodyBegins n2 n3 start entry → LeadBack 0 n3
 function_back facts sites is_main value gives body n0 n1 n2 n3 entry start x none left below runs begins =
-    let first : CameOut (length n0) n1 x.leaves = left.leads tt in
-    let second : CameOut (length n1) n2 entry = runs.leads below in
-    let third : CameOut (length n2) n3 start = begins_back n2 n3 start entry second.inside begins in
+    let first : IsEmittedNode (length n0) n1 x.leaves = left.leads tt in
+    let second : IsEmittedNode (length n1) n2 entry = runs.leads below in
+    let third : IsEmittedNode (length n2) n3 start = begins_back n2 n3 start entry second.inside begins in
     subst (λ l. LeadBack (length l) n3) none
     (back_both (length n0) n2 n3 (back_both (length n0) n1 n2 first.back runs.keeps second.back) (begins_keeps n2 n3 start entry begins) third.back)
 

@@ -11,10 +11,10 @@ use Rattle.flow.specs.declared.scope.Bounds.{Bounds}
 use Rattle.flow.specs.declared.scope.Names.{Names}
 use Rattle.flow.specs.declared.site.Site.{Site}
 use Rattle.flow.specs.Words.{view_at, NodesFit, is_again, leads_rightly, led_to, names_fit, node_fits, view as view_of}
-use Rattle.lower_relation.specs.Stands.{renamed}
+use Rattle.lower_relation.specs.Stands.{renumbered_view}
 use Rattle.lower_nodes.specs.Finished.{Finished, turned_number}
-use Rattle.lower_nodes.specs.Reach.{LeadOn, among}
-use Rattle.lower_nodes.specs.Standing.{AllStand, Allowance, StandsRightly, bare, fork_at, forks}
+use Rattle.lower_nodes.specs.Reach.{LeadOn, bounds_of_nodes}
+use Rattle.lower_nodes.specs.Standing.{AllStand, Allowance, StandsRightly, view_without_successors, fork_at, is_fork}
 use Rattle.lower_fits.specs.Fitting.{fits_view}
 use Rattle.lower_fits.proofs.FittingNodes.{view_fits}
 use Rattle.lower.specs.Ready.{AllMayStand, is_condition, may_stand}
@@ -29,22 +29,22 @@ allowance_in names bounds site_of graph = record {
 }
 
 -- a function's other bounds don't matter to where its nodes lead
-pub still_leads : (bounds : Bounds) (place count : ℕ) (v : View) → bounds.nodes ≡ count → IsTrue (leads_rightly (among count) place v) → leads_rightly bounds place v ≡ true
+pub still_leads : (bounds : Bounds) (place count : ℕ) (v : View) → bounds.nodes ≡ count → IsTrue (leads_rightly (bounds_of_nodes count) place v) → leads_rightly bounds place v ≡ true
 unfolding leads_rightly
 still_leads bounds place count v e h =
     subst (λ (n : ℕ). list_all (λ next. nat_lt next n && (is_again v || nat_lt place next)) (led_to v) ≡ true) (sym e) h
 
 -- what a node names doesn't depend on where it leads
-pub renamed_fits : (names : Names) (bounds : Bounds) (ren : ℕ → ℕ) (v : View) → IsTrue (fits_view names bounds v) → IsTrue (fits_view names bounds (renamed ren v))
+pub renamed_fits : (names : Names) (bounds : Bounds) (ren : ℕ → ℕ) (v : View) → IsTrue (fits_view names bounds v) → IsTrue (fits_view names bounds (renumbered_view ren v))
 renamed_fits names bounds ren (view.Row op next) f = f
 renamed_fits names bounds ren other f = f
 
-bare_fits : (names : Names) (bounds : Bounds) (v : View) → IsTrue (fits_view names bounds (bare v)) → IsTrue (fits_view names bounds v)
+bare_fits : (names : Names) (bounds : Bounds) (v : View) → IsTrue (fits_view names bounds (view_without_successors v)) → IsTrue (fits_view names bounds v)
 bare_fits names bounds (view.Row op next) f = f
 bare_fits names bounds other f = f
 
 -- a fork is one under any numbers
-renamed_forks : (ren : ℕ → ℕ) (v : View) → forks v ≡ true → forks (renamed ren v) ≡ true
+renamed_forks : (ren : ℕ → ℕ) (v : View) → is_fork v ≡ true → is_fork (renumbered_view ren v) ≡ true
 renamed_forks ren (view.Row op next) e = e
 renamed_forks ren other e = e
 
@@ -53,18 +53,18 @@ view_found None v e = absurd (cc)
 view_found (Some x) v e = cc
 
 module _ (site_of : ℕ → Option Site) (old new : List Node) (ren : ℕ → ℕ) (finished : Finished old new ren) where
-  still_forks : (next : ℕ) (x : Option Node) → slice_get old next ≡ x → forks (view_at x) ≡ true → forks (view_at (slice_get new (ren next))) ≡ true
+  still_forks : (next : ℕ) (x : Option Node) → slice_get old next ≡ x → is_fork (view_at x) ≡ true → is_fork (view_at (slice_get new (ren next))) ≡ true
   still_forks next None at e = absurd (cc)
   still_forks next (Some x) at e =
-      ap forks (view_found (slice_get new (ren next)) (renamed ren (view_of x)) (finished.each next x at)) ∙ renamed_forks ren (view_of x) e
+      ap is_fork (view_found (slice_get new (ren next)) (renumbered_view ren (view_of x)) (finished.each next x at)) ∙ renamed_forks ren (view_of x) e
 
-  still_before : (condition : Bool) (next : ℕ) → (not condition || forks (view_at (slice_get old next))) ≡ true →
-      (not condition || forks (view_at (slice_get new (ren next)))) ≡ true
+  still_before : (condition : Bool) (next : ℕ) → (not condition || is_fork (view_at (slice_get old next))) ≡ true →
+      (not condition || is_fork (view_at (slice_get new (ren next)))) ≡ true
   still_before true next e = still_forks next (slice_get old next) refl e
   still_before false next e = refl
 
   -- a view that may stand in the graph may stand among the nodes in their last order
-  still_stands : (v : View) → may_stand site_of old v ≡ true → may_stand site_of new (renamed ren v) ≡ true
+  still_stands : (v : View) → may_stand site_of old v ≡ true → may_stand site_of new (renumbered_view ren v) ≡ true
   still_stands (view.Marks site next) e = still_before (is_condition (site_of site)) next e
   still_stands (view.Skips by next) e = e
   still_stands (view.Tests site next) e = e
@@ -79,16 +79,16 @@ module _ (names : Names) (bounds : Bounds) (site_of : ℕ → Option Site) (old 
   ren = turned_number (length old - 1)
 
   -- each node was one of the graph
-  was : (place : ℕ) (n : Node) → slice_get new place ≡ Some n → (x : Node) × (view_of n ≡ renamed ren (view_of x)) × StandsRightly (allowance_in names bounds site_of old) old (view_of x)
+  was : (place : ℕ) (n : Node) → slice_get new place ≡ Some n → (x : Node) × (view_of n ≡ renumbered_view ren (view_of x)) × StandsRightly (allowance_in names bounds site_of old) old (view_of x)
   was place n at =
       let inside : place < length new = slice_get_within new place n at in
       let low : length old - 1 - place < length old = omega (arith, inside, long) in
       let here : turned_number (length old - 1) (length old - 1 - place) ≡ place = omega (arith, inside, long) in
       let x : Node = get_or old (length old - 1 - place) n in
       let first : slice_get old (length old - 1 - place) ≡ Some x = slice_get-get_or old (length old - 1 - place) n low in
-      let found : option_map view_of (Some n) ≡ Some (renamed ren (view_of x)) =
+      let found : option_map view_of (Some n) ≡ Some (renumbered_view ren (view_of x)) =
       ap (option_map view_of) (sym at) ∙ ap (λ p. option_map view_of (slice_get new p)) (sym here) ∙ finished.each (length old - 1 - place) x first in
-      let same : view_of n ≡ renamed ren (view_of x) = cc in
+      let same : view_of n ≡ renumbered_view ren (view_of x) = cc in
       (x, same, all.each (length old - 1 - place) x (omega arith) first)
 
   -- a node of the graph may stand there

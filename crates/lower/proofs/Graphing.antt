@@ -6,8 +6,8 @@ use Rattle.flow.specs.Words.{view as view_of, callee_of, code_of, view_at, view_
 use Rattle.flow.specs.declared.program.Function.{Function}
 use Rattle.flow.specs.declared.program.ProgramParts.{ProgramParts}
 use Rattle.c_meaning.specs.Words.{Signature, Source, has_value, signature_of, source_of}
-use Rattle.lower_relation.specs.Functions.{BodyIn, Lowered, callee_with, standing}
-use Rattle.lower_relation.specs.Stands.{Stands, renamed}
+use Rattle.lower_relation.specs.Functions.{BodyIn, Lowered, callee_with, graph_of_nodes}
+use Rattle.lower_relation.specs.Stands.{Stands, renumbered_view}
 use Rattle.lower.specs.Bodies.{BodyNodes}
 use Rattle.lower.specs.Ready.{AllMayStand}
 use Rattle.lower_nodes.specs.Finished.{Finished}
@@ -28,21 +28,18 @@ use Rattle.lower_relation.specs.Functions.{IsGraphOf}
 use Rattle.lower_relation.proofs.WholeRuns.{only_ending, run_ok}
 use Rattle.lower_facts.specs.declared.facts.TreeFacts.{TreeFacts}
 use Rattle.lower_facts.specs.Facts.{known_in, source_in, table_in, tree_in}
-
-found : (new : Option Node) (v : View) → option_map view_of new ≡ Some v → view_at new ≡ v
-found None v e = cc
-found (Some x) v e = cc
+use Rattle.lower.proofs.Finishing.{view_found}
 
 seen : (old new : List Node) (ren : ℕ → ℕ) (i : ℕ) (v : View) (o : Option Node) → Finished old new ren → slice_get old i ≡ o → option_map view_of o ≡ Some v →
-    view_at (slice_get new (ren i)) ≡ renamed ren v
+    view_at (slice_get new (ren i)) ≡ renumbered_view ren v
 seen old new ren i v None fin at e = cc
 seen old new ren i v (Some x) fin at e =
     let same : view_of x ≡ v = cc in
-    found (slice_get new (ren i)) (renamed ren v) (fin.each i x at ∙ ap (λ y. Some (renamed ren y)) same)
+    view_found (slice_get new (ren i)) (renumbered_view ren v) (fin.each i x at ∙ ap (λ y. Some (renumbered_view ren y)) same)
 
 -- the nodes in their last order stand for the graph that grew backwards
 stands_in : (p : ProgramParts) (bank : ℕ → ℕ) (number : ℕ) (f : Function) (old : List Node) (ren : ℕ → ℕ) → slice_get p.functions number ≡ Some f → Finished old f.nodes ren →
-    Stands (code_of p bank) number (standing old) ren
+    Stands (code_of p bank) number (graph_of_nodes old) ren
 stands_in p bank number f old ren at fin = record {
   at = λ i v e. ap (λ o. view_in o (ren i)) at ∙ seen old f.nodes ren i v (slice_get old i) fin refl e;
 }

@@ -30,10 +30,10 @@ use Rattle.c_meaning.specs.declared.value_type.Called.{Called}
 use Rattle.c_meaning.specs.declared.value_type.Called.TheVariants as called
 use Rattle.c_meaning.specs.declared.value_type.ValueType.{ValueType}
 use Rattle.c_meaning.specs.declared.value_type.ValueType.TheVariants as type
-use Rattle.c_meaning.specs.Words.{as_type, types_taken, between, conversion, as_used, is_null_as, is_other_pointer, is_struct_value, Facts, Signature, Sites}
+use Rattle.c_meaning.specs.Words.{as_type, types_taken, kind_conversion, conversion, as_used, is_null_as, is_other_pointer, is_struct_value, Facts, Signature, Sites}
 use Rattle.c_meaning.specs.Words.{equals_token, want_of, text_of_string, left_kind, operation, right_kind, type_given, Assignment, Plain, By, Joint, Both}
-use Rattle.c_meaning.specs.Words.{Computes, Unjoined, assignment, begins_null, called_as, count, ends_as_place, first_type, has_value, is_null_beside, is_place}
-use Rattle.c_meaning.specs.Words.{joint, one_kind, operand_type, other_types, token_of, type_of, listed, step_operation}
+use Rattle.c_meaning.specs.Words.{Computes, Unjoined, assignment_of_sign, begins_null, called_as, expression_count, ends_as_place, first_type, has_value, is_null_beside, is_place}
+use Rattle.c_meaning.specs.Words.{joint_of_sign, one_kind, operand_type, other_types, token_of, type_of, site_list, step_operation}
 use Rattle.c_meaning.specs.Trees as meaning
 use Rattle.lower_relation.specs.Calls as c
 use Rattle.lower_relation.specs.Expressions as x
@@ -41,9 +41,9 @@ use Rattle.lower_relation.specs.Expressions.{has_more, number_of_text}
 use Rattle.lower_relation.specs.Functions as f
 use Rattle.lower_relation.specs.Initialisers as i
 use Rattle.lower_relation.specs.Operators as o
-use Rattle.lower_relation.specs.Paths.{Graph, Path, ◌then◌, Ways, Exits, Emitted, Either, OneOf, Turned, Does, HaltsAt, Stuck, MarksAll, ForkTo, Tests, Only}
+use Rattle.lower_relation.specs.Paths.{Graph, Path, ◌then◌, Ways, Exits, Emitted, Either, OneOf, SwappedWays, Does, HaltsAt, Stuck, MarksAll, ForkTo, ValueTruth, PathOrStuck}
 use Rattle.lower_relation.specs.Statements as s
-use Rattle.lower_relation.specs.Statements.{Before, GoesOn, within_loop}
+use Rattle.lower_relation.specs.Statements.{StatementSequence, GoesOn}
 use Rattle.lower_relation.specs.Values as v
 use Rattle.lower.specs.Keeps.{AllFree, Apart, Keeps}
 
@@ -70,7 +70,7 @@ either_into d a b = record { leads = λ at k h. (h.0, h.1, d.leads at _ h.2, a.l
 one_of_into : {K : Type 0} {R R' S S' : Path K} → Into R R' → Into S S' → Into (OneOf R S) (OneOf R' S')
 one_of_into a b = record { leads = λ at k h. elim h [ inl y ↦ inl (a.leads at k y) | inr y ↦ inr (b.leads at k y) ] }
 
-turned_into : {D D' : Path Ways} → Into D D' → Into (Turned D) (Turned D')
+turned_into : {D D' : Path Ways} → Into D D' → Into (SwappedWays D) (SwappedWays D')
 turned_into d = record { leads = λ at k h. d.leads at _ h }
 
 module _ (G H : Graph) (free : ℕ → Type 0) (keeps : Keeps G H free) where
@@ -86,10 +86,10 @@ module _ (G H : Graph) (free : ℕ → Type 0) (keeps : Keeps G H free) where
   fork : Into (ForkTo G) (ForkTo H)
   fork = record { leads = λ at k h. keeps.kept at (view.Forks k.yes_to k.no_to) tt h }
 
-  tests : {R R' : Path ℕ} → Into R R' → Into (Tests G R) (Tests H R')
+  tests : {R R' : Path ℕ} → Into R R' → Into (ValueTruth G R) (ValueTruth H R')
   tests a = then_into a fork
 
-  only : {K : Type 0} {R R' : Path K} (b : Bool) → Into R R' → Into (Only G b R) (Only H b R')
+  only : {K : Type 0} {R R' : Path K} (b : Bool) → Into R R' → Into (PathOrStuck G b R) (PathOrStuck H b R')
   only true a = a
   only false a = stuck
 
@@ -99,7 +99,7 @@ module _ (G H : Graph) (free : ℕ → Type 0) (keeps : Keeps G H free) where
       then_into (record { leads = λ at k h. keeps.visit at site k are.0 h }) (marks sites are.1)
 
   -- the visit of a condition's site stands before its fork
-  decides : (site : Option ℕ) → Into (MarksAll G (listed site) then ForkTo G) (MarksAll H (listed site) then ForkTo H)
+  decides : (site : Option ℕ) → Into (MarksAll G (site_list site) then ForkTo G) (MarksAll H (site_list site) then ForkTo H)
   decides None = then_into same fork
   decides (Some site) = record {
     leads = λ at k h. (
@@ -120,7 +120,7 @@ module _ (G H : Graph) (free : ℕ → Type 0) (keeps : Keeps G H free) where
   converts_below (To kind) = then_into (does (node.Swap 0)) (then_into (does (node.Convert kind 0)) (does (node.Swap 0)))
   converts_below Misfit = stuck
 
-  handed : (of : Option ValueType) → Into (v.Handed G of) (v.Handed H of)
+  handed : (of : Option ValueType) → Into (v.HandedOverAs G of) (v.HandedOverAs H of)
   handed (Some (type.Number kind)) = does (node.Convert kind 0)
   handed (Some (type.Pointer size)) = then_into (does (node.Dup 0)) (then_into (does (node.Sole unary.Not 0)) (does (node.Drop 0)))
   handed of = stuck
@@ -131,17 +131,17 @@ module _ (G H : Graph) (free : ℕ → Type 0) (keeps : Keeps G H free) where
   load (Some (type.Array size)) = same
   load of = stuck
 
-  dropped : {R R' : Path ℕ} → Into R R' → Into (v.Dropped G R) (v.Dropped H R')
+  dropped : {R R' : Path ℕ} → Into R R' → Into (v.DroppedValue G R) (v.DroppedValue H R')
   dropped a = then_into a (does (node.Drop 0))
 
-  discarded : (is_struct : Bool) (of : Option ValueType) → Into (v.Discarded G is_struct of) (v.Discarded H is_struct of)
+  discarded : (is_struct : Bool) (of : Option ValueType) → Into (v.DiscardedPlace G is_struct of) (v.DiscardedPlace H is_struct of)
   discarded true of = does (node.Drop 0)
   discarded false of = dropped (load of)
 
-  valued : {R R' : Path ℕ} → Into R R' → EmittedInto (v.Valued G R) (v.Valued H R')
+  valued : {R R' : Path ℕ} → Into R R' → EmittedInto (v.EmittedValue G R) (v.EmittedValue H R')
   valued a = record { value = a; place = stuck; effect = dropped a; truth = tests a }
 
-  placed : (of : Option ValueType) {P P' : Path ℕ} → Into P P' → EmittedInto (v.Placed G of P) (v.Placed H of P')
+  placed : (of : Option ValueType) {P P' : Path ℕ} → Into P P' → EmittedInto (v.EmittedPlace G of P) (v.EmittedPlace H of P')
   placed of a = record {
     value = then_into a (load of);
     place = a;
@@ -149,7 +149,7 @@ module _ (G H : Graph) (free : ℕ → Type 0) (keeps : Keeps G H free) where
     truth = tests (then_into a (load of));
   }
 
-  effected : {R R' : Path ℕ} → Into R R' → EmittedInto (v.Effected G R) (v.Effected H R')
+  effected : {R R' : Path ℕ} → Into R R' → EmittedInto (v.EmittedEffect G R) (v.EmittedEffect H R')
   effected a = record { value = stuck; place = stuck; effect = a; truth = stuck }
 
   null_or : (is_null : Bool) {m n : Emitted} → EmittedInto m n → Into (v.NullOr G is_null m) (v.NullOr H is_null n)
@@ -183,7 +183,7 @@ module _ (G H : Graph) (free : ℕ → Type 0) (keeps : Keeps G H free) where
   -- operators
   operates : (change : Operation) → Into (o.Operates G change) (o.Operates H change)
   operates (Numbers sign left right) =
-      then_into (converts_below (between left (left_kind sign left right))) (then_into (converts (between right (right_kind sign left right))) (does (node.Math sign 0)))
+      then_into (converts_below (kind_conversion left (left_kind sign left right))) (then_into (converts (kind_conversion right (right_kind sign left right))) (does (node.Math sign 0)))
   operates (MoveLeft size) = does (node.Move size 0)
   operates (MoveRight size) = then_into (does (node.Swap 0)) (does (node.Move size 0))
   operates (Span size) = does (node.Span size 0)
@@ -199,7 +199,7 @@ module _ (G H : Graph) (free : ℕ → Type 0) (keeps : Keeps G H free) where
   member None = stuck
   member (Some offset) = does (node.Member offset 0)
 
-  pointed : Into (o.Pointed G) (o.Pointed H)
+  pointed : Into (o.PointerPlace G) (o.PointerPlace H)
   pointed = then_into (does (node.Dup 0)) (either_into fork same (does (node.Load want.Pointer 0)))
 
   load_through : (of : Option ValueType) → Into (o.LoadThrough G of) (o.LoadThrough H of)
@@ -207,7 +207,7 @@ module _ (G H : Graph) (free : ℕ → Type 0) (keeps : Keeps G H free) where
   load_through (Some (type.Pointer size)) = load (Some (type.Pointer size))
   load_through of = then_into pointed (load of)
 
-  through : (of : Option ValueType) {R R' : Path ℕ} → Into R R' → EmittedInto (o.Through G of R) (o.Through H of R')
+  through : (of : Option ValueType) {R R' : Path ℕ} → Into R R' → EmittedInto (o.EmittedIndirection G of R) (o.EmittedIndirection H of R')
   through of a = record {
     value = then_into a (load_through of);
     place = then_into a pointed;
@@ -215,11 +215,11 @@ module _ (G H : Graph) (free : ℕ → Type 0) (keeps : Keeps G H free) where
     truth = tests (then_into a (load_through of));
   }
 
-  settled : (known : Bool) (of : Option ValueType) → Into (o.Settled G known of) (o.Settled H known of)
+  settled : (known : Bool) (of : Option ValueType) → Into (o.OperandValue G known of) (o.OperandValue H known of)
   settled true of = load of
   settled false of = same
 
-  spot : (known : Bool) {m n : Emitted} → EmittedInto m n → Into (o.Spot G known m) (o.Spot H known n)
+  spot : (known : Bool) {m n : Emitted} → EmittedInto m n → Into (o.PlaceOrValue G known m) (o.PlaceOrValue H known n)
   spot true a = a.place
   spot false a = a.value
 
@@ -240,7 +240,7 @@ module _ (G H : Graph) (free : ℕ → Type 0) (keeps : Keeps G H free) where
     truth = one_of_into (tests (then_into a.effect b.value)) (then_into a.effect b.truth);
   }
 
-  flagged : Into (o.Flagged G) (o.Flagged H)
+  flagged : Into (o.TruthAsInt G) (o.TruthAsInt H)
   flagged = then_into (does (node.Sole unary.Not 0)) (does (node.Sole unary.Not 0))
 
   size_value : (cells : Option ℕ) → EmittedInto (o.SizeValue G cells) (o.SizeValue H cells)
@@ -276,7 +276,7 @@ module _ (G H : Graph) (free : ℕ → Type 0) (keeps : Keeps G H free) where
     updates : (token : ℕ) (of : Option ValueType) (change : Operation) → Into (o.Updates G facts sites token of change) (o.Updates H facts sites token of change)
     updates token of change = then_into (operates change) (then_into (converts (conversion (type_given change of) of)) (assigned token))
 
-    changed : (token : ℕ) (of : Option ValueType) (change : Operation) → Into (o.Changed G facts sites token of change) (o.Changed H facts sites token of change)
+    changed : (token : ℕ) (of : Option ValueType) (change : Operation) → Into (o.CompoundAssigned G facts sites token of change) (o.CompoundAssigned H facts sites token of change)
     changed token of change = then_into (does (node.Over 0)) (then_into (load of) (then_into (does (node.Swap 0)) (updates token of change)))
 
     stepped : (is_up : Bool) (token : ℕ) (of : Option ValueType) → Into (o.Stepped G facts sites is_up token of) (o.Stepped H facts sites is_up token of)
@@ -338,7 +338,7 @@ module _ (G H : Graph) (free : ℕ → Type 0) (keeps : Keeps G H free) where
 
     -- calls
     returned : (token : ℕ) {R R' : Path ℕ} → Into R R' → EmittedInto (c.Returned G facts sites token R) (c.Returned H facts sites token R')
-    returned token a = valued (then_into a (marks (listed (sites.return_at token)) (apart.returns token)))
+    returned token a = valued (then_into a (marks (site_list (sites.return_at token)) (apart.returns token)))
 
     with_result : (token : ℕ) (has : Bool) {R R' : Path ℕ} → Into R R' → EmittedInto (c.WithResult G facts sites token has R) (c.WithResult H facts sites token has R')
     with_result token true a = returned token a
@@ -389,7 +389,7 @@ module _ (G H : Graph) (free : ℕ → Type 0) (keeps : Keeps G H free) where
 
     abbrev OperandsInto : LinkList → Type 0
     OperandsInto e.no_links = Unit {0}
-    OperandsInto (e.more_links token sign operand rest) = EmittedInto (x.emitted G facts sites operand) (x.emitted H facts sites operand) × OperandsInto rest
+    OperandsInto (e.more_links token sign operand rest) = EmittedInto (x.emitted_expression G facts sites operand) (x.emitted_expression H facts sites operand) × OperandsInto rest
 
     links_hold : (left : Option ValueType) (links : LinkList) → OperandsInto links → {R R' : Path ℕ} {T T' : Path Ways} → Into R R' → Into T T' →
         Into (x.LinksHold G facts sites left R T links) (x.LinksHold H facts sites left R' T' links)
@@ -397,14 +397,14 @@ module _ (G H : Graph) (free : ℕ → Type 0) (keeps : Keeps G H free) where
     links_hold left (e.more_links token sign operand rest) all r t =
         let operand_value = null_or (is_null_beside (binary_of sign) left operand) all.0 in
         let right = operand_type (is_null_beside (binary_of sign) left operand) (type_of facts operand) in
-        links_hold (facts.type_at token) rest all.1 (then_into r (linked (joint sign) token left right operand_value))
-        (linked_truth (joint sign) token left right r t operand_value (null_truth (is_null_beside (binary_of sign) left operand) all.0))
+        links_hold (facts.type_at token) rest all.1 (then_into r (linked (joint_of_sign sign) token left right operand_value))
+        (linked_truth (joint_of_sign sign) token left right r t operand_value (null_truth (is_null_beside (binary_of sign) left operand) all.0))
 
     mutual
-      pub expression : (y : ExprTree) → EmittedInto (x.emitted G facts sites y) (x.emitted H facts sites y)
+      pub expression : (y : ExprTree) → EmittedInto (x.emitted_expression G facts sites y) (x.emitted_expression H facts sites y)
       expression (e.Comma token parts) = last parts
       expression (e.Assign token sign target value) =
-          valued (assign token (assignment sign) (is_null_as (type_of facts target) value) (type_of facts target) (type_of facts value) (expression target) (expression value))
+          valued (assign token (assignment_of_sign sign) (is_null_as (type_of facts target) value) (type_of facts target) (type_of facts value) (expression target) (expression value))
       expression (e.Conditional token condition first second) =
           conditional token (expression condition)
           (arm (is_null_as (facts.type_at token) first) (type_of facts first) (facts.type_at token) (expression first))
@@ -424,14 +424,14 @@ module _ (G H : Graph) (free : ℕ → Type 0) (keeps : Keeps G H free) where
           (then_into (spot (is_place primary) (expression primary)) (behind false (is_place primary) (type_of facts primary) operators))
       expression (e.Name token name) = placed (facts.type_at token) (variable (facts.slot_at token))
       expression (e.Call token name values) =
-          call_does token (called_as (facts.function_at token) name) (count values) (λ types. arguments types values) (λ want. lone want values) (formatted values)
+          call_does token (called_as (facts.function_at token) name) (expression_count values) (λ types. arguments types values) (λ want. lone want values) (formatted values)
       expression (e.Constant token kind value) = valued (does (node.Push kind value 0))
       expression (e.Strings token parts) = valued (text_place (facts.text_at token))
       expression (e.Paren token inner) = expression inner
       expression (e.Null token) = valued (does (node.Null 0))
       expression (e.EndOfFile token) = valued (does (node.Push Int (negsuc 0) 0))
 
-      behind : (taken known : Bool) (of : Option ValueType) (y : PostfixList) → Into (x.Behind G facts sites taken known of y) (x.Behind H facts sites taken known of y)
+      behind : (taken known : Bool) (of : Option ValueType) (y : PostfixList) → Into (x.PostfixOperatorsDo G facts sites taken known of y) (x.PostfixOperatorsDo H facts sites taken known of y)
       behind taken known of e.no_postfix = same
       behind taken known of (e.index token index rest) =
           then_into (settled known of) (then_into (expression index).value (then_into (operates (operation op.Add of (type_of facts index)))
@@ -447,30 +447,30 @@ module _ (G H : Graph) (free : ℕ → Type 0) (keeps : Keeps G H free) where
       links_do : (left : Option ValueType) (y : LinkList) → Into (x.LinksDo G facts sites left y) (x.LinksDo H facts sites left y)
       links_do left e.no_links = same
       links_do left (e.more_links token sign operand rest) =
-          then_into (linked (joint sign) token left (operand_type (is_null_beside (binary_of sign) left operand) (type_of facts operand))
+          then_into (linked (joint_of_sign sign) token left (operand_type (is_null_beside (binary_of sign) left operand) (type_of facts operand))
           (null_or (is_null_beside (binary_of sign) left operand) (expression operand))) (links_do (facts.type_at token) rest)
 
       operands : (y : LinkList) → OperandsInto y
       operands e.no_links = tt
       operands (e.more_links token sign operand rest) = (expression operand, operands rest)
 
-      last : (y : ExprList) → EmittedInto (x.LastDoes G facts sites y) (x.LastDoes H facts sites y)
+      last : (y : ExprList) → EmittedInto (x.CommaDoes G facts sites y) (x.CommaDoes H facts sites y)
       last e.no_exprs = valued stuck
-      last (e.more_exprs first rest) = comma (count rest) (expression first) (last rest)
+      last (e.more_exprs first rest) = comma (expression_count rest) (expression first) (last rest)
 
       arguments : (types : List ValueType) (y : ExprList) → Into (x.ArgumentsDo G facts sites types y) (x.ArgumentsDo H facts sites types y)
       arguments types e.no_exprs = same
       arguments types (e.more_exprs first rest) =
           then_into (handed_value (is_null_as (first_type types) first) (first_type types) (expression first)) (arguments (other_types types) rest)
 
-      lone : (want : Option ValueType → Option ValueType) (y : ExprList) → Into (x.LoneDoes G facts sites want y) (x.LoneDoes H facts sites want y)
+      lone : (want : Option ValueType → Option ValueType) (y : ExprList) → Into (x.OneArgumentDoes G facts sites want y) (x.OneArgumentDoes H facts sites want y)
       lone want e.no_exprs = stuck
       lone want (e.more_exprs first rest) =
-          only (count rest == 0) (handed_value (is_null_as (want (type_of facts first)) first) (want (type_of facts first)) (expression first))
+          only (expression_count rest == 0) (handed_value (is_null_as (want (type_of facts first)) first) (want (type_of facts first)) (expression first))
 
       formatted : (y : ExprList) → Into (x.FormatDoes G facts sites y) (x.FormatDoes H facts sites y)
       formatted e.no_exprs = stuck
-      formatted (e.more_exprs first rest) = prints (number_of_text facts first) (text_of_string facts first) (count rest) (λ types. arguments types rest)
+      formatted (e.more_exprs first rest) = prints (number_of_text facts first) (text_of_string facts first) (expression_count rest) (λ types. arguments types rest)
 
     condition : (token : ℕ) (y : ExprTree) → Into (x.Condition G facts sites token y) (x.Condition H facts sites token y)
     condition token y = condition_in token (expression y).value (expression y).truth
@@ -522,10 +522,10 @@ module _ (G H : Graph) (free : ℕ → Type 0) (keeps : Keeps G H free) where
     initialised token (Some (tree.Value value)) = value_set token (facts.declared_at token) value
     initialised token (Some (tree.Braced at items comma)) = then_into (zeroed token) (elements token 0 items)
 
-    starts : (y : StartTree) → Into (i.Starts G facts sites y) (i.Starts H facts sites y)
+    starts : (y : StartTree) → Into (i.VariableStarts G facts sites y) (i.VariableStarts H facts sites y)
     starts y = then_into (on_local (facts.slot_at y.declarator.name_token) clears) (initialised y.declarator.name_token y.initial)
 
-    all_start : (ys : List StartTree) → Into (i.AllStart G facts sites ys) (i.AllStart H facts sites ys)
+    all_start : (ys : List StartTree) → Into (i.VariablesStart G facts sites ys) (i.VariablesStart H facts sites ys)
     all_start [] = same
     all_start (y ∷ ys) = then_into (starts y) (all_start ys)
 
@@ -541,14 +541,14 @@ module _ (G H : Graph) (free : ℕ → Type 0) (keeps : Keeps G H free) where
     optional_condition token None = same
     optional_condition token (Some y) = condition token y
 
-    for_starts : (y : ForStartTree) → Into (s.ForStarts G facts sites y) (s.ForStarts H facts sites y)
+    for_starts : (y : ForStartTree) → Into (s.ForStartPath G facts sites y) (s.ForStartPath H facts sites y)
     for_starts (tree.Declares d) = declares d
     for_starts (tree.Computes y) = optional_effect y
 
-    while_in : {C C' : Path Ways} {B B' : Path Exits} → Into C C' → Into B B' → Into (s.WhileDo G C B) (s.WhileDo H C' B')
+    while_in : {C C' : Path Ways} {B B' : Path Exits} → Into C C' → Into B B' → Into (s.WhileLoop G C B) (s.WhileLoop H C' B')
     while_in c b = record { leads = λ at k h. (h.0, h.1, c.leads at _ h.2, b.leads h.0 _ h.3, keeps.kept h.1 (view.Turns at) tt h.4) }
 
-    do_in : {C C' : Path Ways} {B B' : Path Exits} → Into C C' → Into B B' → Into (s.DoDo G C B) (s.DoDo H C' B')
+    do_in : {C C' : Path Ways} {B B' : Path Exits} → Into C C' → Into B B' → Into (s.DoWhileLoop G C B) (s.DoWhileLoop H C' B')
     do_in c b = record { leads = λ at k h. (h.0, h.1, b.leads at _ h.2, c.leads h.0 _ h.3, keeps.kept h.1 (view.Turns at) tt h.4) }
 
     for_in : {C C' : Path Ways} {S S' : Path ℕ} {B B' : Path Exits} → Into C C' → Into S S' → Into B B' → Into (s.ForLoop G C S B) (s.ForLoop H C' S' B')
@@ -556,20 +556,20 @@ module _ (G H : Graph) (free : ℕ → Type 0) (keeps : Keeps G H free) where
       leads = λ at k h. (h.0, h.1, h.2, c.leads at _ h.3, b.leads h.0 _ h.4, t.leads h.2 h.1 h.5, keeps.kept h.1 (view.Turns at) tt h.6);
     }
 
-    before_in : {R R' S S' : Path Exits} → Into R R' → Into S S' → Into (Before R S) (Before R' S')
+    before_in : {R R' S S' : Path Exits} → Into R R' → Into S S' → Into (StatementSequence R S) (StatementSequence R' S')
     before_in a b = record { leads = λ at k h. (h.0, a.leads at _ h.1, b.leads h.0 k h.2) }
 
     effect_in : {R R' : Path ℕ} → Into R R' → Into {K = Exits} (λ at k. R at k.next) (λ at k. R' at k.next)
     effect_in a = record { leads = λ at k h. a.leads at k.next h }
 
-    return_in : (result : ValueType) (y : Option ExprTree) → Into (s.ReturnDo G facts sites result y) (s.ReturnDo H facts sites result y)
+    return_in : (result : ValueType) (y : Option ExprTree) → Into (s.ReturnPath G facts sites result y) (s.ReturnPath H facts sites result y)
     return_in result None = record { leads = λ at k h. h }
     return_in result (Some y) = record {
       leads = λ at k h. (wanted (is_null_as (Some result) y) (type_of facts y) (Some result) (expression y)).leads at k.gives h;
     }
 
     mutual
-      statement : (result : ValueType) (y : StatementTree) → Into (s.Runs G facts sites result y) (s.Runs H facts sites result y)
+      statement : (result : ValueType) (y : StatementTree) → Into (s.StatementDoes G facts sites result y) (s.StatementDoes H facts sites result y)
       statement result (tree.Block token entries) = record { leads = λ at k h. (all_entries result entries).leads at k h }
       statement result (tree.Empty token) = record { leads = λ at k h. h }
       statement result (tree.Expr token y) = record { leads = λ at k h. (expression y).effect.leads at k.next h }
@@ -585,7 +585,7 @@ module _ (G H : Graph) (free : ℕ → Type 0) (keeps : Keeps G H free) where
       statement result (tree.Break token) = record { leads = λ at k h. h }
       statement result (tree.Continue token) = record { leads = λ at k h. h }
 
-      pub all_entries : (result : ValueType) (ys : EntryList) → Into (s.RunsAll G facts sites result ys) (s.RunsAll H facts sites result ys)
+      pub all_entries : (result : ValueType) (ys : EntryList) → Into (s.EntriesDo G facts sites result ys) (s.EntriesDo H facts sites result ys)
       all_entries result tree.no_entries = record { leads = λ at k h. h }
       all_entries result (tree.declared d rest) = record { leads = λ at k h. (then_into (declares d) (all_entries result rest)).leads at k h }
       all_entries result (tree.stated y rest) = record { leads = λ at k h. (before_in (statement result y) (all_entries result rest)).leads at k h }
@@ -604,7 +604,7 @@ module _ (G H : Graph) (free : ℕ → Type 0) (keeps : Keeps G H free) where
   ends_into true false k h = h
   ends_into false value k h = h
 
-  pub leaves_into : (is_main value : Bool) (k : Exits) → f.Leaves G is_main value k → f.Leaves H is_main value k
+  pub leaves_into : (is_main value : Bool) (k : Exits) → f.FunctionExits G is_main value k → f.FunctionExits H is_main value k
   leaves_into is_main value k h = (
     gives_into value k.gives h.0,
     keeps.kept k.leaves view.Quits tt h.1,

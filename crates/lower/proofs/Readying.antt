@@ -15,7 +15,7 @@ use Rattle.flow.specs.declared.site.SiteKind.TheVariants as kind
 use Rattle.flow.specs.Words.{view_at, view_in, view as view_of, ArePlain, IsBranch, IsBranchKind, IsPlain, IsReady}
 use Rattle.c_meaning.specs.Words.{Source, is_branch}
 use Rattle.lower.specs.Programs.{AreFunctionsOf}
-use Rattle.lower_nodes.specs.Standing.{forks}
+use Rattle.lower_nodes.specs.Standing.{is_fork}
 use Rattle.lower.specs.Ready.{AllMayStand, is_condition, may_stand}
 
 plain_view : (site_of : ℕ → Option Site) (nodes : List Node) (v : View) → may_stand site_of nodes v ≡ true → IsPlain v
@@ -43,7 +43,7 @@ condition_site None is = absurd is
 condition_site (Some s) is = condition_kind s.kind is
 
 -- a node that forks is a fork
-pub fork_is : (v : View) → forks v ≡ true → (when_true when_false : ℕ) × (v ≡ view.Forks when_true when_false)
+pub fork_is : (v : View) → is_fork v ≡ true → (when_true when_false : ℕ) × (v ≡ view.Forks when_true when_false)
 fork_is (view.Forks when_true when_false) e = (when_true, when_false, refl)
 fork_is v e = absurd (false≢true e)
 
@@ -60,7 +60,7 @@ module _ (src : Source) (site next : ℕ) (is : IsBranch (src.sites.site site)) 
       Behind (view_at (slice_get nodes next))
   at_node nodes place None all here at = absurd (cc)
   at_node nodes place (Some x) all here at =
-      fork_is (view_at (slice_get nodes next)) (second_holds (is_condition (src.sites.site site)) (forks (view_at (slice_get nodes next)))
+      fork_is (view_at (slice_get nodes next)) (second_holds (is_condition (src.sites.site site)) (is_fork (view_at (slice_get nodes next)))
       (condition_site (src.sites.site site) is) (subst (λ v. may_stand src.sites.site nodes v ≡ true) at (all.each place x here)))
 
   at_function : (functions : List Function) (function place : ℕ) (f : Option Function) → AreFunctionsOf src functions →

@@ -4,7 +4,7 @@ use Rattle.std.proofs.lemmas.List.Sums.{sum_by-append, sum_by-cons}
 use Rattle.c_syntax.specs.Words.{EntryList, tree_kinds}
 use Rattle.flow.specs.declared.program.Function.{Function}
 use Rattle.flow.specs.declared.site.Site.{Site}
-use Rattle.c_meaning.specs.Words.{Sites, bodies, sites_by_table}
+use Rattle.c_meaning.specs.Words.{Sites, function_bodies, sites_by_table}
 use Rattle.lower_relation.specs.Room.{function_room, functions_room}
 use Rattle.lower_facts.specs.declared.facts.TreeFacts.{TreeFacts}
 use Rattle.lower_facts.specs.Facts.{known_in, sites_in, source_in, table_in, tree_in}
@@ -25,6 +25,6 @@ module _ (sites : Sites) where
 -- they are no more than what is known of the text's room
 pub few_of : (f : TreeFacts) (functions : List Function) (table : List Site) → table_in f ≡ table →
     node_count functions ≤ functions_room (sites_in f) (source_in f).body (length (known_in f).definitions) →
-    functions_room (sites_by_table (table_in f)) (slice_get (bodies (tree_in f))) (length (known_in f).definitions) ≤ 16 * length (tree_kinds (tree_in f)) + length (table_in f) →
+    functions_room (sites_by_table (table_in f)) (slice_get (function_bodies (tree_in f))) (length (known_in f).definitions) ≤ 16 * length (tree_kinds (tree_in f)) + length (table_in f) →
     node_count functions ≤ 16 * length (tree_kinds (tree_in f)) + length table
 few_of f functions table e few most = omega (arith, few, most, ap length e)

@@ -6,7 +6,7 @@ use Rattle.base_lists.proofs.Tests.{and_second}
 use Rattle.flow.specs.declared.site.Site.{Site}
 use Rattle.flow.specs.declared.site.SiteKind.{SiteKind}
 use Rattle.flow.specs.declared.site.SiteKind.TheVariants as kind
-use Rattle.c_meaning.specs.Words.{head_site, is_branch, is_pair, is_return, sites_from, sites_by_table, listed}
+use Rattle.c_meaning.specs.Words.{head_site, is_branch, is_pair, is_return, sites_from, sites_by_table, site_list}
 use Rattle.lower.specs.Keeps.{AllFree, Apart}
 use Rattle.lower.specs.Ready.{IsFree, is_condition}
 
@@ -38,7 +38,7 @@ no_pair (kind.Branch word) e = absurd (false≢true e)
 no_pair (kind.Return callee) e = refl
 no_pair (kind.Pair target slot partner) e = refl
 
-first_free : (free : ℕ → Type 0) (sites : List ℕ) → AllFree free sites → AllFree free (listed (head_site sites))
+first_free : (free : ℕ → Type 0) (sites : List ℕ) → AllFree free sites → AllFree free (site_list (head_site sites))
 first_free free [] are = tt
 first_free free (site ∷ sites) are = (are.0, tt)
 

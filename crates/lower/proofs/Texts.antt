@@ -10,7 +10,7 @@ use Rattle.flow.specs.declared.scope.Names.{Names}
 use Rattle.flow.specs.declared.site.Site.{Site}
 use Rattle.flow.specs.declared.site.TableParts.{TableParts}
 use Rattle.flow.specs.Limits.{site_limit}
-use Rattle.c_meaning.specs.Words.{Signature, Sites, bodies, facts_of, Source, source_of, sites_by_table}
+use Rattle.c_meaning.specs.Words.{Signature, Sites, function_bodies, facts_of, Source, source_of, sites_by_table}
 use Rattle.sites.specs.Wanted.{no_schemes}
 use Rattle.c_meaning_laws.specs.TypedSource.{TypedBody}
 use Rattle.c_meaning_laws.specs.TypedText.{TypedText}
@@ -48,7 +48,7 @@ module _ (tree : SourceTree) (walk : Walk) (accepted : IsAcceptedTree tree walk)
   types_fit sites (inr h) = subst (TypedText tree walk) (sym h.1) (table_fits tree walk h.0 accepted)
 
   -- each body owns the sites that stand within it
-  sites_owned : (sites : List Site) (number : ℕ) (body : EntryList) → AreSitesOf tree walk sites → slice_get (bodies tree) number ≡ Some body →
+  sites_owned : (sites : List Site) (number : ℕ) (body : EntryList) → AreSitesOf tree walk sites → slice_get (function_bodies tree) number ≡ Some body →
       BodyOwns sites number body
   sites_owned sites number body (inl e) at =
       subst (λ (xs : List Site). BodyOwns xs number body) (sym e) (none_owned tree walk no_schemes number body accepted.formed.shaped at)
@@ -69,7 +69,7 @@ module _ (tree : SourceTree) (walk : Walk) (table : TableParts) (ready : IsReady
   names = names_of_text tree walk table.sites
 
   -- a body whose types fit
-  body_fits : (number : ℕ) (f : Signature) (body : Option EntryList) → slice_get (bodies tree) number ≡ body →
+  body_fits : (number : ℕ) (f : Signature) (body : Option EntryList) → slice_get (function_bodies tree) number ≡ body →
       TypedBody (facts_of tree walk) (sites_by_table table.sites) f body → HasFitting src names number f body
   body_fits number f None at typed = typed
   body_fits number f (Some body) at typed =
@@ -105,12 +105,12 @@ module _ (tree : SourceTree) (walk : Walk) (table : TableParts) (ready : IsReady
         );
         room = omega (
           arith,
-          one_room (sites_by_table table.sites) (bodies tree) number,
+          one_room (sites_by_table table.sites) (function_bodies tree) number,
           few_nodes tree table.sites ready.whole.accepted.formed.shaped,
           ready.whole.short,
           few,
         );
-        body = body_fits number signed.own (slice_get (bodies tree) number) refl
+        body = body_fits number signed.own (slice_get (function_bodies tree) number) refl
             ((types_fit tree walk ready.whole.accepted table.sites ready.sites).functions number signed.own signed.is);
       }
 

@@ -5,7 +5,7 @@ use Rattle.flow.specs.declared.node.Node.{Node}
 use Rattle.flow.specs.declared.node.Node.TheVariants as node
 use Rattle.c_meaning.specs.declared.value_type.ValueType.{ValueType}
 use Rattle.c_meaning.specs.Words.{Facts, Sites, has_value}
-use Rattle.lower_relation.specs.Functions.{BodyDoes, ComesTo, EndsAt, GivesAt, Leaves, standing}
+use Rattle.lower_relation.specs.Functions.{BodyDoes, ComesTo, EndsAt, GivesAt, FunctionExits, graph_of_nodes}
 use Rattle.lower_relation.specs.Paths.{Does, Exits}
 use Rattle.lower_nodes.specs.Finished.{Finished}
 use Rattle.lower_nodes.specs.Made.{GraphPath, Made}
@@ -20,7 +20,7 @@ EndPart is_main value G i x = EndsAt G is_main value (record x { next = i })
 
 -- how a function is left, seen from where it is left without a value
 abbrev pub LeavesPart : Bool → Bool → GraphPath Exits
-LeavesPart is_main value G i x = (i ≡ x.leaves) × Leaves G is_main value x
+LeavesPart is_main value G i x = (i ≡ x.leaves) × FunctionExits G is_main value x
 
 -- Where a function begins, with what was put for it: at the entry of its body, or at a node that passes control on to it.
 pub data BodyBegins (old new : List Node) (i entry : ℕ) : Type 0 where
@@ -35,7 +35,7 @@ pub record BodyNodes (facts : Facts) (sites : Sites) (is_main : Bool) (gives : V
   pub start : ℕ
   pub first_node : ren start ≡ 0
   pub entry : ℕ
-  pub begins : ComesTo (standing graph) start entry
+  pub begins : ComesTo (graph_of_nodes graph) start entry
   pub exits : Exits
-  pub runs : BodyDoes (standing graph) facts sites gives body entry exits
-  pub leaves : Leaves (standing graph) is_main (has_value gives) exits
+  pub runs : BodyDoes (graph_of_nodes graph) facts sites gives body entry exits
+  pub leaves : FunctionExits (graph_of_nodes graph) is_main (has_value gives) exits

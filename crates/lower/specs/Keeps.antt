@@ -2,7 +2,7 @@
 use Rattle.std.specs.Prelude.{ℕ, List, [], ◌∷◌}
 use Rattle.flow.specs.declared.node.View.{View}
 use Rattle.flow.specs.declared.node.View.TheVariants.{Forks, Marks, Skips, Tests, Picks, Imports, Exports}
-use Rattle.c_meaning.specs.Words.{Sites, listed}
+use Rattle.c_meaning.specs.Words.{Sites, site_list}
 use Rattle.lower_relation.specs.Paths.{Graph}
 
 abbrev pub AllFree : (ℕ → Type 0) → List ℕ → Type 0
@@ -11,7 +11,7 @@ AllFree free (site ∷ sites) = free site × AllFree free sites
 
 -- what is visited after a return or an assignment is free
 pub record Apart (free : ℕ → Type 0) (sites : Sites) : Type 0 where
-  pub returns : (token : ℕ) → AllFree free (listed (sites.return_at token))
+  pub returns : (token : ℕ) → AllFree free (site_list (sites.return_at token))
   pub pairs : (token : ℕ) → AllFree free (sites.pairs_at token)
 
 -- neither a visit nor a node of sampling

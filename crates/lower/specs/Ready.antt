@@ -6,7 +6,7 @@ use Rattle.flow.specs.declared.node.View.TheVariants.{Marks, Skips, Tests, Picks
 use Rattle.flow.specs.declared.site.Site.{Site}
 use Rattle.flow.specs.Words.{view_at, view}
 use Rattle.c_meaning.specs.Texts.{is_branch}
-use Rattle.lower_nodes.specs.Standing.{forks}
+use Rattle.lower_nodes.specs.Standing.{is_fork}
 
 -- the site of a condition
 abbrev pub is_condition : Option Site → Bool
@@ -19,7 +19,7 @@ IsFree site_of number = is_condition (site_of number) ≡ false
 
 -- a node among these that doesn't belong to sampling and, where it visits the site of a condition, stands before the fork on it
 abbrev pub may_stand : (ℕ → Option Site) → List Node → View → Bool
-may_stand site_of nodes (Marks site next) = not (is_condition (site_of site)) || forks (view_at (slice_get nodes next))
+may_stand site_of nodes (Marks site next) = not (is_condition (site_of site)) || is_fork (view_at (slice_get nodes next))
 may_stand site_of nodes (Skips by next) = false
 may_stand site_of nodes (Tests site next) = false
 may_stand site_of nodes (Picks weight fast slow) = false

@@ -10,16 +10,16 @@ use Rattle.c_types_expressions.specs.ExprWalk.{binary_of}
 use Rattle.c_syntax.proofs.PlainExprs.{plain_link_before}
 use Rattle.flow.specs.declared.node.Node.{Node}
 use Rattle.c_meaning.specs.declared.value_type.ValueType.{ValueType}
-use Rattle.c_meaning.specs.Words.{Facts, Sites, operation, Joint, Both, Computes, is_null_beside, joint, operand_type, type_of}
+use Rattle.c_meaning.specs.Words.{Facts, Sites, operation, Joint, Both, Computes, is_null_beside, joint_of_sign, operand_type, type_of}
 use Rattle.c_meaning.specs.Trees as tree
-use Rattle.lower_relation.specs.Expressions.{LinksDo, emitted}
-use Rattle.lower_relation.specs.Operators.{Flagged, Linked, Operates}
+use Rattle.lower_relation.specs.Expressions.{LinksDo, emitted_expression}
+use Rattle.lower_relation.specs.Operators.{TruthAsInt, Linked, Operates}
 use Rattle.lower_relation.specs.Paths.{◌then◌}
-use Rattle.lower_relation.specs.Values.{NullOr, Valued}
-use Rattle.lower_operators.specs.Linking.{Shortcut, link_part, side_ends, sides, type_before}
+use Rattle.lower_relation.specs.Values.{NullOr, EmittedValue}
+use Rattle.lower_operators.specs.Linking.{Shortcut, link_part, side_ends, shortcut_sides, type_before}
 use Rattle.lower_nodes.specs.Ends.{Any, one_end}
 use Rattle.lower_nodes.specs.Made.{GraphPath, Made, MadeFor, MadeTo}
-use Rattle.lower_nodes.specs.Parts.{serving, value_part}
+use Rattle.lower_nodes.specs.Parts.{purpose_part, value_part}
 use Rattle.lower_nodes.specs.Purposes.{PurposeTakes, Serves}
 use Rattle.lower_expressions.specs.Weights.{links_weight, weight}
 use Rattle.lower_nodes.specs.declared.purpose.Purpose.{Purpose}
@@ -73,41 +73,41 @@ module _ (facts : Facts) (sites : Sites) where
 
   module _ (token : ℕ) (left right : Option ValueType) (R : GraphPath ℕ) where
     -- `&&` and `||`
-    pub both_made : (n0 n1 n2 n3 : List Node) (flagged right_at i k : ℕ) → Made (λ G. Flagged G) n0 n1 flagged k → Made R n1 n2 right_at flagged →
-        MadeTo side_ends Any (λ G. Shortcut G facts sites true token) n2 n3 i (sides right_at k) → Made (λ G. Linked G facts sites Both token left right (R G)) n0 n3 i k
+    pub both_made : (n0 n1 n2 n3 : List Node) (flagged right_at i k : ℕ) → Made (λ G. TruthAsInt G) n0 n1 flagged k → Made R n1 n2 right_at flagged →
+        MadeTo side_ends Any (λ G. Shortcut G facts sites true token) n2 n3 i (shortcut_sides right_at k) → Made (λ G. Linked G facts sites Both token left right (R G)) n0 n3 i k
     both_made n0 n1 n2 n3 flagged right_at i k flags made cut =
-        both_ways (Joined (λ G. Shortcut G facts sites true token) (λ G. R G then Flagged G) sides (λ t. t)) (λ G. Linked G facts sites Both token left right (R G)) k
-        (λ G i k h. (h.1.0, h.1.1, h.1.2, subst (λ j. (R G then Flagged G) j k) (sym h.1.3) h.2, h.1.4)) (λ s i k h. (h.0, (h.0, h.1, h.2, refl, h.4), h.3)) n0 n3 i
-        (joined_made {h = one_end} (λ G. Shortcut G facts sites true token) (λ G. R G then Flagged G) sides (λ t. t) n0 n2 n3 i right_at k (λ n b. b) (λ n b m. (m, b))
+        both_ways (Joined (λ G. Shortcut G facts sites true token) (λ G. R G then TruthAsInt G) shortcut_sides (λ t. t)) (λ G. Linked G facts sites Both token left right (R G)) k
+        (λ G i k h. (h.1.0, h.1.1, h.1.2, subst (λ j. (R G then TruthAsInt G) j k) (sym h.1.3) h.2, h.1.4)) (λ s i k h. (h.0, (h.0, h.1, h.2, refl, h.4), h.3)) n0 n3 i
+        (joined_made {h = one_end} (λ G. Shortcut G facts sites true token) (λ G. R G then TruthAsInt G) shortcut_sides (λ t. t) n0 n2 n3 i right_at k (λ n b. b) (λ n b m. (m, b))
         (λ s n u b. b) (λ s n u q b m. (m, b)) (made and_then flags) cut)
 
-    pub either_links : (n0 n1 n2 n3 : List Node) (flagged right_at i k : ℕ) → Made (λ G. Flagged G) n0 n1 flagged k → Made R n1 n2 right_at flagged →
-        MadeTo side_ends Any (λ G. Shortcut G facts sites false token) n2 n3 i (sides right_at k) → Made (λ G. Linked G facts sites tree.Either token left right (R G)) n0 n3 i k
+    pub either_links : (n0 n1 n2 n3 : List Node) (flagged right_at i k : ℕ) → Made (λ G. TruthAsInt G) n0 n1 flagged k → Made R n1 n2 right_at flagged →
+        MadeTo side_ends Any (λ G. Shortcut G facts sites false token) n2 n3 i (shortcut_sides right_at k) → Made (λ G. Linked G facts sites tree.Either token left right (R G)) n0 n3 i k
     either_links n0 n1 n2 n3 flagged right_at i k flags made cut =
-        both_ways (Joined (λ G. Shortcut G facts sites false token) (λ G. R G then Flagged G) sides (λ t. t)) (λ G. Linked G facts sites tree.Either token left right (R G)) k
-        (λ G i k h. (h.1.0, h.1.1, h.1.2, h.1.3, subst (λ j. (R G then Flagged G) j k) (sym h.1.4) h.2)) (λ s i k h. (h.1, (h.0, h.1, h.2, h.3, refl), h.4)) n0 n3 i
-        (joined_made {h = one_end} (λ G. Shortcut G facts sites false token) (λ G. R G then Flagged G) sides (λ t. t) n0 n2 n3 i right_at k (λ n b. b) (λ n b m. (m, b))
+        both_ways (Joined (λ G. Shortcut G facts sites false token) (λ G. R G then TruthAsInt G) shortcut_sides (λ t. t)) (λ G. Linked G facts sites tree.Either token left right (R G)) k
+        (λ G i k h. (h.1.0, h.1.1, h.1.2, h.1.3, subst (λ j. (R G then TruthAsInt G) j k) (sym h.1.4) h.2)) (λ s i k h. (h.1, (h.0, h.1, h.2, h.3, refl), h.4)) n0 n3 i
+        (joined_made {h = one_end} (λ G. Shortcut G facts sites false token) (λ G. R G then TruthAsInt G) shortcut_sides (λ t. t) n0 n2 n3 i right_at k (λ n b. b) (λ n b m. (m, b))
         (λ s n u b. b) (λ s n u q b m. (m, b)) (made and_then flags) cut)
 
     pub computes_made : (o : Binary) (n0 n1 n2 : List Node) (done i k : ℕ) → Made (λ G. Operates G (operation o left right)) n0 n1 done k → Made R n1 n2 i done →
         Made (λ G. Linked G facts sites (Computes o) token left right (R G)) n0 n2 i k
     computes_made o n0 n1 n2 done i k operated made = made and_then operated
 
-  pub linked_by : (j : Joint) (left : Option ValueType) (token : ℕ) (sign : Sign) (operand : ExprTree) (n0 n1 : List Node) (i k : ℕ) → j ≡ joint sign →
+  pub linked_by : (j : Joint) (left : Option ValueType) (token : ℕ) (sign : Sign) (operand : ExprTree) (n0 n1 : List Node) (i k : ℕ) → j ≡ joint_of_sign sign →
       Made (λ G. Linked G facts sites j token left (operand_type (is_null_beside (binary_of sign) left operand) (type_of facts operand))
-      (NullOr G (is_null_beside (binary_of sign) left operand) (emitted G facts sites operand))) n0 n1 i k →
+      (NullOr G (is_null_beside (binary_of sign) left operand) (emitted_expression G facts sites operand))) n0 n1 i k →
       Made (link_part facts sites left token sign operand) n0 n1 i k
   linked_by j left token sign operand n0 n1 i k e made =
       subst (λ j. Made (λ G. Linked G facts sites j token left (operand_type (is_null_beside (binary_of sign) left operand) (type_of facts operand))
-      (NullOr G (is_null_beside (binary_of sign) left operand) (emitted G facts sites operand))) n0 n1 i k) e made
+      (NullOr G (is_null_beside (binary_of sign) left operand) (emitted_expression G facts sites operand))) n0 n1 i k) e made
 
   -- the operators of one level, by their value
   pub chain_made : (first : ExprTree) (links : LinkList) (p : Purpose) (n0 n1 n2 : List Node) (after i : ℕ) → ((yes_at no_at : ℕ) → p ≡ purpose.Truth yes_at no_at → ⊥) →
-      MadeFor (λ G. PurposeTakes G) n0 n1 after p → Made (value_part facts sites (e.Chain 0 first links)) n1 n2 i after → MadeFor (serving facts sites (e.Chain 0 first links)) n0 n2 i p
+      MadeFor (λ G. PurposeTakes G) n0 n1 after p → Made (value_part facts sites (e.Chain 0 first links)) n1 n2 i after → MadeFor (purpose_part facts sites (e.Chain 0 first links)) n0 n2 i p
   chain_made first links (purpose.Value next) n0 n1 n2 after i other taken made =
-      same_value (λ G. Serves (Valued G (value_part facts sites (e.Chain 0 first links) G))) (serving facts sites (e.Chain 0 first links)) (λ G i k h. h) (λ s i k h. h) n0 n2 i next
+      same_value (λ G. Serves (EmittedValue G (value_part facts sites (e.Chain 0 first links) G))) (purpose_part facts sites (e.Chain 0 first links)) (λ G i k h. h) (λ s i k h. h) n0 n2 i next
       (valued_made (value_part facts sites (e.Chain 0 first links)) (purpose.Value next) n0 n1 n2 i after taken made)
   chain_made first links (purpose.Effect next) n0 n1 n2 after i other taken made =
-      same_effect (λ G. Serves (Valued G (value_part facts sites (e.Chain 0 first links) G))) (serving facts sites (e.Chain 0 first links)) (λ G i k h. h) (λ s i k h. h) n0 n2 i next
+      same_effect (λ G. Serves (EmittedValue G (value_part facts sites (e.Chain 0 first links) G))) (purpose_part facts sites (e.Chain 0 first links)) (λ G i k h. h) (λ s i k h. h) n0 n2 i next
       (valued_made (value_part facts sites (e.Chain 0 first links)) (purpose.Effect next) n0 n1 n2 i after taken made)
   chain_made first links (purpose.Truth yes_at no_at) n0 n1 n2 after i other taken made = absurd (other yes_at no_at refl)

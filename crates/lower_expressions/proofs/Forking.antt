@@ -11,16 +11,16 @@ use Rattle.c_meaning.specs.declared.value_type.Called.{Called}
 use Rattle.c_meaning.specs.declared.value_type.Called.TheVariants as called
 use Rattle.c_meaning.specs.declared.value_type.ValueType.{ValueType}
 use Rattle.c_meaning.specs.declared.value_type.ValueType.TheVariants as type
-use Rattle.c_meaning.specs.Words.{Facts, Signature, Sites, Joint, Both, Computes, Unjoined, begins_null, called_as, count, ends_as_place, has_value}
-use Rattle.c_meaning.specs.Words.{is_null_beside, is_place, joint, operand_type, token_of, type_of, listed}
+use Rattle.c_meaning.specs.Words.{Facts, Signature, Sites, Joint, Both, Computes, Unjoined, called_as, expression_count, ends_as_place, has_value}
+use Rattle.c_meaning.specs.Words.{is_null_beside, is_place, joint_of_sign, operand_type, token_of, type_of, site_list}
 use Rattle.c_meaning.specs.Trees as tree
 use Rattle.lower_relation.specs.Calls.{ArgumentPath, ArgumentsPath, CallDoes, CallFunction, CallLibrary, WithResult}
-use Rattle.lower_relation.specs.Expressions.{LastDoes, LinksDo, LinksHold, emitted}
+use Rattle.lower_relation.specs.Expressions.{CommaDoes, LinksDo, LinksHold, emitted_expression}
 use Rattle.lower_relation.specs.Operators.{Cast, Comma, DecidesAt, Linked, LinkedTruth, Postfixed, Prefixed, SizeValue}
 use Rattle.lower_relation.specs.Paths.{Graph, Path, ◌then◌, Emitted, ForkTo, MarksAll, Ways}
 use Rattle.lower_relation.specs.Values.{NullOr, NullTruth}
 use Rattle.lower_nodes.specs.Parts.{truth_part, value_part}
-use Rattle.lower_nodes.specs.Purposes.{ways}
+use Rattle.lower_nodes.specs.Purposes.{condition_ways}
 use Rattle.lower_nodes.specs.Standing.{Allowed, Allowance}
 
 -- where there is a value, there is a truth
@@ -93,17 +93,17 @@ module _ (p : Allowance) where
       value_forks (e.Paren token inner) i k w h = value_forks inner i k w h
       value_forks x i k w h = (k, h, fork_stands k w)
 
-      pub last_forks : (xs : ExprList) → Forks (LastDoes G facts sites xs).value (LastDoes G facts sites xs).truth
+      pub last_forks : (xs : ExprList) → Forks (CommaDoes G facts sites xs).value (CommaDoes G facts sites xs).truth
       last_forks e.no_exprs i k w h = (k, h, fork_stands k w)
-      last_forks (e.more_exprs x rest) i k w h = comma_forks (count rest) (emitted G facts sites x) (LastDoes G facts sites rest) (value_forks x) i k w h
+      last_forks (e.more_exprs x rest) i k w h = comma_forks (expression_count rest) (emitted_expression G facts sites x) (CommaDoes G facts sites rest) (value_forks x) i k w h
 
-    pub null_forks : (is_null : Bool) (x : ExprTree) → Forks (NullOr G is_null (emitted G facts sites x)) (NullTruth G is_null (emitted G facts sites x))
+    pub null_forks : (is_null : Bool) (x : ExprTree) → Forks (NullOr G is_null (emitted_expression G facts sites x)) (NullTruth G is_null (emitted_expression G facts sites x))
     null_forks true x i k w h = (k, h, fork_stands k w)
     null_forks false x i k w h = value_forks x i k w h
 
     -- the way of a condition from its value and the visit of its site, wherever it leads
     decides_forks : (site : Option ℕ) (R : Path ℕ) (T : Path Ways) (i m : ℕ) (v w : Ways) → Forks R T → R i m →
-        (MarksAll G (listed site) then ForkTo G) m v → DecidesAt G facts sites site R T i w
+        (MarksAll G (site_list site) then ForkTo G) m v → DecidesAt G facts sites site R T i w
     decides_forks None R T i m v w forks r d = forks i m w r
     decides_forks (Some site) R T i m v w forks r d = (m, r, (d.0, d.1, fork_stands d.0 w))
 
@@ -113,14 +113,14 @@ module _ (p : Allowance) where
     link_forks Both token left right R T S U r s i k w h = (
       h.2.0,
       w.no_to,
-      decides_forks (sites.branch_at token) R T i h.0 (ways h.2.0 h.2.1) (ways h.2.0 w.no_to) r h.1 h.2.2,
+      decides_forks (sites.branch_at token) R T i h.0 (condition_ways h.2.0 h.2.1) (condition_ways h.2.0 w.no_to) r h.1 h.2.2,
       s h.2.0 h.2.3.0 w h.2.3.1,
       refl,
     )
     link_forks tree.Either token left right R T S U r s i k w h = (
       w.yes_to,
       h.2.1,
-      decides_forks (sites.branch_at token) R T i h.0 (ways h.2.0 h.2.1) (ways w.yes_to h.2.1) r h.1 h.2.2,
+      decides_forks (sites.branch_at token) R T i h.0 (condition_ways h.2.0 h.2.1) (condition_ways w.yes_to h.2.1) r h.1 h.2.2,
       refl,
       s h.2.1 h.2.4.0 w h.2.4.1,
     )
@@ -132,7 +132,7 @@ module _ (p : Allowance) where
     links_fork e.no_links left R T forks i k w h = forks i h.0 w h.1
     links_fork (e.more_links token sign operand rest) left R T forks i k w h =
         links_fork rest (facts.type_at token) _ _
-        (link_forks (joint sign) token left (operand_type (is_null_beside (binary_of sign) left operand) (type_of facts operand)) R T
-        (NullOr G (is_null_beside (binary_of sign) left operand) (emitted G facts sites operand))
-        (NullTruth G (is_null_beside (binary_of sign) left operand) (emitted G facts sites operand)) forks (null_forks (is_null_beside (binary_of sign) left operand) operand))
+        (link_forks (joint_of_sign sign) token left (operand_type (is_null_beside (binary_of sign) left operand) (type_of facts operand)) R T
+        (NullOr G (is_null_beside (binary_of sign) left operand) (emitted_expression G facts sites operand))
+        (NullTruth G (is_null_beside (binary_of sign) left operand) (emitted_expression G facts sites operand)) forks (null_forks (is_null_beside (binary_of sign) left operand) operand))
         i k w (h.2.0, (h.0, h.1, h.2.1), h.2.2)

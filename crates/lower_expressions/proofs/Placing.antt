@@ -14,8 +14,8 @@ use Rattle.c_meaning.specs.declared.value_type.ValueType.{ValueType}
 use Rattle.c_meaning.specs.declared.value_type.ValueType.TheVariants as type
 use Rattle.c_meaning.specs.Words.{Facts, Signature, Sites, called_as, ends_as_place, has_value, is_place, token_of, type_of}
 use Rattle.lower_relation.specs.Calls.{ArgumentPath, ArgumentsPath, CallDoes, CallFunction, CallLibrary, WithResult}
-use Rattle.lower_relation.specs.Expressions.{LastDoes, emitted}
-use Rattle.lower_relation.specs.Operators.{Cast, Pointed, Postfixed, Prefixed, SizeValue}
+use Rattle.lower_relation.specs.Expressions.{CommaDoes, emitted_expression}
+use Rattle.lower_relation.specs.Operators.{Cast, PointerPlace, Postfixed, Prefixed, SizeValue}
 use Rattle.lower_relation.specs.Paths.{Graph, Path, Emitted, Stuck}
 use Rattle.lower_nodes.specs.Made.{GraphPath, Made, MadeAlone}
 use Rattle.lower_nodes.specs.Parts.{place_part, value_part}
@@ -85,12 +85,12 @@ module _ (G : Graph) where
     form_nowhere (e.Call token name arguments) is = call_nowhere token (called_as (facts.function_at token) name) _ _ _ _
     form_nowhere x is = refl
 
-    lone_comma : (xs : List Expr) (d : Expr) → length xs ≡ 1 → d ≡ get_or xs 0 d → place_part facts sites (plain_expr d) G ≡ (LastDoes G facts sites (plain_exprs xs)).place
+    lone_comma : (xs : List Expr) (d : Expr) → length xs ≡ 1 → d ≡ get_or xs 0 d → place_part facts sites (plain_expr d) G ≡ (CommaDoes G facts sites (plain_exprs xs)).place
     lone_comma [] d e at = absurd (omega (arith, e))
     lone_comma (x ∷ []) d e at = ap (λ q. place_part facts sites (plain_expr q) G) at
     lone_comma (x ∷ y ∷ xs) d e at = absurd (omega (arith, e))
 
-    comma_nowhere : (xs : List Expr) → (length xs ≡ 1 → ⊥) → (LastDoes G facts sites (plain_exprs xs)).place ≡ nowhere G
+    comma_nowhere : (xs : List Expr) → (length xs ≡ 1 → ⊥) → (CommaDoes G facts sites (plain_exprs xs)).place ≡ nowhere G
     comma_nowhere [] other = refl
     comma_nowhere (x ∷ []) other = absurd (other refl)
     comma_nowhere (x ∷ y ∷ xs) other = refl
@@ -100,7 +100,7 @@ module _ (facts : Facts) (sites : Sites) where
   nowhere_made x n0 n1 i k is made = is_stuck (place_part facts sites x) (λ G. form_nowhere G facts sites x is) n0 n1 i k made
 
   -- the place that a pointer's value is
-  pub through_place : (token : ℕ) (operand : ExprTree) (n0 n1 n2 : List Node) (pointed i k : ℕ) → Made (λ G. Pointed G) n0 n1 pointed k →
+  pub through_place : (token : ℕ) (operand : ExprTree) (n0 n1 n2 : List Node) (pointed i k : ℕ) → Made (λ G. PointerPlace G) n0 n1 pointed k →
       Made (value_part facts sites operand) n1 n2 i pointed → Made (place_part facts sites (e.Prefix token prefix.Indirection operand)) n0 n2 i k
   through_place token operand n0 n1 n2 pointed i k tested made = made and_then tested
 
@@ -108,7 +108,7 @@ module _ (facts : Facts) (sites : Sites) where
       MadeAlone {K = ℕ} (λ G. Stuck G) n0 n1 i k → Made (place_part facts sites (e.Prefix token operator operand)) n0 n1 i k
   prefix_nowhere token operator operand n0 n1 i k other made =
       is_stuck (place_part facts sites (e.Prefix token operator operand))
-      (λ G. prefixed_nowhere G facts sites token operator (type_of facts operand) (facts.cells_at (token_of operand)) (emitted G facts sites operand) other) n0 n1 i k made
+      (λ G. prefixed_nowhere G facts sites token operator (type_of facts operand) (facts.cells_at (token_of operand)) (emitted_expression G facts sites operand) other) n0 n1 i k made
 
   -- one operand alone is what it is
   pub lone_place : (token : ℕ) (xs : List Expr) (d : Expr) (n0 n1 : List Node) (i k : ℕ) → length xs ≡ 1 → d ≡ get_or xs 0 d → Made (place_part facts sites (plain_expr d)) n0 n1 i k →

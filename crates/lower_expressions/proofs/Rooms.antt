@@ -13,9 +13,9 @@ use Rattle.c_types_rules.specs.declared.library.Library.TheVariants as library
 use Rattle.c_meaning.specs.declared.value_type.Called.{Called}
 use Rattle.c_meaning.specs.declared.value_type.Called.TheVariants as called
 use Rattle.c_meaning.specs.Facts.{Sites}
-use Rattle.lower_relation.specs.Room.{branches, expr_room, exprs_room, links_room, postfix_room}
+use Rattle.lower_relation.specs.Room.{branch_visits, expr_room, exprs_room, links_room, postfix_room}
 use Rattle.lower_expressions.proofs.Chaining.{links_split}
-use Rattle.lower_operators.specs.Passing.{others, passed}
+use Rattle.lower_operators.specs.Passing.{arguments_after_first, arguments_passed}
 use Rattle.lower_operators.specs.Spots.{is_nowhere}
 
 -- what fits in some room fits in more
@@ -31,7 +31,7 @@ module _ (sites : Sites) where
 
   -- an operator of a chain before others
   pub links_more : (links : List Link) (m j : ℕ) (d : Link) → m ≡ j + 1 → j < length links → d ≡ get_or links j d →
-      7 + branches sites d.token + expr_room sites (plain_expr d.operand) + links_room sites (plain_links (drop m links)) ≡ links_room sites (plain_links (drop j links))
+      7 + branch_visits sites d.token + expr_room sites (plain_expr d.operand) + links_room sites (plain_links (drop m links)) ≡ links_room sites (plain_links (drop j links))
   links_more links m j d e low at = rw e (sym (ap (links_room sites) (links_split links j d low at)))
 
   both : (x : PostfixOperator) (rest : PostfixList) →
@@ -79,7 +79,7 @@ module _ (sites : Sites) where
 
   -- so have those up to an operator, with that
   pub links_last : (links : List Link) (j : ℕ) (d : Link) → j < length links → d ≡ get_or links j d →
-      7 + branches sites d.token + expr_room sites (plain_expr d.operand) + links_room sites (plain_links (take j links)) ≡ links_room sites (plain_links (take (j + 1) links))
+      7 + branch_visits sites d.token + expr_room sites (plain_expr d.operand) + links_room sites (plain_links (take j links)) ≡ links_room sites (plain_links (take (j + 1) links))
   links_last links j d low at = omega (arith, links_front links j, links_front links (j + 1), links_more links (j + 1) j d refl low at)
 
   pub postfix_rest : (xs : List PostfixOperator) (m : ℕ) → postfix_room sites (plain_operators (drop m xs)) ≤ postfix_room sites (plain_operators xs)
@@ -92,12 +92,12 @@ module _ (sites : Sites) where
   exprs_long [] = omega arith
   exprs_long (x ∷ xs) = omega (arith, exprs_long xs)
 
-  others_room : (xs : ExprList) → exprs_room sites 3 (others xs) ≤ exprs_room sites 3 xs
+  others_room : (xs : ExprList) → exprs_room sites 3 (arguments_after_first xs) ≤ exprs_room sites 3 xs
   others_room e.no_exprs = omega arith
   others_room (e.more_exprs x rest) = omega arith
 
   -- the arguments that are passed have no more room than all
-  pub passed_room : (c : Called) (xs : ExprList) → exprs_room sites 3 (passed c xs) ≤ exprs_room sites 3 xs
+  pub passed_room : (c : Called) (xs : ExprList) → exprs_room sites 3 (arguments_passed c xs) ≤ exprs_room sites 3 xs
   passed_room (called.Library library.Printf) xs = others_room xs
   passed_room c xs = omega arith
 

@@ -9,7 +9,7 @@ use Rattle.c_meaning.specs.declared.value_type.ValueType.{ValueType}
 use Rattle.c_meaning.specs.Facts.{Facts, Sites}
 use Rattle.lower_relation.specs.Operators.{Negated}
 use Rattle.lower_relation.specs.Paths.{Graph, ◌then◌, Does, Emitted, Stuck}
-use Rattle.lower_relation.specs.Values.{Valued}
+use Rattle.lower_relation.specs.Values.{EmittedValue}
 use Rattle.lower_nodes.specs.Made.{GraphPath, Made, MadeAlone, MadeFor}
 use Rattle.lower_nodes.specs.Prefixes.{PrefixValue}
 use Rattle.lower_nodes.specs.Purposes.{PurposeTakes, Serves}
@@ -27,10 +27,10 @@ pub turned_made : (facts : Facts) (sites : Sites) (m : Graph → Emitted) (p : P
     ((yes_at no_at : ℕ) → p ≡ purpose.Truth yes_at no_at → ⊥) → MadeFor (λ G. PurposeTakes G) n0 n1 after p →
     Made (λ G. (m G).value then Does G (node.Sole unary.Not 0)) n1 n2 i after → MadeFor (λ G. Serves (Negated G facts sites (m G))) n0 n2 i p
 turned_made facts sites m (purpose.Value next) n0 n1 n2 after i other taken made =
-    same_value (λ G. Serves (Valued G (turned m G))) (λ G. Serves (Negated G facts sites (m G))) (λ G i k h. h) (λ s i k h. h) n0 n2 i next
+    same_value (λ G. Serves (EmittedValue G (turned m G))) (λ G. Serves (Negated G facts sites (m G))) (λ G i k h. h) (λ s i k h. h) n0 n2 i next
     (valued_made (turned m) (purpose.Value next) n0 n1 n2 i after taken made)
 turned_made facts sites m (purpose.Effect next) n0 n1 n2 after i other taken made =
-    same_effect (λ G. Serves (Valued G (turned m G))) (λ G. Serves (Negated G facts sites (m G))) (λ G i k h. h) (λ s i k h. h) n0 n2 i next
+    same_effect (λ G. Serves (EmittedValue G (turned m G))) (λ G. Serves (Negated G facts sites (m G))) (λ G i k h. h) (λ s i k h. h) n0 n2 i next
     (valued_made (turned m) (purpose.Effect next) n0 n1 n2 i after taken made)
 turned_made facts sites m (purpose.Truth yes_at no_at) n0 n1 n2 after i other taken made = absurd (other yes_at no_at refl)
 

@@ -4,8 +4,8 @@ use Rattle.c_syntax.specs.Words.{ExprTree, plain_expr, plain_links}
 use Rattle.c_syntax.specs.declared.expr.Link.{Link}
 use Rattle.c_types_expressions.specs.ExprWalk.{binary_of}
 use Rattle.c_meaning.specs.declared.value_type.ValueType.{ValueType}
-use Rattle.c_meaning.specs.Words.{Facts, Sites, begins_null, is_null_beside, joint, operand_type, type_of}
-use Rattle.lower_relation.specs.Expressions.{emitted}
+use Rattle.c_meaning.specs.Words.{Facts, Sites, begins_null, is_null_beside, joint_of_sign, operand_type, type_of}
+use Rattle.lower_relation.specs.Expressions.{emitted_expression}
 use Rattle.lower_relation.specs.Operators.{LinkedTruth}
 use Rattle.lower_relation.specs.Paths.{Graph, Path, ◌then◌, Ways}
 use Rattle.lower_relation.specs.Values.{NullOr, NullTruth}
@@ -16,10 +16,10 @@ module _ (facts : Facts) (sites : Sites) where
   module _ (G : Graph) where
     -- the value and the truth of an operator's right operand
     abbrev pub right_value : Option ValueType → Link → Path ℕ
-    right_value left x = NullOr G (is_null_beside (binary_of x.sign) left (plain_expr x.operand)) (emitted G facts sites (plain_expr x.operand))
+    right_value left x = NullOr G (is_null_beside (binary_of x.sign) left (plain_expr x.operand)) (emitted_expression G facts sites (plain_expr x.operand))
 
     abbrev pub right_truth : Option ValueType → Link → Path Ways
-    right_truth left x = NullTruth G (is_null_beside (binary_of x.sign) left (plain_expr x.operand)) (emitted G facts sites (plain_expr x.operand))
+    right_truth left x = NullTruth G (is_null_beside (binary_of x.sign) left (plain_expr x.operand)) (emitted_expression G facts sites (plain_expr x.operand))
 
     -- the value and the truth of an operator, where its left side has these
     abbrev pub value_behind : Option ValueType → Link → Path ℕ → Path ℕ
@@ -27,7 +27,7 @@ module _ (facts : Facts) (sites : Sites) where
 
     abbrev pub truth_behind : Option ValueType → Link → Path ℕ → Path Ways → Path Ways
     truth_behind left x R T =
-        LinkedTruth G facts sites (joint x.sign) x.token left
+        LinkedTruth G facts sites (joint_of_sign x.sign) x.token left
         (operand_type (is_null_beside (binary_of x.sign) left (plain_expr x.operand)) (type_of facts (plain_expr x.operand))) R T
         (right_value left x) (right_truth left x)
 
@@ -48,10 +48,10 @@ module _ (facts : Facts) (sites : Sites) where
     begins_as = operand_type (begins_null facts first (plain_links links)) (type_of facts first)
 
     abbrev pub begins_with : GraphPath ℕ
-    begins_with G = NullOr G (begins_null facts first (plain_links links)) (emitted G facts sites first)
+    begins_with G = NullOr G (begins_null facts first (plain_links links)) (emitted_expression G facts sites first)
 
     abbrev pub begins_truly : GraphPath Ways
-    begins_truly G = NullTruth G (begins_null facts first (plain_links links)) (emitted G facts sites first)
+    begins_truly G = NullTruth G (begins_null facts first (plain_links links)) (emitted_expression G facts sites first)
 
     -- the value and the truth of what stands before the operator with this index
     abbrev pub chain_value : ℕ → GraphPath ℕ

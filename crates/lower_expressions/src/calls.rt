@@ -5,7 +5,7 @@ ghost use Rattle.c_syntax.specs.Plain.{plain_exprs};
 ghost use Rattle.lower_relation.specs.Expressions.{ArgumentsDo};
 ghost use Rattle.lower_relation.specs.Room.{expr_room, exprs_room};
 ghost use Rattle.lower_nodes.specs.Made.{Made, MadeFor};
-ghost use Rattle.lower_nodes.specs.Parts.{serving};
+ghost use Rattle.lower_nodes.specs.Parts.{purpose_part};
 ghost use Rattle.lower_operators.specs.Taken.{wanted_types};
 ghost use Rattle.lower_facts.specs.Facts.{facts_in, sites_in};
 
@@ -52,7 +52,7 @@ pub fn emit_call(
     purpose: Purpose,
 ) -> Result<u32, Memory>
     requires room { length graph.old + expr_room (sites_in facts.now) (e.Call token name.now (plain_exprs arguments.now)) ≤ node_limit }
-    ensures made { IfOk result (λ i. MadeFor (serving (facts_in facts.now) (sites_in facts.now) (e.Call token name.now (plain_exprs arguments.now)))
+    ensures made { IfOk result (λ i. MadeFor (purpose_part (facts_in facts.now) (sites_in facts.now) (e.Call token name.now (plain_exprs arguments.now)))
         graph.old graph.new i purpose) }
     ensures few { IfOk result (λ i. length graph.new ≤ length graph.old + expr_room (sites_in facts.now) (e.Call token name.now (plain_exprs arguments.now))) }
 {

@@ -2,11 +2,11 @@ ghost use Rattle.flow.specs.Limits.{node_limit};
 ghost use Rattle.std.specs.Prelude.{IfOk, length, take, ◌≤◌, ◌+◌};
 ghost use Rattle.c_syntax.specs.ExprTree as e;
 ghost use Rattle.c_syntax.specs.Plain.{plain_expr, plain_links};
-ghost use Rattle.lower_relation.specs.Expressions.{LinksDo, emitted};
+ghost use Rattle.lower_relation.specs.Expressions.{LinksDo, emitted_expression};
 ghost use Rattle.lower_relation.specs.Values.{NullOr};
-ghost use Rattle.lower_relation.specs.Room.{branches, expr_room, links_room};
+ghost use Rattle.lower_relation.specs.Room.{branch_visits, expr_room, links_room};
 ghost use Rattle.lower_nodes.specs.Made.{Made, MadeFor};
-ghost use Rattle.lower_nodes.specs.Parts.{serving};
+ghost use Rattle.lower_nodes.specs.Parts.{purpose_part};
 ghost use Rattle.lower_operators.specs.Linking.{link_part};
 ghost use Rattle.lower_expressions.specs.Truths.{chain_value};
 ghost use Rattle.lower_facts.specs.Facts.{facts_in, sites_in};
@@ -34,7 +34,7 @@ pub fn emit_null_or(
     next: u32,
 ) -> Result<u32, Memory>
     requires room { length graph.old + (1 + expr_room (sites_in facts.now) (plain_expr x.now)) ≤ node_limit }
-    ensures made { IfOk result (λ i. Made (λ G. NullOr G is_null (emitted G (facts_in facts.now) (sites_in facts.now) (plain_expr x.now)))
+    ensures made { IfOk result (λ i. Made (λ G. NullOr G is_null (emitted_expression G (facts_in facts.now) (sites_in facts.now) (plain_expr x.now)))
         graph.old graph.new i next) }
     ensures few { IfOk result (λ i. length graph.new ≤ length graph.old + (1 + expr_room (sites_in facts.now) (plain_expr x.now))) }
 {
@@ -55,12 +55,12 @@ pub fn emit_link(
     link: &Link,
     next: u32,
 ) -> Result<u32, Memory>
-    requires room { length graph.old + (7 + branches (sites_in facts.now) link.now.token
+    requires room { length graph.old + (7 + branch_visits (sites_in facts.now) link.now.token
         + expr_room (sites_in facts.now) (plain_expr link.now.operand)) ≤ node_limit }
     ensures made { IfOk result (λ i. Made (link_part (facts_in facts.now) (sites_in facts.now) left link.now.token link.now.sign
         (plain_expr link.now.operand)) graph.old graph.new i next) }
     ensures few { IfOk result (λ i. length graph.new ≤ length graph.old
-        + (7 + branches (sites_in facts.now) link.now.token + expr_room (sites_in facts.now) (plain_expr link.now.operand))) }
+        + (7 + branch_visits (sites_in facts.now) link.now.token + expr_room (sites_in facts.now) (plain_expr link.now.operand))) }
 {
     let binary = binary_of(link.sign);
     let is_null = is_null_beside(binary, left, &link.operand);
@@ -150,7 +150,7 @@ pub fn emit_chain(
 ) -> Result<u32, Memory>
     requires room { length graph.old + expr_room (sites_in facts.now) (e.Chain 0 (plain_expr first.now) (plain_links links.now)) ≤ node_limit }
     ensures made { IfOk result (λ i. MadeFor
-        (serving (facts_in facts.now) (sites_in facts.now) (e.Chain 0 (plain_expr first.now) (plain_links links.now))) graph.old graph.new i purpose) }
+        (purpose_part (facts_in facts.now) (sites_in facts.now) (e.Chain 0 (plain_expr first.now) (plain_links links.now))) graph.old graph.new i purpose) }
     ensures few { IfOk result (λ i. length graph.new ≤ length graph.old
         + expr_room (sites_in facts.now) (e.Chain 0 (plain_expr first.now) (plain_links links.now))) }
 {

@@ -3,12 +3,12 @@ ghost use Rattle.std.specs.Prelude.{IfOk, length, ◌≤◌, ◌+◌};
 ghost use Rattle.c_syntax.specs.ExprTree as e;
 ghost use Rattle.c_syntax.specs.Plain.{plain_expr, plain_exprs};
 ghost use Rattle.c_meaning.specs.Conversions.{is_null_as};
-ghost use Rattle.lower_relation.specs.Expressions.{LastDoes, emitted};
+ghost use Rattle.lower_relation.specs.Expressions.{CommaDoes, emitted_expression};
 ghost use Rattle.lower_relation.specs.Operators.{Cast};
 ghost use Rattle.lower_relation.specs.Values.{HandedValue};
-ghost use Rattle.lower_relation.specs.Room.{branches, expr_room, exprs_room};
+ghost use Rattle.lower_relation.specs.Room.{branch_visits, expr_room, exprs_room};
 ghost use Rattle.lower_nodes.specs.Made.{Made, MadeFor};
-ghost use Rattle.lower_nodes.specs.Parts.{serving, value_part};
+ghost use Rattle.lower_nodes.specs.Parts.{purpose_part, value_part};
 ghost use Rattle.lower_nodes.specs.Purposes.{Serves};
 ghost use Rattle.lower_expressions.specs.Arms.{arm_effect_part, arm_value_part};
 ghost use Rattle.lower_facts.specs.Facts.{facts_in, sites_in};
@@ -36,7 +36,7 @@ pub fn emit_handed(
 ) -> Result<u32, Memory>
     requires room { length graph.old + (3 + expr_room (sites_in facts.now) (plain_expr x.now)) ≤ node_limit }
     ensures made { IfOk result (λ i. Made (λ G. HandedValue G (is_null_as want (plain_expr x.now)) want
-        (emitted G (facts_in facts.now) (sites_in facts.now) (plain_expr x.now))) graph.old graph.new i next) }
+        (emitted_expression G (facts_in facts.now) (sites_in facts.now) (plain_expr x.now))) graph.old graph.new i next) }
     ensures few { IfOk result (λ i. length graph.new ≤ length graph.old + (3 + expr_room (sites_in facts.now) (plain_expr x.now))) }
 {
     if is_null_as(want, x) {
@@ -60,7 +60,7 @@ pub fn emit_cast(
     requires room { length graph.old + (4 + expr_room (sites_in facts.now) (plain_expr operand.now)) ≤ node_limit }
     ensures made { IfOk result (λ i. MadeFor
         (λ G. Serves (Cast G (is_null_as want (plain_expr operand.now)) want
-        (emitted G (facts_in facts.now) (sites_in facts.now) (plain_expr operand.now)))) graph.old graph.new i purpose) }
+        (emitted_expression G (facts_in facts.now) (sites_in facts.now) (plain_expr operand.now)))) graph.old graph.new i purpose) }
     ensures few { IfOk result (λ i. length graph.new ≤ length graph.old + (4 + expr_room (sites_in facts.now) (plain_expr operand.now))) }
 {
     if !is_void(want) {
@@ -137,12 +137,12 @@ pub fn emit_chosen(
     second: &Expr,
     next: u32,
 ) -> Result<u32, Memory>
-    requires room { length graph.old + (7 + branches (sites_in facts.now) token + expr_room (sites_in facts.now) (plain_expr condition.now)
+    requires room { length graph.old + (7 + branch_visits (sites_in facts.now) token + expr_room (sites_in facts.now) (plain_expr condition.now)
         + expr_room (sites_in facts.now) (plain_expr first.now) + expr_room (sites_in facts.now) (plain_expr second.now)) ≤ node_limit }
     ensures made { IfOk result (λ i. Made (value_part (facts_in facts.now) (sites_in facts.now)
         (e.Conditional token (plain_expr condition.now) (plain_expr first.now) (plain_expr second.now))) graph.old graph.new i next) }
     ensures few { IfOk result (λ i. length graph.new ≤ length graph.old
-        + (7 + branches (sites_in facts.now) token + expr_room (sites_in facts.now) (plain_expr condition.now)
+        + (7 + branch_visits (sites_in facts.now) token + expr_room (sites_in facts.now) (plain_expr condition.now)
         + expr_room (sites_in facts.now) (plain_expr first.now) + expr_room (sites_in facts.now) (plain_expr second.now))) }
 {
     let want = facts.type_at(token);
@@ -166,7 +166,7 @@ pub fn emit_conditional(
     requires room { length graph.old + expr_room (sites_in facts.now)
         (e.Conditional token (plain_expr condition.now) (plain_expr first.now) (plain_expr second.now)) ≤ node_limit }
     ensures made { IfOk result (λ i. MadeFor
-        (serving (facts_in facts.now) (sites_in facts.now)
+        (purpose_part (facts_in facts.now) (sites_in facts.now)
         (e.Conditional token (plain_expr condition.now) (plain_expr first.now) (plain_expr second.now))) graph.old graph.new i purpose) }
     ensures few { IfOk result (λ i. length graph.new ≤ length graph.old
         + expr_room (sites_in facts.now) (e.Conditional token (plain_expr condition.now) (plain_expr first.now) (plain_expr second.now))) }
@@ -196,7 +196,7 @@ pub fn emit_last(
     purpose: Purpose,
 ) -> Result<u32, Memory>
     requires room { length graph.old + (3 + exprs_room (sites_in facts.now) 0 (plain_exprs operands.now)) ≤ node_limit }
-    ensures made { IfOk result (λ i. MadeFor (λ G. Serves (LastDoes G (facts_in facts.now) (sites_in facts.now) (plain_exprs operands.now)))
+    ensures made { IfOk result (λ i. MadeFor (λ G. Serves (CommaDoes G (facts_in facts.now) (sites_in facts.now) (plain_exprs operands.now)))
         graph.old graph.new i purpose) }
     ensures few { IfOk result (λ i. length graph.new ≤ length graph.old + (3 + exprs_room (sites_in facts.now) 0 (plain_exprs operands.now))) }
 {

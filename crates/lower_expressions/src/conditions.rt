@@ -2,9 +2,9 @@ ghost use Rattle.flow.specs.Limits.{node_limit};
 ghost use Rattle.std.specs.Prelude.{IfOk, length, ◌≤◌, ◌+◌};
 ghost use Rattle.c_syntax.specs.Plain.{plain_expr};
 ghost use Rattle.lower_relation.specs.Expressions.{Condition};
-ghost use Rattle.lower_relation.specs.Room.{branches, expr_room};
+ghost use Rattle.lower_relation.specs.Room.{branch_visits, expr_room};
 ghost use Rattle.lower_nodes.specs.Made.{MadeWays};
-ghost use Rattle.lower_nodes.specs.Purposes.{ways};
+ghost use Rattle.lower_nodes.specs.Purposes.{condition_ways};
 ghost use Rattle.lower_facts.specs.Facts.{facts_in, sites_in};
 
 use crate::expressions::{emit, emit_value};
@@ -25,11 +25,11 @@ pub fn emit_condition(
     yes: u32,
     no: u32,
 ) -> Result<u32, Memory>
-    requires room { length graph.old + (1 + branches (sites_in facts.now) token + expr_room (sites_in facts.now) (plain_expr x.now)) ≤ node_limit }
+    requires room { length graph.old + (1 + branch_visits (sites_in facts.now) token + expr_room (sites_in facts.now) (plain_expr x.now)) ≤ node_limit }
     ensures made { IfOk result (λ i. MadeWays (λ G. Condition G (facts_in facts.now) (sites_in facts.now) token (plain_expr x.now))
-        graph.old graph.new i (ways yes no)) }
+        graph.old graph.new i (condition_ways yes no)) }
     ensures few { IfOk result (λ i. length graph.new ≤ length graph.old
-        + (1 + branches (sites_in facts.now) token + expr_room (sites_in facts.now) (plain_expr x.now))) }
+        + (1 + branch_visits (sites_in facts.now) token + expr_room (sites_in facts.now) (plain_expr x.now))) }
 {
     match facts.branch_at(token) {
         None => {

@@ -2,11 +2,11 @@ ghost use Rattle.flow.specs.Limits.{node_limit};
 ghost use Rattle.std.specs.Prelude.{IfOk, length, ◌≤◌, ◌+◌};
 ghost use Rattle.c_syntax.specs.Plain.{plain_expr};
 ghost use Rattle.c_meaning.specs.Words.{is_null_as, type_of};
-ghost use Rattle.lower_relation.specs.Expressions.{emitted};
+ghost use Rattle.lower_relation.specs.Expressions.{emitted_expression};
 ghost use Rattle.lower_relation.specs.Values.{WantedValue};
 ghost use Rattle.lower_relation.specs.Room.{expr_room};
 ghost use Rattle.lower_nodes.specs.Made.{Made, MadeFor};
-ghost use Rattle.lower_nodes.specs.Parts.{effect_part, serving, value_part};
+ghost use Rattle.lower_nodes.specs.Parts.{effect_part, purpose_part, value_part};
 ghost use Rattle.lower_facts.specs.Facts.{facts_in, sites_in};
 
 use crate::calls::emit_call;
@@ -28,7 +28,7 @@ use lower_trees::is_null_as;
 #[cycle(emission)]
 pub fn emit(graph: &mut Graph, facts: &TreeFacts, x: &Expr, purpose: Purpose) -> Result<u32, Memory>
     requires room { length graph.old + expr_room (sites_in facts.now) (plain_expr x.now) ≤ node_limit }
-    ensures made { IfOk result (λ i. MadeFor (serving (facts_in facts.now) (sites_in facts.now) (plain_expr x.now)) graph.old graph.new i purpose) }
+    ensures made { IfOk result (λ i. MadeFor (purpose_part (facts_in facts.now) (sites_in facts.now) (plain_expr x.now)) graph.old graph.new i purpose) }
     ensures few { IfOk result (λ i. length graph.new ≤ length graph.old + expr_room (sites_in facts.now) (plain_expr x.now)) }
 {
     match x {
@@ -113,7 +113,7 @@ pub fn emit_wanted(
 ) -> Result<u32, Memory>
     requires room { length graph.old + (2 + expr_room (sites_in facts.now) (plain_expr x.now)) ≤ node_limit }
     ensures made { IfOk result (λ i. Made (λ G. WantedValue G (is_null_as want (plain_expr x.now)) (type_of (facts_in facts.now) (plain_expr x.now))
-        want (emitted G (facts_in facts.now) (sites_in facts.now) (plain_expr x.now))) graph.old graph.new i next) }
+        want (emitted_expression G (facts_in facts.now) (sites_in facts.now) (plain_expr x.now))) graph.old graph.new i next) }
     ensures few { IfOk result (λ i. length graph.new ≤ length graph.old + (2 + expr_room (sites_in facts.now) (plain_expr x.now))) }
 {
     if is_null_as(want, x) {

@@ -4,13 +4,13 @@ ghost use Rattle.cbi_base.specs.declared.operators.Unary.TheVariants as unary;
 ghost use Rattle.c_syntax.specs.ExprTree as e;
 ghost use Rattle.c_syntax.specs.Plain.{plain_expr};
 ghost use Rattle.c_meaning.specs.Trees.{type_of};
-ghost use Rattle.lower_relation.specs.Expressions.{emitted};
+ghost use Rattle.lower_relation.specs.Expressions.{emitted_expression};
 ghost use Rattle.lower_relation.specs.Operators.{Negated};
 ghost use Rattle.lower_relation.specs.Paths.{◌then◌, Does};
 ghost use Rattle.flow.specs.declared.node.Node.TheVariants as node;
-ghost use Rattle.lower_relation.specs.Room.{expr_room, pairs};
+ghost use Rattle.lower_relation.specs.Room.{expr_room, pair_visits};
 ghost use Rattle.lower_nodes.specs.Made.{Made, MadeFor};
-ghost use Rattle.lower_nodes.specs.Parts.{serving};
+ghost use Rattle.lower_nodes.specs.Parts.{purpose_part};
 ghost use Rattle.lower_nodes.specs.Prefixes.{PrefixValue};
 ghost use Rattle.lower_nodes.specs.Purposes.{Serves};
 ghost use Rattle.lower_facts.specs.Facts.{facts_in, sites_in};
@@ -42,7 +42,7 @@ pub fn emit_assign(
 ) -> Result<u32, Memory>
     requires room { length graph.old + expr_room (sites_in facts.now) (e.Assign token sign (plain_expr target.now) (plain_expr value.now)) ≤ node_limit }
     ensures made { IfOk result (λ i. MadeFor
-        (serving (facts_in facts.now) (sites_in facts.now) (e.Assign token sign (plain_expr target.now) (plain_expr value.now)))
+        (purpose_part (facts_in facts.now) (sites_in facts.now) (e.Assign token sign (plain_expr target.now) (plain_expr value.now)))
         graph.old graph.new i purpose) }
     ensures few { IfOk result (λ i. length graph.new ≤ length graph.old
         + expr_room (sites_in facts.now) (e.Assign token sign (plain_expr target.now) (plain_expr value.now))) }
@@ -78,12 +78,12 @@ pub fn emit_prefix_value(
     operand: &Expr,
     next: u32,
 ) -> Result<u32, Memory>
-    requires room { length graph.old + (13 + pairs (sites_in facts.now) token + expr_room (sites_in facts.now) (plain_expr operand.now)) ≤ node_limit }
+    requires room { length graph.old + (13 + pair_visits (sites_in facts.now) token + expr_room (sites_in facts.now) (plain_expr operand.now)) ≤ node_limit }
     ensures made { IfOk result (λ i. Made (λ G. PrefixValue G (facts_in facts.now) (sites_in facts.now) token operator
-        (type_of (facts_in facts.now) (plain_expr operand.now)) (emitted G (facts_in facts.now) (sites_in facts.now) (plain_expr operand.now)))
+        (type_of (facts_in facts.now) (plain_expr operand.now)) (emitted_expression G (facts_in facts.now) (sites_in facts.now) (plain_expr operand.now)))
         graph.old graph.new i next) }
     ensures few { IfOk result (λ i. length graph.new ≤ length graph.old
-        + (13 + pairs (sites_in facts.now) token + expr_room (sites_in facts.now) (plain_expr operand.now))) }
+        + (13 + pair_visits (sites_in facts.now) token + expr_room (sites_in facts.now) (plain_expr operand.now))) }
 {
     let of = facts.type_of(operand);
     match operator {
@@ -134,7 +134,7 @@ fn emit_negation(
     next: u32,
 ) -> Result<u32, Memory>
     requires room { length graph.old + (1 + expr_room (sites_in facts.now) (plain_expr operand.now)) ≤ node_limit }
-    ensures made { IfOk result (λ i. Made (λ G. (emitted G (facts_in facts.now) (sites_in facts.now) (plain_expr operand.now)).value then Does G
+    ensures made { IfOk result (λ i. Made (λ G. (emitted_expression G (facts_in facts.now) (sites_in facts.now) (plain_expr operand.now)).value then Does G
         (node.Sole unary.Not 0)) graph.old graph.new i next) }
     ensures few { IfOk result (λ i. length graph.new ≤ length graph.old + (1 + expr_room (sites_in facts.now) (plain_expr operand.now))) }
 {
@@ -157,7 +157,7 @@ pub fn emit_not(
     requires room { length graph.old + (2 + expr_room (sites_in facts.now) (plain_expr operand.now)) ≤ node_limit }
     ensures made { IfOk result (λ i. MadeFor
         (λ G. Serves (Negated G (facts_in facts.now) (sites_in facts.now)
-        (emitted G (facts_in facts.now) (sites_in facts.now) (plain_expr operand.now)))) graph.old graph.new i purpose) }
+        (emitted_expression G (facts_in facts.now) (sites_in facts.now) (plain_expr operand.now)))) graph.old graph.new i purpose) }
     ensures few { IfOk result (λ i. length graph.new ≤ length graph.old + (2 + expr_room (sites_in facts.now) (plain_expr operand.now))) }
 {
     match purpose {
@@ -184,7 +184,7 @@ pub fn emit_prefix(
     purpose: Purpose,
 ) -> Result<u32, Memory>
     requires room { length graph.old + expr_room (sites_in facts.now) (e.Prefix token operator (plain_expr operand.now)) ≤ node_limit }
-    ensures made { IfOk result (λ i. MadeFor (serving (facts_in facts.now) (sites_in facts.now) (e.Prefix token operator (plain_expr operand.now)))
+    ensures made { IfOk result (λ i. MadeFor (purpose_part (facts_in facts.now) (sites_in facts.now) (e.Prefix token operator (plain_expr operand.now)))
         graph.old graph.new i purpose) }
     ensures few { IfOk result (λ i. length graph.new ≤ length graph.old + expr_room (sites_in facts.now) (e.Prefix token operator (plain_expr operand.now))) }
 {

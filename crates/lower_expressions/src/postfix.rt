@@ -2,11 +2,11 @@ ghost use Rattle.flow.specs.Limits.{node_limit};
 ghost use Rattle.std.specs.Prelude.{IfOk, length, ◌≤◌, ◌+◌};
 ghost use Rattle.c_syntax.specs.ExprTree as e;
 ghost use Rattle.c_syntax.specs.Words.{PostfixList, plain_expr, plain_operators, plain_postfix};
-ghost use Rattle.lower_relation.specs.Expressions.{Behind, emitted};
-ghost use Rattle.lower_relation.specs.Operators.{Spot};
+ghost use Rattle.lower_relation.specs.Expressions.{PostfixOperatorsDo, emitted_expression};
+ghost use Rattle.lower_relation.specs.Operators.{PlaceOrValue};
 ghost use Rattle.lower_relation.specs.Room.{expr_room, postfix_room};
 ghost use Rattle.lower_nodes.specs.Made.{Made, MadeFor};
-ghost use Rattle.lower_nodes.specs.Parts.{place_part, serving};
+ghost use Rattle.lower_nodes.specs.Parts.{place_part, purpose_part};
 ghost use Rattle.lower_operators.specs.Spots.{first_part, spots_part};
 ghost use Rattle.lower_facts.specs.Facts.{facts_in, sites_in};
 
@@ -83,7 +83,7 @@ pub fn emit_behind(
     next: u32,
 ) -> Result<u32, Memory>
     requires room { length graph.old + postfix_room (sites_in facts.now) (plain_operators operators.now) ≤ node_limit }
-    ensures made { IfOk result (λ i. Made (λ G. Behind G (facts_in facts.now) (sites_in facts.now) taken known of (plain_operators operators.now))
+    ensures made { IfOk result (λ i. Made (λ G. PostfixOperatorsDo G (facts_in facts.now) (sites_in facts.now) taken known of (plain_operators operators.now))
         graph.old graph.new i next) }
     ensures few { IfOk result (λ i. length graph.new ≤ length graph.old + postfix_room (sites_in facts.now) (plain_operators operators.now)) }
 {
@@ -108,7 +108,7 @@ pub fn emit_spot(
     next: u32,
 ) -> Result<u32, Memory>
     requires room { length graph.old + expr_room (sites_in facts.now) (plain_expr x.now) ≤ node_limit }
-    ensures made { IfOk result (λ i. Made (λ G. Spot G known (emitted G (facts_in facts.now) (sites_in facts.now) (plain_expr x.now)))
+    ensures made { IfOk result (λ i. Made (λ G. PlaceOrValue G known (emitted_expression G (facts_in facts.now) (sites_in facts.now) (plain_expr x.now)))
         graph.old graph.new i next) }
     ensures few { IfOk result (λ i. length graph.new ≤ length graph.old + expr_room (sites_in facts.now) (plain_expr x.now)) }
 {
@@ -155,7 +155,7 @@ pub fn emit_postfix(
 ) -> Result<u32, Memory>
     requires room { length graph.old + expr_room (sites_in facts.now) (e.Postfix (plain_expr primary.now) (plain_operators operators.now)) ≤ node_limit }
     ensures made { IfOk result (λ i. MadeFor
-        (serving (facts_in facts.now) (sites_in facts.now) (e.Postfix (plain_expr primary.now) (plain_operators operators.now)))
+        (purpose_part (facts_in facts.now) (sites_in facts.now) (e.Postfix (plain_expr primary.now) (plain_operators operators.now)))
         graph.old graph.new i purpose) }
     ensures few { IfOk result (λ i. length graph.new ≤ length graph.old
         + expr_room (sites_in facts.now) (e.Postfix (plain_expr primary.now) (plain_operators operators.now))) }

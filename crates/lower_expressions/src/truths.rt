@@ -2,13 +2,13 @@ ghost use Rattle.flow.specs.Limits.{node_limit};
 ghost use Rattle.std.specs.Prelude.{◌≡◌, IfOk, false, length, take, get_or, ◌<◌, ◌≤◌, ◌+◌};
 ghost use Rattle.c_syntax.specs.ExprTree as e;
 ghost use Rattle.c_syntax.specs.Plain.{plain_expr, plain_links};
-ghost use Rattle.c_meaning.specs.Trees.{joint};
-ghost use Rattle.lower_relation.specs.Expressions.{emitted};
+ghost use Rattle.c_meaning.specs.Trees.{joint_of_sign};
+ghost use Rattle.lower_relation.specs.Expressions.{emitted_expression};
 ghost use Rattle.lower_relation.specs.Values.{NullTruth};
 ghost use Rattle.lower_relation.specs.Room.{expr_room, links_room};
 ghost use Rattle.lower_nodes.specs.Made.{MadeFor, MadeWays};
-ghost use Rattle.lower_nodes.specs.Parts.{serving};
-ghost use Rattle.lower_nodes.specs.Purposes.{ways};
+ghost use Rattle.lower_nodes.specs.Parts.{purpose_part};
+ghost use Rattle.lower_nodes.specs.Purposes.{condition_ways};
 ghost use Rattle.lower_nodes.specs.declared.purpose.Purpose.TheVariants as purpose;
 ghost use Rattle.lower_operators.specs.Forking.{forks_at};
 ghost use Rattle.lower_operators.specs.Linking.{type_before};
@@ -38,8 +38,8 @@ pub fn emit_null_truth(
     no: u32,
 ) -> Result<u32, Memory>
     requires room { length graph.old + (2 + expr_room (sites_in facts.now) (plain_expr x.now)) ≤ node_limit }
-    ensures made { IfOk result (λ i. MadeWays (λ G. NullTruth G is_null (emitted G (facts_in facts.now) (sites_in facts.now) (plain_expr x.now)))
-        graph.old graph.new i (ways yes no)) }
+    ensures made { IfOk result (λ i. MadeWays (λ G. NullTruth G is_null (emitted_expression G (facts_in facts.now) (sites_in facts.now) (plain_expr x.now)))
+        graph.old graph.new i (condition_ways yes no)) }
     ensures few { IfOk result (λ i. length graph.new ≤ length graph.old + (2 + expr_room (sites_in facts.now) (plain_expr x.now))) }
 {
     if is_null {
@@ -68,7 +68,7 @@ fn emit_right_truth(
     ensures made { IfOk result (λ i. MadeWays
         (λ G. right_truth (facts_in facts.now) (sites_in facts.now) G
         (type_before (facts_in facts.now) (begins_as (facts_in facts.now) (sites_in facts.now) (plain_expr first.now) links.now) links.now place)
-        link.now) graph.old graph.new i (ways yes no)) }
+        link.now) graph.old graph.new i (condition_ways yes no)) }
     ensures few { IfOk result (λ i. length graph.new ≤ length graph.old + (2 + expr_room (sites_in facts.now) (plain_expr link.now.operand))) }
 {
     let begins = begins_null(facts, first, links);
@@ -95,11 +95,11 @@ fn emit_valued_truth(
 ) -> Result<u32, Memory>
     requires within { place < length links.now }
     requires here { link.now ≡ get_or links.now place link.now }
-    requires valued { forks_at ((sites_in facts.now).branch_at link.now.token) (joint link.now.sign) ≡ false }
+    requires valued { forks_at ((sites_in facts.now).branch_at link.now.token) (joint_of_sign link.now.sign) ≡ false }
     requires room { length graph.old + (2 + expr_room (sites_in facts.now) (plain_expr first.now)
         + links_room (sites_in facts.now) (plain_links (take (place + 1) links.now))) ≤ node_limit }
     ensures made { IfOk result (λ i. MadeWays (chain_truth (facts_in facts.now) (sites_in facts.now) (plain_expr first.now) links.now (place + 1))
-        graph.old graph.new i (ways yes no)) }
+        graph.old graph.new i (condition_ways yes no)) }
     ensures few { IfOk result (λ i. length graph.new ≤ length graph.old
         + (2 + expr_room (sites_in facts.now) (plain_expr first.now) + links_room (sites_in facts.now) (plain_links (take (place + 1) links.now)))) }
 {
@@ -128,7 +128,7 @@ pub fn emit_chain_truth(
 ) -> Result<u32, Memory>
     requires room { length graph.old + expr_room (sites_in facts.now) (e.Chain 0 (plain_expr first.now) (plain_links links.now)) ≤ node_limit }
     ensures made { IfOk result (λ i. MadeFor
-        (serving (facts_in facts.now) (sites_in facts.now) (e.Chain 0 (plain_expr first.now) (plain_links links.now))) graph.old graph.new i
+        (purpose_part (facts_in facts.now) (sites_in facts.now) (e.Chain 0 (plain_expr first.now) (plain_links links.now))) graph.old graph.new i
         (purpose.Truth yes no)) }
     ensures few { IfOk result (λ i. length graph.new ≤ length graph.old
         + expr_room (sites_in facts.now) (e.Chain 0 (plain_expr first.now) (plain_links links.now))) }

@@ -1,7 +1,7 @@
 ghost use Rattle.std.specs.Prelude.{◌≡◌, ℕ, map};
 ghost use Rattle.c_types.specs.Answers.{known_of, tree_of};
-ghost use Rattle.c_meaning.specs.Words.{literals, number_from, texts_of, head_site, is_branch, is_pair, is_return, main_of, sites_from};
-ghost use Rattle.lower_trees.specs.Bodies.{defining};
+ghost use Rattle.c_meaning.specs.Words.{string_literals, number_from, texts_of, head_site, is_branch, is_pair, is_return, main_of, sites_from};
+ghost use Rattle.lower_trees.specs.Bodies.{definition_places};
 ghost use Rattle.lower_trees.specs.Places.{all_at};
 ghost use Rattle.lower_facts.specs.Signatures.{signature_of_entry};
 
@@ -32,10 +32,10 @@ pub struct TreeFacts<'a> {
     ghost branches_stand: { (token : ℕ) → all_at sites.branches.items token ≡ sites_from 0 is_branch token table.now.sites },
     ghost returns_stand: { (token : ℕ) → all_at sites.returns.items token ≡ sites_from 0 is_return token table.now.sites },
     ghost pairs_stand: { (token : ℕ) → all_at sites.pairs.items token ≡ sites_from 0 is_pair token table.now.sites },
-    ghost strings_stand: { (token : ℕ) → head_site (all_at strings.numbers.items token) ≡ number_from 0 token (literals (tree_of checked.now)) },
-    ghost texts_stand: { strings.texts ≡ texts_of (literals (tree_of checked.now)) },
+    ghost strings_stand: { (token : ℕ) → head_site (all_at strings.numbers.items token) ≡ number_from 0 token (string_literals (tree_of checked.now)) },
+    ghost texts_stand: { strings.texts ≡ texts_of (string_literals (tree_of checked.now)) },
     ghost signatures_stand: { functions.signatures ≡ map (signature_of_entry (known_of checked.now)) (known_of checked.now).definitions },
-    ghost bodies_stand: { functions.bodies.items ≡ defining 0 (tree_of checked.now).items },
+    ghost bodies_stand: { functions.bodies.items ≡ definition_places 0 (tree_of checked.now).items },
     ghost main_stands: { functions.main ≡ main_of (known_of checked.now) },
 }
 
@@ -48,7 +48,7 @@ impl<'a> TreeFacts<'a> {
     ghost use Rattle.c_types.specs.Fault.{walk_tree};
     ghost use Rattle.c_types_expressions.specs.Walked.{Fine};
     ghost use Rattle.flow.specs.Limits.{text_limit};
-    ghost use Rattle.c_meaning.specs.Words.{literals, called_as, token_of, type_of};
+    ghost use Rattle.c_meaning.specs.Words.{string_literals, called_as, token_of, type_of};
     ghost use Rattle.lower_facts.specs.Signatures.{AreSized};
     ghost use Rattle.lower_facts.specs.Facts.{facts_in, known_in, sites_in, source_in, string_place, table_in, tree_in};
 
@@ -58,7 +58,7 @@ impl<'a> TreeFacts<'a> {
         checked: &'a Checked,
         table: &'a SiteTable,
     ) -> Result<TreeFacts<'a>, Memory>
-        requires strings { length (literals (tree_of checked.now)) ≤ text_limit }
+        requires strings { length (string_literals (tree_of checked.now)) ≤ text_limit }
         requires sized { AreSized (known_of checked.now) }
         ensures tree { IfOk result (λ f. tree_in f ≡ tree_of checked.now) }
         ensures known { IfOk result (λ f. known_in f ≡ known_of checked.now) }

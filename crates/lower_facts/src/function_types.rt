@@ -1,7 +1,7 @@
-ghost use Rattle.std.specs.Prelude.{◌≡◌, ◌≤◌, map, drop, take, IfOk, length, slice_get, Some};
+ghost use Rattle.std.specs.Prelude.{◌≡◌, ◌≤◌, map, drop, take, IfOk, Some};
 ghost use Rattle.c_types_rules.specs.Sizes.{cells_of, most_cells};
 ghost use Rattle.c_meaning.specs.Facts as facts;
-ghost use Rattle.c_meaning.specs.Known.{computed_type, signature_with, sizes_of};
+ghost use Rattle.c_meaning.specs.Known.{computed_type, signature_with};
 ghost use Rattle.c_types.specs.Answers.{known_of};
 ghost use Rattle.lower_facts.specs.Signatures.{AllSized, AreSized, signature_of_entry};
 

@@ -1,7 +1,7 @@
 ghost use Rattle.std.specs.Prelude.{◌≡◌, IfOk, map};
 ghost use Rattle.c_types.specs.Answers.{known_of, tree_of};
 ghost use Rattle.c_meaning.specs.Texts.{main_of, number_defined};
-ghost use Rattle.lower_trees.specs.Bodies.{defining};
+ghost use Rattle.lower_trees.specs.Bodies.{definition_places};
 ghost use Rattle.lower_facts.specs.Signatures.{AreSized, signature_of_entry};
 
 use crate::function_types::{Signature, signatures};
@@ -46,7 +46,7 @@ fn main_of(alloc: Global, checked: &Checked) -> Result<u32, Memory>
 pub(crate) fn functions_of(alloc: Global, checked: &Checked) -> Result<Functions, Memory>
     requires { AreSized (known_of checked.now) }
     ensures signatures { IfOk result (λ f. f.signatures ≡ map (signature_of_entry (known_of checked.now)) (known_of checked.now).definitions) }
-    ensures bodies { IfOk result (λ f. f.bodies.items ≡ defining 0 (tree_of checked.now).items) }
+    ensures bodies { IfOk result (λ f. f.bodies.items ≡ definition_places 0 (tree_of checked.now).items) }
     ensures main { IfOk result (λ f. f.main ≡ main_of (known_of checked.now)) }
 {
     let main = main_of(alloc, checked)?;

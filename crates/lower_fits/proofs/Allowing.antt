@@ -1,11 +1,11 @@
 -- Tokens allow nodes: 16 each, and one more for each site that stands at them.
 use Rattle.std.proofs.Common.{◌≡◌, ℕ, zero, suc, ◌≤◌, ◌+◌, ◌-◌, refl, arith, subst, add-one, add-suc, add-zero}
 use Rattle.c_meaning.specs.Facts.{Sites}
-use Rattle.lower_relation.specs.Room.{branches, pairs, returns}
+use Rattle.lower_relation.specs.Room.{branch_visits, pair_visits, return_visits}
 
 -- how many sites are visited at the token
 abbrev pub standing : Sites → ℕ → ℕ
-standing sites token = branches sites token + returns sites token + pairs sites token
+standing sites token = branch_visits sites token + return_visits sites token + pair_visits sites token
 
 -- how many nodes all tokens before this one allow
 pub allowed : Sites → ℕ → ℕ

@@ -5,8 +5,8 @@ use Rattle.c_types_rules.specs.declared.function.FunctionType.{FunctionType}
 use Rattle.c_types_rules.specs.TypeTree.{TypeTree}
 use Rattle.c_types_expressions.specs.declared.walk.Parameter.{Parameter}
 use Rattle.c_types_expressions.specs.declared.walk.Walk.{Walk}
-use Rattle.c_types_expressions.specs.Walked.{Done, Fine, opened}
-use Rattle.c_types_walk.specs.ItemWalk.{clashes, entered, walk_function, with_function, with_param, with_params}
+use Rattle.c_types_expressions.specs.Walked.{Done, Fine, scope_opened}
+use Rattle.c_types_walk.specs.ItemWalk.{is_clashing_name, body_scope_opened, walk_function, with_function, with_param, with_params}
 use Rattle.c_types_walk.specs.StatementWalk.{walk_entries}
 use Rattle.c_types_walk.proofs.Kept.{IsKeptByStatements, IsKeptByVariables, declaration_keeps, entries_keep, start_keeps}
 use Rattle.c_meaning_sound.proofs.Reaching.{Defines, body_defines, declares_is, fine_known, taken}
@@ -51,12 +51,12 @@ named_keeps name f (Some index) w = refl
 pub function_keeps : (token : ℕ) (f : FunctionType) (name : List ℕ) (ps : List Parameter) (body : Option EntryList) (known : Option ℕ) (w v : Walk) (a : Done)
     → walk_function token f name ps body known w ≡ Fine a v → SameCells w v
 function_keeps token f name ps None known w v a h =
-    ap (λ (u : Walk). u.global_cells) (declares_is token (clashes name known w) f.gives (with_function name f known w) v a h).same
+    ap (λ (u : Walk). u.global_cells) (declares_is token (is_clashing_name name known w) f.gives (with_function name f known w) v a h).same
     ∙ named_keeps name f known w
 function_keeps token f name ps (Some body) known w v a h =
     let d : Defines token f name ps body known w v = body_defines token f name ps body known w v a h in
     let u : Walk = with_function name f known w in
-    let inner : SameCells (entered ps u) d.behind =
-    taken (λ _ r. SameCells (entered ps u) r) (walk_entries f.gives false body (entered ps u)) tt d.behind (entries_keep SameCells statements_keep f.gives false body (entered ps u)) d.walked in
+    let inner : SameCells (body_scope_opened ps u) d.behind =
+    taken (λ _ r. SameCells (body_scope_opened ps u) r) (walk_entries f.gives false body (body_scope_opened ps u)) tt d.behind (entries_keep SameCells statements_keep f.gives false body (body_scope_opened ps u)) d.walked in
     ap (λ (r : Walk). r.global_cells) d.is ∙ sym (ap (λ (r : Walk). r.global_cells) (fine_known tt tt _ d.last d.closes)) ∙ inner
-    ∙ params_keep ps (opened (record u { locals = 0 })) ∙ named_keeps name f known w
+    ∙ params_keep ps (scope_opened (record u { locals = 0 })) ∙ named_keeps name f known w

@@ -24,7 +24,7 @@ use Rattle.c_types_expressions.specs.Walked.{Fine}
 use Rattle.flow.specs.Limits.{text_limit}
 use Rattle.c_meaning.specs.declared.value_type.ValueType.{ValueType}
 use Rattle.c_meaning.specs.declared.value_type.ValueType.TheVariants as type
-use Rattle.c_meaning.specs.Words.{Facts, global_object, starts_of, computed_type, element_type, facts_of, literals, texts_of, text_of_string}
+use Rattle.c_meaning.specs.Words.{Facts, global_object, starts_of, computed_type, element_type, facts_of, string_literals, texts_of, text_of_string}
 use Rattle.c_meaning_laws.specs.TypedText.{GlobalInitial, GlobalItems, IsConstant, TypedGlobal, TypedGlobals}
 use Rattle.c_meaning_sound.specs.Accepted.{IsAcceptedTree}
 use Rattle.c_meaning_sound.specs.Sited.{IsSited}
@@ -77,7 +77,7 @@ typed_begins facts z x None h f = absurd h
 typed_begins facts z x (Some of) h f = initial_begins facts (computed_type z.structs of) (element_type z.structs of) x.initial h f
 
 module _ (tree : SourceTree) (z : Walk) (walked : walk_tree tree ≡ Fine tt z) (small : (tag : ℕ) → Small tree z (t.Struct tag))
-    (few : length (literals tree) ≤ text_limit) where
+    (few : length (string_literals tree) ≤ text_limit) where
   -- a value in a cell
   cell_first : (v : Scalar) → IsCell (objects_of tree z) v → IsFirst z.globals v
   cell_first (Number kind value) h = tt
@@ -118,8 +118,8 @@ pub globals_begun : (tree : SourceTree) (z : Walk) → IsAcceptedTree tree z →
     → All (IsBegunItem (facts_of tree z) z) tree.items
 globals_begun tree z a s f =
     let small : (tag : ℕ) → Small tree z (t.Struct tag) = small_structs tree z (tree_sums tree z a.formed.shaped a.walked) in
-    let same : length (texts_of (literals tree)) ≡ length (literals tree) = length-map (literals tree) _ in
-    let few : length (literals tree) ≤ text_limit = omega (arith, few_texts tree z a s, same) in
+    let same : length (texts_of (string_literals tree)) ≡ length (string_literals tree) = length-map (string_literals tree) _ in
+    let few : length (string_literals tree) ≤ text_limit = omega (arith, few_texts tree z a s, same) in
     All-from_recursion (IsBegunItem (facts_of tree z) z) tree.items (items_begun (facts_of tree z) z tree.items
     (starts_begun tree z a.walked small few (flat_map starts_of tree.items) (globals_counted tree z a).each (none_fits tree z a).globals
     (plain_items tree tree.items f (strings_spelled tree z a))))

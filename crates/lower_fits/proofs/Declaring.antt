@@ -12,7 +12,7 @@ use Rattle.c_syntax.specs.Words.{declarator_kinds, start_kinds, with_commas}
 use Rattle.c_syntax.specs.declared.token.Sign.TheVariants as sign
 use Rattle.c_types_rules.specs.Words.{cells_of, is_complete, TypeTree}
 use Rattle.c_types_expressions.specs.declared.walk.Walk.{Walk}
-use Rattle.c_types.specs.Answers.{declared_at, noted}
+use Rattle.c_types.specs.Answers.{declared_at, note_at}
 use Rattle.c_types_expressions.specs.ExprWalk.{base_type}
 use Rattle.c_types_walk.specs.StatementWalk.{walk_declaration, walk_start, walk_starts}
 use Rattle.c_types.proofs.Noted.{Gives, gives_more, gives_then, length_replaced}
@@ -46,7 +46,7 @@ module _ (z : Walk) where
 module _ (tree : SourceTree) (z : Walk) where
   -- what is noted of variables before this token, and the types that are known whole, stay to the end
   pub record Lasts (hi : ℕ) (v : Walk) : Type 0 where
-    pub notes : (token : ℕ) → token < hi → noted z.variables_at token ≡ noted v.variables_at token
+    pub notes : (token : ℕ) → token < hi → note_at z.variables_at token ≡ note_at v.variables_at token
     pub declared : StaysWhole tree z v.declared_types z.declared_types
 
   -- some globals more: notes from this token on alone, and what is known of them at the end
@@ -54,7 +54,7 @@ module _ (tree : SourceTree) (z : Walk) where
     pub structs : v.structs ≡ w.structs
     pub long : Long v
     pub places : length v.variables_at ≡ length w.variables_at
-    pub below : (token : ℕ) → token < lo → noted v.variables_at token ≡ noted w.variables_at token
+    pub below : (token : ℕ) → token < lo → note_at v.variables_at token ≡ note_at w.variables_at token
     pub declared : Stays w.declared_types v.declared_types
     pub each : Lasts hi v → AllByRecursion (Declared z) xs
     pub cells : Lasts hi v → v.global_cells ≡ w.global_cells + sum_by (cells_at z) xs
@@ -84,8 +84,8 @@ module _ (tree : SourceTree) (z : Walk) where
       let inside : token < at + length (start_kinds x) + 1 =
       omega (arith, p.1.1, declarator-length x.declarator, length-append (declarator_kinds x.declarator) (equals_kinds x.initial)) in
       let complete : is_complete w.structs b.of ≡ true = (and_parts (is_complete w.structs b.of) (nat_le (cells_of w.structs b.of) 1048576) b.object).0 in
-      let here : noted u.variables_at token ≡ Some (length w.variables) =
-      ap (λ ns. noted ns token) b.notes ∙ noted_same w.variables_at token (length w.variables) (omega (arith, l, h)) in
+      let here : note_at u.variables_at token ≡ Some (length w.variables) =
+      ap (λ ns. note_at ns token) b.notes ∙ noted_same w.variables_at token (length w.variables) (omega (arith, l, h)) in
       let last : slice_get u.declared_types (length w.variables) ≡ Some b.of =
       ap (λ ts. slice_get ts (length w.variables)) b.types
       ∙ subst (λ n. slice_get (w.declared_types ++ b.of ∷ []) n ≡ Some b.of) k (get_last w.declared_types b.of) in
@@ -96,7 +96,7 @@ module _ (tree : SourceTree) (z : Walk) where
         structs = r.structs ∙ b.structs;
         long = r.long;
         places = r.places ∙ ap length b.notes ∙ length_replaced w.variables_at token (Some (length w.variables));
-        below = λ q m. r.below q (omega (arith, m)) ∙ ap (λ ns. noted ns q) b.notes
+        below = λ q m. r.below q (omega (arith, m)) ∙ ap (λ ns. note_at ns q) b.notes
             ∙ noted_other w.variables_at token q (Some (length w.variables)) (λ same. omega (arith, same, m, p.1.1));
         declared = λ i of q. r.declared i of (ap (λ ts. slice_get ts i) b.types ∙ stays_more w.declared_types (b.of ∷ []) i of q);
         each = λ later. (record { of = b.of; is = known later; complete = g b.of complete; takes = b.takes }, r.each later);

@@ -9,11 +9,11 @@ use Rattle.sites.proofs.RisesBodies.{brace-length}
 use Rattle.base_lists.proofs.Every.{all_first, all_join, all_second}
 use Rattle.cbi_base.specs.Name.{IsName}
 use Rattle.c_syntax.specs.ItemTree as item
-use Rattle.c_syntax.specs.Words.{ItemTree, SourceTree, a_name, body_kinds, braced, entry_kinds, item_kinds, params_kinds, parenthesized, type_kinds}
+use Rattle.c_syntax.specs.Words.{ItemTree, SourceTree, a_name, body_kinds, braced_kinds, entry_kinds, item_kinds, params_kinds, parenthesized_kinds, type_kinds}
 use Rattle.c_types_expressions.specs.declared.walk.Definition.{Definition}
 use Rattle.c_types_expressions.specs.declared.walk.Walk.{Walk}
 use Rattle.c_types.specs.Fault.{walk_tree}
-use Rattle.c_types.specs.Numbers.{frame, frames_from, variables_in}
+use Rattle.c_types.specs.Numbers.{definition_frame, frames_from, variables_in}
 use Rattle.c_types.specs.Parts.{item_parts}
 use Rattle.c_types_expressions.specs.Walked.{Fine}
 use Rattle.c_types.proofs.FunctionLaws.{frames_are}
@@ -37,7 +37,7 @@ frames_long before (item.Declaration d ∷ xs) = frames_long (before + variables
 
 -- as many names as definitions
 pub as_many : (tree : SourceTree) (z : Walk) → walk_tree tree ≡ Fine tt z → length (functions_of tree) ≡ length z.definitions
-as_many tree z h = sym (frames_long 0 tree.items) ∙ sym (ap length (frames_are tree z h)) ∙ length-map z.definitions frame
+as_many tree z h = sym (frames_long 0 tree.items) ∙ sym (ap length (frames_are tree z h)) ∙ length-map z.definitions definition_frame
 
 -- where `main` has a signature, there is a definition
 some_by : (z : Walk) (n : ℕ) (o : Option Definition) → slice_get z.definitions n ≡ o → IsMainSignature (signature_of z o) → 0 < length z.definitions
@@ -54,7 +54,7 @@ item_twice (item.Struct token tag members) = omega arith
 item_twice (item.Function token b stars name ps None) = omega arith
 item_twice (item.Function token b stars name ps (Some body)) = omega (
   arith,
-  length-append (type_kinds b stars ++ a_name name ++ parenthesized (params_kinds ps)) (braced (entry_kinds body)),
+  length-append (type_kinds b stars ++ a_name name ++ parenthesized_kinds (params_kinds ps)) (braced_kinds (entry_kinds body)),
   brace-length (entry_kinds body),
 )
 item_twice (item.Declaration d) = omega arith
@@ -74,8 +74,8 @@ item_named : (x : ItemTree) → AllByRecursion IsSitedToken (item_kinds x) → A
 item_named (item.Struct token tag members) k = tt
 item_named (item.Function token b stars name ps None) k = tt
 item_named (item.Function token b stars name ps (Some body)) k = (
-  (in_middle (type_kinds b stars) (a_name name) (parenthesized (params_kinds ps))
-      (all_first IsSitedToken (type_kinds b stars ++ a_name name ++ parenthesized (params_kinds ps)) (body_kinds (Some body)) k)).0,
+  (in_middle (type_kinds b stars) (a_name name) (parenthesized_kinds (params_kinds ps))
+      (all_first IsSitedToken (type_kinds b stars ++ a_name name ++ parenthesized_kinds (params_kinds ps)) (body_kinds (Some body)) k)).0,
   tt,
 )
 item_named (item.Declaration d) k = tt

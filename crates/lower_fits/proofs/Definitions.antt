@@ -17,9 +17,9 @@ use Rattle.c_types_expressions.specs.declared.names.Meaning.TheVariants as meani
 use Rattle.c_types_expressions.specs.declared.walk.Definition.{Definition}
 use Rattle.c_types_expressions.specs.declared.walk.FunctionEntry.{FunctionEntry}
 use Rattle.c_types_expressions.specs.declared.walk.Walk.{Walk}
-use Rattle.c_types_expressions.specs.Words.{beginning, found, Done, Fine}
+use Rattle.c_types_expressions.specs.Words.{empty_walk, declared_meaning, Done, Fine}
 use Rattle.c_types.specs.Fault.{walk_tree}
-use Rattle.c_types_walk.specs.ItemWalk.{clashes, has_type, known_as, walk_item, walk_items, with_function}
+use Rattle.c_types_walk.specs.ItemWalk.{is_clashing_name, has_type, known_as, walk_item, walk_items, with_function}
 use Rattle.c_types_walk.specs.StatementWalk.{walk_declaration}
 use Rattle.c_types.specs.Parts.{declaration_parts}
 use Rattle.c_types.proofs.Noted.{Step, stage}
@@ -68,17 +68,17 @@ same_long (x ∷ xs) (y ∷ ys) h = ap suc (same_long xs ys (and_parts (same_typ
 
 -- what a function that was declared before was declared as
 record Before (name : List ℕ) (f : FunctionType) (w : Walk) (index : ℕ) : Type 0 where
-  means : found name w.names ≡ Some (meaning.Function index)
+  means : declared_meaning name w.names ≡ Some (meaning.Function index)
   typed : has_type f (slice_get w.functions index) ≡ true
 
 -- a function that is known has the tested type
-before_if : (b : Bool) (name : List ℕ) (f : FunctionType) (w : Walk) (k index : ℕ) → found name w.names ≡ Some (meaning.Function k)
+before_if : (b : Bool) (name : List ℕ) (f : FunctionType) (w : Walk) (k index : ℕ) → declared_meaning name w.names ≡ Some (meaning.Function k)
     → has_type f (slice_get w.functions k) ≡ b → (if b then Some k else None) ≡ Some index → Before name f w index
 before_if true name f w k index e h i = subst (Before name f w) (same_Some k index i) (record { means = e; typed = h })
 before_if false name f w k index e h i = absurd (cc)
 
 -- a function that is known was declared by its name, and has this type
-before_by : (name : List ℕ) (f : FunctionType) (w : Walk) (m : Option Meaning) (index : ℕ) → found name w.names ≡ m → known_as f m w ≡ Some index
+before_by : (name : List ℕ) (f : FunctionType) (w : Walk) (m : Option Meaning) (index : ℕ) → declared_meaning name w.names ≡ m → known_as f m w ≡ Some index
     → Before name f w index
 before_by name f w (Some (meaning.Function k)) index e h = before_if (has_type f (slice_get w.functions k)) name f w k index e refl h
 before_by name f w m index e h = absurd (cc)
@@ -135,19 +135,19 @@ quiet_brings w v types variables definitions l f = record {
 
 -- a function that is declared alone brings no definition
 declared_brings : (name : List ℕ) (f : FunctionType) (known : Option ℕ) (w v : Walk) → v ≡ with_function name f known w → Long w
-    → InFile w.functions w.names → clashes name known w ≡ false → Brings [] w v
+    → InFile w.functions w.names → is_clashing_name name known w ≡ false → Brings [] w v
 declared_brings name f (Some index) w v is l k new = subst (Brings [] w) (sym is) (quiet_brings w w refl refl refl l k)
 declared_brings name f None w v is l k new =
     subst (Brings [] w) (sym is) (quiet_brings w (with_function name f None w) refl refl refl l (function_file name f None w k new))
 
 -- a function with a body brings its definition and its variables
 entered_brings : (name : List ℕ) (f : FunctionType) (w v : Walk) → Long w → InFile w.functions w.names
-    → Enters name f (known_as f (found name w.names) w) w v → Brings (name ∷ []) w v
+    → Enters name f (known_as f (declared_meaning name w.names) w) w v → Brings (name ∷ []) w v
 entered_brings name f w v l k e =
-    let known : Option ℕ = known_as f (found name w.names) w in
+    let known : Option ℕ = known_as f (declared_meaning name w.names) w in
     let file : InFile (with_function name f known w).functions (with_function name f known w).names = function_file name f known w k e.new in
     let entry : IsEntry (with_function name f known w).functions (unwrap_or known (length w.functions)) (length f.params) name =
-    entry_is name f known w k (λ index h. before_by name f w (found name w.names) index refl h) in
+    entry_is name f known w k (λ index h. before_by name f w (declared_meaning name w.names) index refl h) in
     record {
       new = f.params ++ e.rest;
       types = e.types;
@@ -180,7 +180,7 @@ item_brings (item.Struct token tag members) w v a o s l f h =
     subst (Brings [] w) (sym k.is) (quiet_brings w _ refl refl refl l f)
 item_brings (item.Function token b stars name ps None) w v a o s l f h =
     let d : Declared name w v = function_declared token b stars name ps w v a h in
-    declared_brings name d.f (known_as d.f (found name w.names) w) w v d.is l f d.new
+    declared_brings name d.f (known_as d.f (declared_meaning name w.names) w) w v d.is l f d.new
 item_brings (item.Function token b stars name ps (Some body)) w v a o s l f h =
     let e : Entered name w v = function_enters token b stars name ps body w v a l h in
     entered_brings name e.f w v l f e.enters
@@ -301,7 +301,7 @@ begins_file = record { outer = tt; found_as = λ index g e. absurd (cc); means =
 -- all definitions of a text without a fault fit
 pub all_fit : (tree : SourceTree) (z : Walk) → IsShaped tree → walk_tree tree ≡ Fine tt z → AllFit tree z
 all_fit tree z s h =
-    let k : AllBring (functions_of tree) (beginning (length tree.lines)) z = items_bring tree.items 0 (beginning (length tree.lines)) z tt s.items s.placed
+    let k : AllBring (functions_of tree) (empty_walk (length tree.lines)) z = items_bring tree.items 0 (empty_walk (length tree.lines)) z tt s.items s.placed
     (record { structs = tt; functions = tt }) refl begins_file (tree_is tree z h).items in
     record {
       sized = subst (AllByRecursion (Sized z.structs)) (sym k.types) k.sized;

@@ -18,9 +18,9 @@ use Rattle.c_types_rules.specs.TypeTree as t
 use Rattle.c_types_rules.specs.Words.{TypeTree, is_scalar}
 use Rattle.c_types_expressions.specs.declared.walk.Parameter.{Parameter}
 use Rattle.c_types_expressions.specs.declared.walk.Walk.{Walk}
-use Rattle.c_types_expressions.specs.Words.{base_type, with_stars, closed, found, is_reserved, Walked, Done, Fine, Faulty, ◌>>=◌, closing, ended_scopes, opened}
+use Rattle.c_types_expressions.specs.Words.{base_type, with_stars, names_after_scope, declared_meaning, is_reserved, Walked, Done, Fine, Faulty, ◌>>=◌, scope_closed, ended_scopes, scope_opened}
 use Rattle.c_types_expressions.specs.Words.{with_variable}
-use Rattle.c_types_walk.specs.ItemWalk.{clashes, declares, entered, has_length, is_among, is_defined, known_as, listed_params, looked_param, param_type, types_of}
+use Rattle.c_types_walk.specs.ItemWalk.{is_clashing_name, function_checked, body_scope_opened, has_length, is_among, is_defined, known_as, listed_params, looked_param, param_type, types_of}
 use Rattle.c_types_walk.specs.ItemWalk.{walk_body, walk_function, walk_item, walk_param, walk_params, with_function, with_param, with_params}
 use Rattle.c_types.specs.Parts.{Begins, entries_parts}
 use Rattle.c_types_walk.specs.StatementWalk.{walk_entries}
@@ -87,7 +87,7 @@ record Begun (token : ℕ) (name : List ℕ) (body : Option EntryList) (w v : Wa
   given : AllByRecursion (IsGiven (is_some body)) own
   gives : TypeTree
   rest : walk_function token (record { gives = gives; params = types_of own }) name own body
-      (known_as (record { gives = gives; params = types_of own }) (found name w.names) w) w ≡ Fine a v
+      (known_as (record { gives = gives; params = types_of own }) (declared_meaning name w.names) w) w ≡ Fine a v
 
 -- the walk through a function comes to its parameters, and then to the function itself
 begun : (token : ℕ) (b : Base) (stars : ℕ) (name : List ℕ) (ps : Params) (body : Option EntryList) (w v : Walk) (a : Done)
@@ -104,7 +104,7 @@ begun token b stars name ps body w v a h =
       own = second.value;
       given = q.1;
       gives = with_stars stars first.value;
-      rest = subst (λ u. walk_function token f name second.value body (known_as f (found name u.names) u) u ≡ Fine a v) (q.0 ∙ k.0) second.rest;
+      rest = subst (λ u. walk_function token f name second.value body (known_as f (declared_meaning name u.names) u) u ≡ Fine a v) (q.0 ∙ k.0) second.rest;
     }
 
 -- scalars are objects of one cell
@@ -166,7 +166,7 @@ same_long name f None w l = l
 
 -- what a function with a body adds
 pub record Enters (name : List ℕ) (f : FunctionType) (known : Option ℕ) (w v : Walk) : Type 0 where
-  pub new : clashes name known w ≡ false
+  pub new : is_clashing_name name known w ≡ false
   pub scalars : AllByRecursion IsScalar f.params
   pub structs : v.structs ≡ w.structs
   pub names : v.names ≡ (with_function name f known w).names
@@ -182,14 +182,14 @@ pub record Enters (name : List ℕ) (f : FunctionType) (known : Option ℕ) (w v
 
 -- a function with a body has a name of its own
 body_new : (token : ℕ) (f : FunctionType) (name : List ℕ) (ps : List Parameter) (body : EntryList) (known : Option ℕ) (w v : Walk) (a : Done)
-    → walk_body token f name ps body known w ≡ Fine a v → clashes name known w ≡ false
+    → walk_body token f name ps body known w ≡ Fine a v → is_clashing_name name known w ≡ false
 unfolding walk_body
 body_new token f name ps body known w v a h =
-    let whole = comes (walk_entries f.gives false body (entered ps (with_function name f known w)) >>= closing) _ a v h in
+    let whole = comes (walk_entries f.gives false body (body_scope_opened ps (with_function name f known w)) >>= scope_closed) _ a v h in
     let defined : Bool = is_defined (unwrap_or known (length w.functions)) w.defined_as in
-    let own = comes (declares token (clashes name known w || defined) f.gives whole.known) _ a v whole.rest in
-    (or_parts (clashes name known w) defined
-    (declares_is token (clashes name known w || defined) f.gives whole.known own.known own.value own.first).free).0
+    let own = comes (function_checked token (is_clashing_name name known w || defined) f.gives whole.known) _ a v whole.rest in
+    (or_parts (is_clashing_name name known w) defined
+    (declares_is token (is_clashing_name name known w || defined) f.gives whole.known own.known own.value own.first).free).0
 
 -- the walk through a body adds the parameters, the variables of the body, and a definition
 body_enters : (token : ℕ) (name : List ℕ) (gives : TypeTree) (own : List Parameter) (body : EntryList) (known : Option ℕ) (w v : Walk) (a : Done)
@@ -199,13 +199,13 @@ body_enters token name gives own body known w v a given l h =
     let f : FunctionType = record { gives = gives; params = types_of own } in
     let u : Walk = with_function name f known w in
     let d : Defines token f name own body known w v = body_defines token f name own body known w v a h in
-    let inside : Walk = opened (record u { locals = 0 }) in
-    let params : Lays_params (types_of own) inside (entered own u) = params_laid own inside (same_long name f known w l) given in
-    let inner : Laid (entered own u) d.behind = taken (λ _ r. Laid (entered own u) r) (walk_entries gives false body (entered own u)) tt d.behind
-    (entries_laid gives false body (entered own u) params.lays.long) d.walked in
+    let inside : Walk = scope_opened (record u { locals = 0 }) in
+    let params : Lays_params (types_of own) inside (body_scope_opened own u) = params_laid own inside (same_long name f known w l) given in
+    let inner : Laid (body_scope_opened own u) d.behind = taken (λ _ r. Laid (body_scope_opened own u) r) (walk_entries gives false body (body_scope_opened own u)) tt d.behind
+    (entries_laid gives false body (body_scope_opened own u) params.lays.long) d.walked in
     let whole : Lays (types_of own ++ inner.0) inside d.behind =
-    lays_two (types_of own) inner.0 inside (entered own u) d.behind params.lays inner.1 in
-    let last : Walk = record d.behind { names = closed d.behind.names; ends = ended_scopes d.behind.latest d.behind.names d.behind.ends } in
+    lays_two (types_of own) inner.0 inside (body_scope_opened own u) d.behind params.lays inner.1 in
+    let last : Walk = record d.behind { names = names_after_scope d.behind.names; ends = ended_scopes d.behind.latest d.behind.names d.behind.ends } in
     let closes : d.last ≡ last = sym (fine_known tt tt last d.last d.closes) in
     let functions : d.last.functions ≡ u.functions =
     functions_same (Begins ∷ parts_from own ++ entries_parts body) u d.last (defines_step token f name own body known w v d) in
@@ -230,7 +230,7 @@ body_enters token name gives own body known w v a given l h =
 -- a function with a body, of some type
 pub record Entered (name : List ℕ) (w v : Walk) : Type 0 where
   pub f : FunctionType
-  pub enters : Enters name f (known_as f (found name w.names) w) w v
+  pub enters : Enters name f (known_as f (declared_meaning name w.names) w) w v
 
 -- a function with a body, from its type on
 pub function_enters : (token : ℕ) (b : Base) (stars : ℕ) (name : List ℕ) (ps : Params) (body : EntryList) (w v : Walk) (a : Done) → Long w
@@ -238,13 +238,13 @@ pub function_enters : (token : ℕ) (b : Base) (stars : ℕ) (name : List ℕ) (
 function_enters token b stars name ps body w v a l h =
     let k = begun token b stars name ps (Some body) w v a h in
     let f : FunctionType = record { gives = k.gives; params = types_of k.own } in
-    record { f = f; enters = body_enters token name k.gives k.own body (known_as f (found name w.names) w) w v a k.given l k.rest }
+    record { f = f; enters = body_enters token name k.gives k.own body (known_as f (declared_meaning name w.names) w) w v a k.given l k.rest }
 
 -- a function without a body is declared alone
 pub record Declared (name : List ℕ) (w v : Walk) : Type 0 where
   pub f : FunctionType
-  pub new : clashes name (known_as f (found name w.names) w) w ≡ false
-  pub is : v ≡ with_function name f (known_as f (found name w.names) w) w
+  pub new : is_clashing_name name (known_as f (declared_meaning name w.names) w) w ≡ false
+  pub is : v ≡ with_function name f (known_as f (declared_meaning name w.names) w) w
 
 -- a function without a body, from its type on
 pub function_declared : (token : ℕ) (b : Base) (stars : ℕ) (name : List ℕ) (ps : Params) (w v : Walk) (a : Done)
@@ -252,6 +252,6 @@ pub function_declared : (token : ℕ) (b : Base) (stars : ℕ) (name : List ℕ)
 function_declared token b stars name ps w v a h =
     let k = begun token b stars name ps None w v a h in
     let f : FunctionType = record { gives = k.gives; params = types_of k.own } in
-    let known : Option ℕ = known_as f (found name w.names) w in
-    let d = declares_is token (clashes name known w) k.gives (with_function name f known w) v a k.rest in
+    let known : Option ℕ = known_as f (declared_meaning name w.names) w in
+    let d = declares_is token (is_clashing_name name known w) k.gives (with_function name f known w) v a k.rest in
     record { f = f; new = d.free; is = d.same }

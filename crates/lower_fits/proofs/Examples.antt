@@ -1,12 +1,12 @@
 -- There is a body of which all is known that its nodes need.
-use Rattle.std.proofs.Common.{◌≡◌, ℕ, zero, suc, ◌≤◌, ◌<◌, ◌+◌, refl, subst, arith, List, [], ◌∷◌, Some, Bool, true, false, length}
+use Rattle.std.proofs.Common.{◌≡◌, ℕ, suc, ◌≤◌, ◌<◌, ◌+◌, refl, subst, arith, List, [], ◌∷◌, Some, Bool, true, false, length}
 use Rattle.std.specs.Prelude.{◌==◌, ◌&&◌, if◌then◌else◌, slice_get}
 use Rattle.std.proofs.lemmas.Option.{same_Some, slice_get_within}
 use Rattle.c_syntax.specs.Spelling.{entry_kinds}
 use Rattle.flow.specs.declared.site.Site.{Site}
 use Rattle.flow.specs.declared.site.SiteKind.{SiteKind}
 use Rattle.c_meaning.specs.Texts.{head_site, is_branch, is_pair, is_return, sites_from}
-use Rattle.c_meaning_laws.specs.Example.{example, example_body, example_table}
+use Rattle.c_meaning_laws.specs.Example.{example_source, example_body, example_table}
 use Rattle.c_meaning_laws.specs.TypedSource.{TypedBody}
 use Rattle.lower_fits.specs.Example.{ExampleFits, main_facts, main_names, main_signature}
 use Rattle.lower_fits.specs.FactsFit.{AllOwned, FactsFit, SitesOwned}
@@ -53,7 +53,7 @@ main_facts_fit = record {
 }
 
 -- its sites are `main`'s
-sites_owned : (hi : ℕ) → SitesOwned example.sites main_names.owners 0 6 hi
+sites_owned : (hi : ℕ) → SitesOwned example_source.sites main_names.owners 0 6 hi
 sites_owned hi = record {
   branches = λ token site low high e.
       first_owned main_names.owners 0 site (sites_from 0 is_branch token example_table) (example_owned is_branch token) e;
@@ -67,7 +67,7 @@ one_local : 0 < 1
 one_local = omega arith
 
 -- its types fit
-main_typed : TypedBody main_facts example.sites main_signature (Some example_body)
+main_typed : TypedBody main_facts example_source.sites main_signature (Some example_body)
 main_typed = ((one_local, (refl, tt, (tt, (refl, tt))), tt), ((((tt, one_local), tt), ((tt, refl), tt)), (((tt, one_local), tt), tt)))
 
 -- all is known of its body

@@ -2,7 +2,6 @@
 use Rattle.std.proofs.Common.{◌≡◌, ℕ, suc, ◌≤◌, ◌<◌, refl, ap, arith, List, [], ◌∷◌, Some, None, ◌+◌, Bool, true, false, length}
 use Rattle.std.specs.Prelude.{Option, ◌==◌, ◌&&◌, if◌then◌else◌, nat_le, map, slice_get}
 use Rattle.std.specs.Option.{option_and_then, option_map, unwrap_or}
-use Rattle.std.proofs.lemmas.Bool.Decides.{nat_tests}
 use Rattle.std.proofs.lemmas.List.{length-map}
 use Rattle.std.proofs.lemmas.Option.{slice_get_within, same_Some}
 use Rattle.base_lists.proofs.Numbers.{is_most}
@@ -17,14 +16,14 @@ use Rattle.c_types_expressions.specs.declared.walk.Variable.TheVariants as varia
 use Rattle.c_types_expressions.specs.declared.walk.VariableEntry.{VariableEntry}
 use Rattle.c_types_expressions.specs.declared.walk.Walk.{Walk}
 use Rattle.c_types.specs.Answers.{offset_at, place_at, type_at, variable_of}
-use Rattle.c_types_expressions.specs.Words.{with_stars, beginning}
+use Rattle.c_types_expressions.specs.Words.{with_stars, empty_walk}
 use Rattle.c_types.proofs.NotedItems.{text_notes}
 use Rattle.flow.specs.declared.program.Text.{Text}
 use Rattle.flow.specs.declared.site.Site.{Site}
 use Rattle.flow.specs.declared.site.Slot.TheVariants as slot
 use Rattle.flow.specs.Nodes.{step_limit}
 use Rattle.c_meaning.specs.declared.value_type.ValueType.TheVariants as type
-use Rattle.c_meaning.specs.Words.{Signature, base_named, computed_type, element_cells, facts_of, object_cells, signature_of, slot_of, Literal, literals}
+use Rattle.c_meaning.specs.Words.{Signature, base_named, computed_type, element_cells, facts_of, object_cells, signature_of, slot_of, Literal, string_literals}
 use Rattle.c_meaning.specs.Words.{number_from, texts_of}
 use Rattle.c_meaning_sound.specs.Accepted.{IsAcceptedTree}
 use Rattle.c_meaning_sound.proofs.Accepting.{begins_standing, begins_tagged}
@@ -147,8 +146,8 @@ accepted_spans tree z a =
     let ends : Ended tree z = tree_ended tree z a.formed.shaped a.walked in
     let sums : Sums z = tree_sums tree z a.formed.shaped a.walked in
     let long : length z.declared_types ≡ length z.variables = (text_notes tree z a.walked).1.0 in
-    let k : Extended tree z ends sums (body_good tree z ends) (global_good tree z ends) long 0 (beginning (length tree.lines)) tree.items =
-    items_extent tree z ends sums (body_good tree z ends) (global_good tree z ends) long tree.items (length tree.lines) 0 (beginning (length tree.lines)) tt
+    let k : Extended tree z ends sums (body_good tree z ends) (global_good tree z ends) long 0 (empty_walk (length tree.lines)) tree.items =
+    items_extent tree z ends sums (body_good tree z ends) (global_good tree z ends) long tree.items (length tree.lines) 0 (empty_walk (length tree.lines)) tt
     a.formed.shaped.items a.formed.shaped.placed (all_spelled tree a.formed.shaped.items a.formed.shaped.placed (strings_short tree 1048575 a.short)) a.constants
     (record { structs = tt; functions = tt }) (begins_standing tree z (length tree.lines)) (begins_tagged tree z (length tree.lines))
     (record { long = refl; latest = λ n p q. q; past = λ i entry e. cc }) (omega (arith, a.formed.shaped.lines)) (tree_is tree z a.walked).items in
@@ -158,7 +157,7 @@ accepted_spans tree z a =
 pub facts_fit : (tree : SourceTree) (z : Walk) (table : List Site) → IsAcceptedTree tree z → ((token n : ℕ) → offset_at z token ≡ Some n → n ≤ step_limit)
     → FactsFit (facts_of tree z) (names_of_text tree z table)
 facts_fit tree z table a offsets =
-    let strings : List Literal = literals tree in
+    let strings : List Literal = string_literals tree in
     let texts : List Text = texts_of strings in
     let spanned : Spanned z = accepted_spans tree z a in
     let all_strings : length texts ≡ length strings = length-map strings (λ (s : Literal). record { bytes = s.bytes }) in

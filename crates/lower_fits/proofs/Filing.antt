@@ -3,7 +3,6 @@ use Rattle.std.proofs.Common.{◌⊎◌, inl, inr, ◌≡◌, ℕ, zero, suc, re
 use Rattle.std.specs.Prelude.{Option, slice_get, ◌&&◌, ◌||◌, if◌then◌else◌}
 use Rattle.std.specs.Str.{bytes_eq}
 use Rattle.std.proofs.lemmas.Bool.{or_parts, true≢false}
-use Rattle.std.proofs.lemmas.Slice.Eq.{bytes_eq-Decides}
 use Rattle.std.proofs.lemmas.Option.{same_Some}
 use Rattle.base_lists.proofs.Tests.{left_false}
 use Rattle.base_lists.proofs.Lists.{next_is, same_bytes}
@@ -16,8 +15,8 @@ use Rattle.c_types_expressions.specs.declared.names.ScopeEntry.{ScopeEntry}
 use Rattle.c_types_expressions.specs.declared.names.ScopeEntry.TheVariants.{Opens, Declares}
 use Rattle.c_types_expressions.specs.declared.walk.FunctionEntry.{FunctionEntry}
 use Rattle.c_types_expressions.specs.declared.walk.Walk.{Walk}
-use Rattle.c_types_expressions.specs.Words.{base_type, found, is_here, is_reserved, or_before}
-use Rattle.c_types_walk.specs.ItemWalk.{clashes, with_function}
+use Rattle.c_types_expressions.specs.Words.{base_type, declared_meaning, is_here, is_reserved, or_before}
+use Rattle.c_types_walk.specs.ItemWalk.{is_clashing_name, with_function}
 use Rattle.c_types_walk.specs.StatementWalk.{walk_declaration, walk_start, walk_starts}
 use Rattle.c_types.proofs.Hiding.{hides}
 use Rattle.c_types_expressions.proofs.Kept.{base_keeps}
@@ -41,8 +40,8 @@ pub record IsFunctionNamed (functions : List FunctionEntry) (name : List ℕ) (i
 -- Outside of functions exactly the names of the functions mean functions, each its own.
 pub record InFile (functions : List FunctionEntry) (names : List ScopeEntry) : Type 0 where
   pub outer : AreOuter names
-  pub found_as : (index : ℕ) (g : FunctionEntry) → slice_get functions index ≡ Some g → found g.name names ≡ Some (meaning.Function index)
-  pub means : (name : List ℕ) (index : ℕ) → found name names ≡ Some (meaning.Function index) → IsFunctionNamed functions name index
+  pub found_as : (index : ℕ) (g : FunctionEntry) → slice_get functions index ≡ Some g → declared_meaning g.name names ≡ Some (meaning.Function index)
+  pub means : (name : List ℕ) (index : ℕ) → declared_meaning name names ≡ Some (meaning.Function index) → IsFunctionNamed functions name index
 
 -- what means something was declared here, or before
 here_by : (b c : Bool) (m : Option Meaning) (k o : Meaning) → (m ≡ Some o → c ≡ true) → or_before (if b then Some k else None) m ≡ Some o → (b || c) ≡ true
@@ -50,11 +49,11 @@ here_by true c m k o h e = refl
 here_by false c m k o h e = h e
 
 -- outside of functions, what a name means was declared in the present scope
-found_here : (name : List ℕ) (names : List ScopeEntry) (o : Meaning) → AreOuter names → found name names ≡ Some o → is_here name names ≡ true
+found_here : (name : List ℕ) (names : List ScopeEntry) (o : Meaning) → AreOuter names → declared_meaning name names ≡ Some o → is_here name names ≡ true
 found_here name [] o h e = absurd (cc)
 found_here name (Opens ∷ rest) o h e = absurd h
 found_here name (Declares other k ∷ rest) o h e =
-    here_by (bytes_eq other name) (is_here name rest) (found name rest) k o (found_here name rest o h) e
+    here_by (bytes_eq other name) (is_here name rest) (declared_meaning name rest) k o (found_here name rest o h) e
 
 -- what a name meant stays where the new one is another
 kept_by : (b : Bool) (k : Meaning) (m : Option Meaning) (o : Meaning) → (b ≡ true → ⊥) → m ≡ Some o → or_before (if b then Some k else None) m ≡ Some o
@@ -62,9 +61,9 @@ kept_by true k m o h e = absurd (h refl)
 kept_by false k m o h e = e
 
 -- where a new name is declared, the others mean what they meant
-found_still : (name other : List ℕ) (k o : Meaning) (names : List ScopeEntry) → AreOuter names → is_here name names ≡ false → found other names ≡ Some o
-    → found other (Declares name k ∷ names) ≡ Some o
-found_still name other k o names h new e = kept_by (bytes_eq name other) k (found other names) o
+found_still : (name other : List ℕ) (k o : Meaning) (names : List ScopeEntry) → AreOuter names → is_here name names ≡ false → declared_meaning other names ≡ Some o
+    → declared_meaning other (Declares name k ∷ names) ≡ Some o
+found_still name other k o names h new e = kept_by (bytes_eq name other) k (declared_meaning other names) o
     (λ same. true≢false (sym (found_here other names o h e) ∙ ap (λ n. is_here n names) (sym (same_bytes name other same)) ∙ new)) e
 
 -- the new name is this one, or this one meant the same before
@@ -74,9 +73,9 @@ before_by name other true k m o h e = inl (h refl, same_Some k o e)
 before_by name other false k m o h e = inr e
 
 -- a name means what it was declared as, or what it meant before
-found_before : (name other : List ℕ) (k o : Meaning) (names : List ScopeEntry) → found other (Declares name k ∷ names) ≡ Some o
-    → ((name ≡ other) × (k ≡ o)) ⊎ (found other names ≡ Some o)
-found_before name other k o names e = before_by name other (bytes_eq name other) k (found other names) o (same_bytes name other) e
+found_before : (name other : List ℕ) (k o : Meaning) (names : List ScopeEntry) → declared_meaning other (Declares name k ∷ names) ≡ Some o
+    → ((name ≡ other) × (k ≡ o)) ⊎ (declared_meaning other names ≡ Some o)
+found_before name other k o names e = before_by name other (bytes_eq name other) k (declared_meaning other names) o (same_bytes name other) e
 
 -- a global
 variable_file : (functions : List FunctionEntry) (names : List ScopeEntry) (name : List ℕ) (k : ℕ) → InFile functions names → is_here name names ≡ false
@@ -87,7 +86,7 @@ variable_file functions names name k f new = record {
   means = λ other index e. old other index (found_before name other (meaning.Variable k) (meaning.Function index) names e);
 }
   where
-    old : (other : List ℕ) (index : ℕ) → ((name ≡ other) × (meaning.Variable k ≡ meaning.Function index)) ⊎ (found other names ≡ Some (meaning.Function index))
+    old : (other : List ℕ) (index : ℕ) → ((name ≡ other) × (meaning.Variable k ≡ meaning.Function index)) ⊎ (declared_meaning other names ≡ Some (meaning.Function index))
         → IsFunctionNamed functions other index
     old other index (inl p) = absurd (cc)
     old other index (inr e) = f.means other index e
@@ -113,11 +112,11 @@ entry_file functions names g f new = record {
 }
   where
     each : (index : ℕ) (h : FunctionEntry) → (slice_get functions index ≡ Some h) ⊎ ((index ≡ length functions) × (g ≡ h))
-        → found h.name (Declares g.name (meaning.Function (length functions)) ∷ names) ≡ Some (meaning.Function index)
+        → declared_meaning h.name (Declares g.name (meaning.Function (length functions)) ∷ names) ≡ Some (meaning.Function index)
     each index h (inl e) =
         found_still g.name h.name (meaning.Function (length functions)) (meaning.Function index) names f.outer new (f.found_as index h e)
     each index h (inr p) =
-        ap (λ (k : FunctionEntry). found k.name (Declares g.name (meaning.Function (length functions)) ∷ names)) (sym p.1)
+        ap (λ (k : FunctionEntry). declared_meaning k.name (Declares g.name (meaning.Function (length functions)) ∷ names)) (sym p.1)
         ∙ hides g.name (meaning.Function (length functions)) names ∙ ap (λ n. Some (meaning.Function n)) (sym p.0)
 
     number : Meaning → ℕ
@@ -125,7 +124,7 @@ entry_file functions names g f new = record {
     number m = 0
 
     back : (other : List ℕ) (index : ℕ)
-        → ((g.name ≡ other) × (meaning.Function (length functions) ≡ meaning.Function index)) ⊎ (found other names ≡ Some (meaning.Function index))
+        → ((g.name ≡ other) × (meaning.Function (length functions) ≡ meaning.Function index)) ⊎ (declared_meaning other names ≡ Some (meaning.Function index))
         → IsFunctionNamed (functions ++ g ∷ []) other index
     back other index (inl p) =
         record { own = g; here = ap (slice_get (functions ++ g ∷ [])) (sym (ap number p.1)) ∙ next_is functions g []; named = p.0 }
@@ -133,7 +132,7 @@ entry_file functions names g f new = record {
         record { own = k.own; here = stays_more functions (g ∷ []) index k.own k.here; named = k.named }
 
 -- a function that is declared, maybe again
-pub function_file : (name : List ℕ) (f : FunctionType) (known : Option ℕ) (w : Walk) → InFile w.functions w.names → clashes name known w ≡ false
+pub function_file : (name : List ℕ) (f : FunctionType) (known : Option ℕ) (w : Walk) → InFile w.functions w.names → is_clashing_name name known w ≡ false
     → InFile (with_function name f known w).functions (with_function name f known w).names
 function_file name f (Some index) w k new = k
 function_file name f None w k new = entry_file w.functions w.names (record { name = name; ctype = f }) k

@@ -1,5 +1,5 @@
 -- Each `printf` of an accepted text has a format with a number of conversions.
-use Rattle.std.proofs.Common.{⊎_elim, ◌≡◌, ℕ, refl, ap, sym, subst, List, [], ◌∷◌, ◌++◌, Some, None, Ok, Bool, true, false}
+use Rattle.std.proofs.Common.{⊎_elim, ◌≡◌, ℕ, sym, subst, List, [], ◌∷◌, ◌++◌, Some, None, Ok, Bool, true, false}
 use Rattle.std.specs.Prelude.{IfSome, IsSome, Option, slice_get}
 use Rattle.std.specs.List.{AllByRecursion, flat_map}
 use Rattle.std.specs.Option.{option_and_then}
@@ -16,11 +16,11 @@ use Rattle.c_types_rules.specs.declared.operand.Operand.{Operand}
 use Rattle.c_types_rules.specs.Words.{value_of, library_called, library_named, TypeTree}
 use Rattle.c_types_expressions.specs.declared.walk.FunctionEntry.{FunctionEntry}
 use Rattle.c_types_expressions.specs.declared.walk.Walk.{Walk}
-use Rattle.c_types.specs.Answers.{function_at, noted, type_at}
-use Rattle.c_types_expressions.specs.ExprWalk.{flat}
+use Rattle.c_types.specs.Answers.{function_at, note_at, type_at}
+use Rattle.c_types_expressions.specs.ExprWalk.{concatenated_strings}
 use Rattle.flow.specs.declared.program.Text.{Text}
 use Rattle.c_meaning.specs.declared.value_type.Called.TheVariants as called
-use Rattle.c_meaning.specs.Words.{bodies, body_of_item, facts_of, Literal, literals, strings_begun, strings_declared, strings_entered, strings_if, strings_in}
+use Rattle.c_meaning.specs.Words.{function_bodies, body_of_item, facts_of, Literal, string_literals, strings_begun, strings_declared, strings_entered, strings_if, strings_in}
 use Rattle.c_meaning.specs.Words.{strings_of_all, strings_of_item, strings_stated, called_as, library_call}
 use Rattle.c_types_laws.specs.Fits.{CallFits, CalleeFits, CallsFunction, CallsLibrary, EntriesFit, FormatFits, Gives, ItemFits, StatementFits, TextFits, WholeFits}
 use Rattle.c_types_laws.proofs.Items.{text_fits}
@@ -30,7 +30,7 @@ use Rattle.c_meaning_sound.proofs.Forming.{Ended, Numbered}
 use Rattle.c_meaning_sound.proofs.Lengths.{strings_short}
 use Rattle.c_meaning_sound.proofs.Reading.{all_spelled}
 use Rattle.c_meaning_sound.proofs.Texts.{Spelled}
-use Rattle.lower_fits.proofs.Lists.{all_join}
+use Rattle.base_lists.proofs.Every.{all_join}
 use Rattle.lower_fits.specs.Fitting.{FormatFirst, FormatOf, Formatted, FormattedEntries, FormattedStatement}
 use Rattle.lower_fits.proofs.ConversionsOfFormats.{format_counted}
 
@@ -64,7 +64,7 @@ module _ (tree : SourceTree) (z : Walk) (ends : Ended tree z) where
       → FormattedAs (function_at z token) name arguments
   function_formatted token name arguments t h =
       let definition : Numbered tree z h.0 = ends.calls token h.0 h.1.0 in
-      subst (λ found. FormattedAs (option_and_then (λ place. noted z.defined_as place) found) name arguments) (sym h.1.0)
+      subst (λ found. FormattedAs (option_and_then (λ place. note_at z.defined_as place) found) name arguments) (sym h.1.0)
       (subst (λ number. FormattedAs number name arguments) (sym definition.defined) tt)
 
   -- any call within an expression
@@ -78,7 +78,7 @@ module _ (tree : SourceTree) (z : Walk) (ends : Ended tree z) where
   format_first : (arguments : ExprList) → FormatFits z arguments → AllSpelled (strings_of_all arguments) → FormatFirst (facts_of tree z) arguments
   format_first e.no_exprs h spelled = absurd h
   format_first (e.more_exprs (e.Strings token parts) rest) h spelled =
-      let counted : IsSome (conversions_of (flat parts)) = format_counted (flat parts) h.0 h.1.1 in
+      let counted : IsSome (conversions_of (concatenated_strings parts)) = format_counted (concatenated_strings parts) h.0 h.1.1 in
       subst (λ text. IfSome text (λ (t : Text). IsSome (conversions_of t.bytes))) (sym spelled.0.0)
       (subst (λ bytes. IsSome (conversions_of bytes)) (flat_same parts) counted)
   format_first (e.more_exprs x rest) h spelled = absurd h
@@ -154,11 +154,11 @@ module _ (tree : SourceTree) (z : Walk) (ends : Ended tree z) where
       (items_formatted xs h.1 (all_second (Spelled tree) (strings_of_item x) (flat_map strings_of_item xs) spelled))
 
 -- each body of an accepted text
-pub body_formatted : (tree : SourceTree) (z : Walk) (number : ℕ) (body : EntryList) → IsAcceptedTree tree z → slice_get (bodies tree) number ≡ Some body
+pub body_formatted : (tree : SourceTree) (z : Walk) (number : ℕ) (body : EntryList) → IsAcceptedTree tree z → slice_get (function_bodies tree) number ≡ Some body
     → FormattedEntries (facts_of tree z) body
 body_formatted tree z number body accepted at =
     let shaped = accepted.formed.shaped in
-    let spelled : AllByRecursion (Spelled tree) (literals tree) = all_spelled tree shaped.items shaped.placed (strings_short tree 1048575 accepted.short) in
+    let spelled : AllByRecursion (Spelled tree) (string_literals tree) = all_spelled tree shaped.items shaped.placed (strings_short tree 1048575 accepted.short) in
     let fits : TextFits z tree = text_fits tree z shaped accepted.walked in
-    all_at (FormattedEntries (facts_of tree z)) (bodies tree) number body
+    all_at (FormattedEntries (facts_of tree z)) (function_bodies tree) number body
     (items_formatted tree z (tree_ended tree z shaped accepted.walked) tree.items fits spelled) at

@@ -8,7 +8,7 @@ use Rattle.c_syntax.specs.ItemTree as item
 use Rattle.c_syntax.specs.Words.{ItemTree, SourceTree, EachAt, ItemAt, ShapedItem, base_kinds, declaration_kinds, item_kinds, params_kinds, type_kinds}
 use Rattle.c_types_rules.specs.declared.function.FunctionType.{FunctionType}
 use Rattle.c_types_expressions.specs.declared.walk.Walk.{Walk}
-use Rattle.c_types_expressions.specs.Words.{with_stars, beginning, found, Done, Fine}
+use Rattle.c_types_expressions.specs.Words.{with_stars, empty_walk, declared_meaning, Done, Fine}
 use Rattle.c_types_walk.specs.ItemWalk.{known_as, types_of, walk_item, walk_items}
 use Rattle.c_types_walk.specs.StatementWalk.{walk_declaration}
 use Rattle.c_types.proofs.NotedItems.{text_notes}
@@ -57,7 +57,7 @@ module _ (tree : SourceTree) (z : Walk) where
       (at + length (type_kinds b stars) + 2 + length (params_kinds ps)) w a v p.2 (omega arith) h in
       let f : FunctionType = record { gives = with_stars stars k.of; params = types_of k.own } in
       none_counted (item.Function token b stars name ps body) w v refl
-      (function_keeps token f name k.own body (known_as f (found name w.names) w) w v a k.rest)
+      (function_keeps token f name k.own body (known_as f (declared_meaning name w.names) w) w v a k.rest)
   item_counted (item.Declaration d) count at w v a o p s st g c later h =
       let lo : ℕ = at + length (base_kinds d.base) in
       let hi : ℕ = at + length (declaration_kinds d) in
@@ -110,10 +110,10 @@ pub strings_spelled : (tree : SourceTree) (z : Walk) → IsAcceptedTree tree z �
 strings_spelled tree z a = all_spelled tree a.formed.shaped.items a.formed.shaped.placed (strings_short tree 1048575 a.short)
 
 -- the globals of an accepted text
-pub globals_counted : (tree : SourceTree) (z : Walk) → IsAcceptedTree tree z → Counted tree z tree.items (beginning (length tree.lines)) z
+pub globals_counted : (tree : SourceTree) (z : Walk) → IsAcceptedTree tree z → Counted tree z tree.items (empty_walk (length tree.lines)) z
 globals_counted tree z a =
     let ends = tree_ended tree z a.formed.shaped a.walked in
     items_counted tree z (tree_sums tree z a.formed.shaped a.walked) (body_good tree z ends) (global_good tree z ends) (text_notes tree z a.walked).1.0
-    tree.items (length tree.lines) 0 (beginning (length tree.lines)) tt a.formed.shaped.items a.formed.shaped.placed (strings_spelled tree z a) a.constants
+    tree.items (length tree.lines) 0 (empty_walk (length tree.lines)) tt a.formed.shaped.items a.formed.shaped.placed (strings_spelled tree z a) a.constants
     (record { structs = tt; functions = tt }) (begins_standing tree z (length tree.lines)) (begins_tagged tree z (length tree.lines))
     (omega (arith, a.formed.shaped.lines)) (tree_is tree z a.walked).items

@@ -11,12 +11,12 @@ use Rattle.c_syntax.specs.Words.{ExprTree, ExprList, first_token, InitialTree}
 use Rattle.c_syntax.specs.StatementTree as s
 use Rattle.c_types_rules.specs.declared.layout.StructType.{StructType}
 use Rattle.c_types_rules.specs.declared.operand.Operand.{Operand}
-use Rattle.c_types_rules.specs.Words.{assignable, is_scalar, Looked, is_complete, TypeTree}
+use Rattle.c_types_rules.specs.Words.{is_assignable, is_scalar, OperandOrFault, is_complete, TypeTree}
 use Rattle.c_types_rules.specs.TypeTree as t
 use Rattle.c_types_expressions.specs.declared.walk.Walk.{Walk}
-use Rattle.c_types_expressions.specs.Words.{looked, string_cells, walk_expr, walk_exprs, Walked, Fine, Faulty}
+use Rattle.c_types_expressions.specs.Words.{operand_noted, string_cells, walk_expr, walk_exprs, Walked, Fine, Faulty}
 pub use Rattle.c_types_expressions.specs.Room.{items_in}
-use Rattle.c_types_walk.specs.Initialisers.{all_initialise, cells_of_string, completes, initialises, is_constant, is_minus, is_number, listed_type, valued, walk_initial}
+use Rattle.c_types_walk.specs.Initialisers.{all_initialise, cells_of_string, type_or_fault, is_scalar_initialiser, is_constant, is_minus, is_number, listed_type, type_by_expression, walk_initial}
 use Rattle.c_types.proofs.Noted.{Gives, gives_more, gives_then}
 use Rattle.c_meaning_sound.proofs.Constant.{AllConstant, all_constant}
 
@@ -73,11 +73,11 @@ three true false r h = absurd (false≢true h)
 three false q r h = absurd (false≢true h)
 
 -- the value of a scalar
-expressed_completes : (of u : TypeTree) (value : ExprTree) (a : Operand) → (if initialises true of value a then Some of else None) ≡ Some u
+expressed_completes : (of u : TypeTree) (value : ExprTree) (a : Operand) → (if is_scalar_initialiser true of value a then Some of else None) ≡ Some u
     → (is_constant value ≡ true) × Completed of u (s.Value value)
 expressed_completes of u value a h =
-    let k = if_some (initialises true of value a) of u h in
-    let parts = three (is_scalar of) (assignable of a) (is_constant value) k.0 in (
+    let k = if_some (is_scalar_initialiser true of value a) of u h in
+    let parts = three (is_scalar of) (is_assignable of a) (is_constant value) k.0 in (
       parts.1,
       record { takes = subst (λ v. Takes v (Some (s.Value value))) k.1 (scalar_takes of value parts.0); kept = λ structs c. sym k.1 },
     )
@@ -98,7 +98,7 @@ spelled_completes size token parts u h =
 
 -- a string
 string_completes : (of u : TypeTree) (token : ℕ) (parts : List (List ℕ)) (a : Operand)
-    → valued true of (e.Strings token parts) a (Some (string_cells parts)) ≡ Some u
+    → type_by_expression true of (e.Strings token parts) a (Some (string_cells parts)) ≡ Some u
     → (is_constant (e.Strings token parts) ≡ true) × Completed of u (s.Value (e.Strings token parts))
 string_completes (t.Array t.Char size) u token parts a h = (refl, spelled_completes size token parts u h)
 string_completes t.Void u token parts a h = expressed_completes t.Void u (e.Strings token parts) a h
@@ -110,7 +110,7 @@ string_completes (t.Struct tag) u token parts a h = expressed_completes (t.Struc
 string_completes of u token parts a h = absurd (cc)
 
 -- one expression
-value_completes : (of u : TypeTree) (value : ExprTree) (a : Operand) → valued true of value a (cells_of_string value) ≡ Some u
+value_completes : (of u : TypeTree) (value : ExprTree) (a : Operand) → type_by_expression true of value a (cells_of_string value) ≡ Some u
     → (is_constant value ≡ true) × Completed of u (s.Value value)
 value_completes of u (e.Strings token parts) a h = string_completes of u token parts a h
 value_completes of u value a h = expressed_completes of u value a h
@@ -146,7 +146,7 @@ abbrev pub Unnoted : Walk → Walk → Type 0
 Unnoted w v = v.variables_at ≡ w.variables_at
 
 -- a construct that is looked at notes no variable
-looked_unnoted : (token : ℕ) (l : Looked) (w : Walk) → Gives (λ _ v. Unnoted w v) (looked token l w)
+looked_unnoted : (token : ℕ) (l : OperandOrFault) (w : Walk) → Gives (λ _ v. Unnoted w v) (operand_noted token l w)
 looked_unnoted token (Ok x) w = refl
 looked_unnoted token (Err kind) w = tt
 
@@ -190,7 +190,7 @@ pub record Initial (of : TypeTree) (x : Option InitialTree) (w : Walk) (u : Type
 
 -- an initialiser that isn't refused
 completed_by : (Q : TypeTree → Walk → Type 0) (token : ℕ) (o : Option TypeTree) (v : Walk) → ((u : TypeTree) → o ≡ Some u → Q u v)
-    → Gives Q (completes token o v)
+    → Gives Q (type_or_fault token o v)
 completed_by Q token None v h = tt
 completed_by Q token (Some u) v h = h u refl
 
@@ -200,7 +200,7 @@ initial_is of None w = record { takes = tt; kept = λ structs c. refl; unnoted =
 initial_is of (Some (s.Value value)) w =
     gives_then (λ _ v. is_constant value ≡ true → Unnoted w v) (Initial of (Some (s.Value value)) w) (walk_expr value w) _
     (if_so (is_constant value) (λ _ v. Unnoted w v) (walk_expr value w) (constant_unnoted value w))
-    (λ a v h. completed_by (Initial of (Some (s.Value value)) w) (first_token value) (valued true of value a (cells_of_string value)) v
+    (λ a v h. completed_by (Initial of (Some (s.Value value)) w) (first_token value) (type_by_expression true of value a (cells_of_string value)) v
     (λ u q.
     let k = value_completes of u value a q in
     record { takes = k.1.takes; kept = k.1.kept; unnoted = h k.0 }))

@@ -13,12 +13,12 @@ use Rattle.c_types_rules.specs.Words.{TypeTree, cells_of, is_object, most_cells}
 use Rattle.c_types_expressions.specs.declared.names.Meaning.TheVariants as meaning
 use Rattle.c_types_expressions.specs.declared.names.ScopeEntry.TheVariants.{Declares}
 use Rattle.c_types_expressions.specs.declared.walk.Walk.{Walk}
-use Rattle.c_types_expressions.specs.Words.{with_call, with_offset, with_use, closed, is_here, is_name_taken, is_reserved, Walked, Done, Fine, Faulty, closing}
-use Rattle.c_types_expressions.specs.Words.{opened, replaced, with_type, with_variable}
+use Rattle.c_types_expressions.specs.Words.{with_call, with_offset, with_use, names_after_scope, is_here, is_name_taken, is_reserved, Walked, Done, Fine, Faulty, scope_closed}
+use Rattle.c_types_expressions.specs.Words.{scope_opened, item_replaced, with_type, with_variable}
 use Rattle.c_types_expressions.proofs.Kept.{IsKeptByExpressions, Keeps, by_notes}
 use Rattle.c_types_walk.specs.Declarators.{declared_type, is_open}
 use Rattle.c_types_walk.specs.Initialisers.{walk_initial}
-use Rattle.c_types_walk.specs.StatementWalk.{counted_cells, sized, walk_closed, walk_declaration, walk_entries, walk_open, walk_start, walk_typed}
+use Rattle.c_types_walk.specs.StatementWalk.{counted_cells, object_type_checked, walk_closed, walk_declaration, walk_entries, walk_open, walk_start, walk_typed}
 use Rattle.c_types_walk.specs.StatementWalk.{with_declared_type}
 use Rattle.c_types_walk.proofs.Kept.{IsKeptByStatements, declaration_keeps, entries_keep, initial_keeps}
 use Rattle.c_types.proofs.Noted.{Gives, gives_more, gives_then}
@@ -35,7 +35,7 @@ IsObject structs of = is_object structs of ≡ true
 -- a part of the walk adds variables of these types
 pub record Lays (new : List TypeTree) (w v : Walk) : Type 0 where
   pub structs : v.structs ≡ w.structs
-  pub scope : closed v.names ≡ closed w.names
+  pub scope : names_after_scope v.names ≡ names_after_scope w.names
   pub types : v.declared_types ≡ w.declared_types ++ new
   pub objects : AllByRecursion (IsObject w.structs) new
   pub long : Long v
@@ -54,7 +54,7 @@ Laying w v = Long w → Laid w v
 pub lays_nothing : (w v : Walk) → Leaves w v → Long w → Lays [] w v
 lays_nothing w v h l = record {
   structs = h.structs;
-  scope = ap closed h.names;
+  scope = ap names_after_scope h.names;
   types = h.types ∙ sym (append-nil w.declared_types);
   objects = tt;
   long = ap length h.types ∙ l ∙ sym (ap length h.variables);
@@ -135,7 +135,7 @@ adds_behind name of w u v a b = record {
 }
 
 -- another item in the last place
-pub last_replaced : {A : Type 0} (xs : List A) (x y : A) (n : ℕ) → length xs ≡ n → replaced (xs ++ x ∷ []) n y ≡ xs ++ y ∷ []
+pub last_replaced : {A : Type 0} (xs : List A) (x y : A) (n : ℕ) → length xs ≡ n → item_replaced (xs ++ x ∷ []) n y ≡ xs ++ y ∷ []
 last_replaced xs x y n h =
     ap (λ b. if b then slice_set (xs ++ x ∷ []) n y else xs ++ x ∷ [])
     (lt-ltb n (length (xs ++ x ∷ [])) (omega (arith, h, length-append xs (x ∷ [])))) ∙ set_at xs x [] y n h
@@ -146,7 +146,7 @@ retyped_adds : (name : List ℕ) (old of : TypeTree) (w v : Walk) → Long w →
 retyped_adds name old of w v l a = record {
   structs = a.structs;
   names = a.names;
-  types = ap (λ xs. replaced xs (length w.variables) of) a.types ∙ last_replaced w.declared_types old of (length w.variables) l;
+  types = ap (λ xs. item_replaced xs (length w.variables) of) a.types ∙ last_replaced w.declared_types old of (length w.variables) l;
   more = a.more;
   locals = a.locals;
   most = a.most;
@@ -176,7 +176,7 @@ sized_by true token of w r e h = gives_more (λ _ v. Leaves w v) (λ _ v. Sizes 
 sized_by false token of w r e h = tt
 
 -- a variable may have a type that was looked at
-sizes : (global : Bool) (token : ℕ) (of : TypeTree) (w : Walk) → Gives (λ _ v. Sizes of w v) (sized global token of w)
+sizes : (global : Bool) (token : ℕ) (of : TypeTree) (w : Walk) → Gives (λ _ v. Sizes of w v) (object_type_checked global token of w)
 sizes global token of w = sized_by (is_object w.structs of) token of w (counted_cells global token (cells_of w.structs of) w) refl
     (counted_by (not global) (nat_le (w.global_cells + cells_of w.structs of) most_cells) token (w.global_cells + cells_of w.structs of) w)
 
@@ -186,7 +186,7 @@ open_one global x of w l =
     let first : Walk = with_variable global x.declarator.name_token x.declarator.name of w in
     let added : Adds x.declarator.name of w first = variable_adds global x.declarator.name_token x.declarator.name of w in
     gives_then (λ _ v. Leaves first v) (λ _ v. One x.declarator.name w v) (walk_initial global of x.initial first) _ (initial_keeps Leaves leaves_kept global of x.initial first)
-    (λ own u h. gives_then (λ _ v. Sizes own u v) (λ _ v. One x.declarator.name w v) (sized global x.token own u) _ (sizes global x.token own u)
+    (λ own u h. gives_then (λ _ v. Sizes own u v) (λ _ v. One x.declarator.name w v) (object_type_checked global x.token own u) _ (sizes global x.token own u)
     (λ _ v k. record {
       of = own;
       object = subst (λ structs. IsObject structs own) (h.structs ∙ added.structs) k.1;
@@ -197,7 +197,7 @@ open_one global x of w l =
 -- any other variable
 closed_one : (global : Bool) (x : StartTree) (of : TypeTree) (w : Walk) → Gives (λ _ v. One x.declarator.name w v) (walk_closed global x of w)
 closed_one global x of w =
-    gives_then (λ _ v. Sizes of w v) (λ _ v. One x.declarator.name w v) (sized global x.token of w) _ (sizes global x.token of w)
+    gives_then (λ _ v. Sizes of w v) (λ _ v. One x.declarator.name w v) (object_type_checked global x.token of w) _ (sizes global x.token of w)
     (λ _ u k.
     let first : Walk = with_variable global x.declarator.name_token x.declarator.name of u in
     let added : Adds x.declarator.name of u first = variable_adds global x.declarator.name_token x.declarator.name of u in
@@ -242,7 +242,7 @@ start_adds global b x w l = start_by x.declarator.name (is_name_taken x.declarat
 pub one_lays : (name : List ℕ) (of : TypeTree) (w v : Walk) → IsObject w.structs of → Adds name of w v → Long w → Lays (of ∷ []) w v
 one_lays name of w v o a l = record {
   structs = a.structs;
-  scope = ap closed a.names;
+  scope = ap names_after_scope a.names;
   types = a.types;
   objects = (o, tt);
   long = ap length a.types ∙ omega (arith, l, a.more, length-append w.declared_types (of ∷ []));
@@ -262,13 +262,13 @@ start_laid global b x w = needing (Long w) (λ v. Laid w v) (walk_start global b
     (λ _ v h. (h.one.of ∷ [], one_lays x.declarator.name h.one.of w v h.one.object h.one.adds l)) (start_adds global b x w l))
 
 -- the end of a scope leaves the variables that were declared in it
-scope_laid : (w u : Walk) → Laying (opened w) u → Keeps Laying w (closing tt u)
+scope_laid : (w u : Walk) → Laying (scope_opened w) u → Keeps Laying w (scope_closed tt u)
 scope_laid w u h l =
-    let a : Laid (opened w) u = h l in (
+    let a : Laid (scope_opened w) u = h l in (
       a.0,
       record {
         structs = a.1.structs;
-        scope = ap closed a.1.scope;
+        scope = ap names_after_scope a.1.scope;
         types = a.1.types;
         objects = a.1.objects;
         long = a.1.long;

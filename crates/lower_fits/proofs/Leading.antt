@@ -1,7 +1,7 @@
 -- Where each way of one path is one of another path: what this comes to for paths made of paths.
 use Rattle.std.proofs.Common.{ℕ, inl, inr}
-use Rattle.lower_relation.specs.Paths.{Path, ◌then◌, Ways, Exits, Emitted, Either, OneOf, Turned}
-use Rattle.lower_relation.specs.Statements.{Before}
+use Rattle.lower_relation.specs.Paths.{Path, ◌then◌, Ways, Exits, Emitted, Either, OneOf, SwappedWays}
+use Rattle.lower_relation.specs.Statements.{StatementSequence}
 
 -- each way of the one path is one of the other
 pub record Into {K : Type 0} (R S : Path K) : Type 0 where
@@ -31,9 +31,9 @@ pub one_of_into : {K : Type 0} {R R' S S' : Path K} → Into R R' → Into S S' 
 one_of_into a b = record { leads = λ at k h. elim h [ inl y ↦ inl (a.leads at k y) | inr y ↦ inr (b.leads at k y) ] }
 
 -- a condition the other way round
-pub turned_into : {D D' : Path Ways} → Into D D' → Into (Turned D) (Turned D')
+pub turned_into : {D D' : Path Ways} → Into D D' → Into (SwappedWays D) (SwappedWays D')
 turned_into d = record { leads = λ at k h. d.leads at _ h }
 
 -- one statement before another
-pub before_into : {R R' S S' : Path Exits} → Into R R' → Into S S' → Into (Before R S) (Before R' S')
+pub before_into : {R R' S S' : Path Exits} → Into R R' → Into S S' → Into (StatementSequence R S) (StatementSequence R' S')
 before_into a b = record { leads = λ at k h. (h.0, a.leads at _ h.1, b.leads h.0 k h.2) }

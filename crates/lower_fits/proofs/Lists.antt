@@ -3,15 +3,10 @@ use Rattle.std.proofs.Common.{◌≡◌, ℕ, zero, suc, List, [], ◌∷◌, �
 use Rattle.std.specs.Prelude.{IfSome, Option, if◌then◌else◌, nat_lt, replicate, slice_set}
 use Rattle.std.specs.List.{AllByRecursion}
 use Rattle.std.proofs.lemmas.Option.{same_Some}
-use Rattle.c_types.specs.Answers.{noted}
-use Rattle.c_types_expressions.specs.Walked.{replaced}
+use Rattle.c_types.specs.Answers.{note_at}
+use Rattle.c_types_expressions.specs.Walked.{item_replaced}
 
 module _ {A : Type 0} (P : A → Type 0) where
-  -- what holds of both parts holds of the whole
-  pub all_join : (xs ys : List A) → AllByRecursion P xs → AllByRecursion P ys → AllByRecursion P (xs ++ ys)
-  all_join [] ys h k = k
-  all_join (x ∷ xs) ys h k = (h.0, all_join xs ys h.1 k)
-
   -- an item is another one
   all_set : (xs : List A) (i : ℕ) (x : A) → AllByRecursion P xs → P x → AllByRecursion P (slice_set xs i x)
   all_set [] i x h k = tt
@@ -24,7 +19,7 @@ module _ {A : Type 0} (P : A → Type 0) where
   all_if false xs ys h k = k
 
   -- an item is another one, where there is that place
-  pub all_replaced : (xs : List A) (i : ℕ) (x : A) → AllByRecursion P xs → P x → AllByRecursion P (replaced xs i x)
+  pub all_replaced : (xs : List A) (i : ℕ) (x : A) → AllByRecursion P xs → P x → AllByRecursion P (item_replaced xs i x)
   all_replaced xs i x h k = all_if (nat_lt i (length xs)) (slice_set xs i x) xs (all_set xs i x h k) h
 
   -- it holds of whatever was noted
@@ -32,7 +27,7 @@ module _ {A : Type 0} (P : A → Type 0) where
   AllNoted notes = AllByRecursion (λ o. IfSome o P) notes
 
   -- and so of what was noted at a place
-  pub noted_at : (notes : List (Option A)) (i : ℕ) (x : A) → AllNoted notes → noted notes i ≡ Some x → P x
+  pub noted_at : (notes : List (Option A)) (i : ℕ) (x : A) → AllNoted notes → note_at notes i ≡ Some x → P x
   noted_at [] i x h e = cc
   noted_at (Some y ∷ notes) zero x h e = rw (same_Some y x e) at h.0
   noted_at (None ∷ notes) zero x h e = cc

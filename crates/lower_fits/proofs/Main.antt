@@ -11,10 +11,10 @@ use Rattle.c_types_expressions.specs.declared.names.Meaning.{Meaning}
 use Rattle.c_types_expressions.specs.declared.names.Meaning.TheVariants as meaning
 use Rattle.c_types_expressions.specs.declared.walk.FunctionEntry.{FunctionEntry}
 use Rattle.c_types_expressions.specs.declared.walk.Walk.{Walk}
-use Rattle.c_types.specs.Answers.{noted}
+use Rattle.c_types.specs.Answers.{note_at}
 use Rattle.c_types.specs.Fault.{begins_program, is_main, walk_tree}
 use Rattle.c_types_walk.specs.ItemWalk.{is_defined}
-use Rattle.c_types_expressions.specs.Words.{found, Fine}
+use Rattle.c_types_expressions.specs.Words.{declared_meaning, Fine}
 use Rattle.c_types.proofs.FunctionLaws.{functions_numbered}
 use Rattle.c_meaning.specs.Words.{Signature, computed_type, facts_of, signature_of, main_of, number_defined, has_value}
 use Rattle.c_meaning_sound.proofs.Ending.{last_is, tree_is}
@@ -39,14 +39,14 @@ module _ (tree : SourceTree) (z : Walk) (walked : walk_tree tree ≡ Fine tt z) 
 
   -- the function that `main` means is defined
   numbered_main : (index number : ℕ) (o : Option FunctionEntry) → slice_get z.functions index ≡ o → begins_program o ≡ true
-      → noted z.defined_as index ≡ Some number → IsMainSignature (signature_of z (slice_get z.definitions number))
+      → note_at z.defined_as index ≡ Some number → IsMainSignature (signature_of z (slice_get z.definitions number))
   numbered_main index number None e h k = absurd (false≢true h)
   numbered_main index number (Some g) e h k =
       let n : Numbered tree z index = record { number = number; defined = k; definition = (functions_numbered tree z walked index number).0 k } in
       begins_main g (signature_of z (slice_get z.definitions number)) h (signed g index n e)
 
   -- a function that has a definition and may begin the program
-  defined_main : (index : ℕ) (o : Option ℕ) → noted z.defined_as index ≡ o → begins_program (slice_get z.functions index) ≡ true → is_some o ≡ true
+  defined_main : (index : ℕ) (o : Option ℕ) → note_at z.defined_as index ≡ o → begins_program (slice_get z.functions index) ≡ true → is_some o ≡ true
       → IsMainSignature (signature_of z (slice_get z.definitions (unwrap_or o 0)))
   defined_main index None e h k = absurd (false≢true k)
   defined_main index (Some number) e h k = numbered_main index number (slice_get z.functions index) refl h e
@@ -55,9 +55,9 @@ module _ (tree : SourceTree) (z : Walk) (walked : walk_tree tree ≡ Fine tt z) 
   main_by : (m : Option Meaning) → is_main m z ≡ true → IsMainSignature (signature_of z (slice_get z.definitions (unwrap_or (number_defined z m) 0)))
   main_by (Some (meaning.Function index)) h =
       let parts = and_parts (begins_program (slice_get z.functions index)) (is_defined index z.defined_as) h in
-      defined_main index (noted z.defined_as index) refl parts.0 parts.1
+      defined_main index (note_at z.defined_as index) refl parts.0 parts.1
   main_by m h = absurd (false≢true h)
 
   -- `main` of a text without a fault
   pub main_is : IsMainSignature ((facts_of tree z).signature (main_of z))
-  main_is = main_by (found (codes "main") z.names) (last_is (length tree.lines) z (tree_is tree z walked).last).0
+  main_is = main_by (declared_meaning (codes "main") z.names) (last_is (length tree.lines) z (tree_is tree z walked).last).0

@@ -4,7 +4,7 @@ use Rattle.std.specs.List.{sum_by}
 use Rattle.std.proofs.lemmas.List.Sums.{sum_by-append}
 use Rattle.c_syntax.specs.declared.token.TokenKind.{TokenKind}
 use Rattle.c_syntax.specs.declared.token.Sign.TheVariants as sign
-use Rattle.c_syntax.specs.Spelling.{Kinds, a_sign, parenthesized}
+use Rattle.c_syntax.specs.Spelling.{Kinds, a_sign, parenthesized_kinds}
 
 module _ {A : Type 0} (f : A → ℕ) (g : TokenKind → ℕ) where
   -- these things together measure no more than these tokens
@@ -32,5 +32,5 @@ module _ {A : Type 0} (f : A → ℕ) (g : TokenKind → ℕ) where
   between xs ks ls ms h = behind xs (ks ++ ls) ms (before xs ks ls h)
 
   -- so may parentheses
-  pub enclosed : (xs : List A) (ks : Kinds) → Within xs ks → Within xs (parenthesized ks)
+  pub enclosed : (xs : List A) (ks : Kinds) → Within xs ks → Within xs (parenthesized_kinds ks)
   enclosed xs ks h = between xs (a_sign sign.LeftParen) ks (a_sign sign.RightParen) h

@@ -14,7 +14,7 @@ use Rattle.c_syntax.specs.declared.expr.PrefixOperator.TheVariants as prefix
 use Rattle.c_syntax.specs.declared.token.Sign.TheVariants as sign
 use Rattle.c_syntax.specs.ExprTree as e
 use Rattle.c_syntax.specs.Words.{ExprTree, ExprList, LinkList, PostfixList, ExprAt, ExprsAt, LinksAt, PostfixAt, a_name, a_sign, expr_kinds, exprs_kinds}
-use Rattle.c_syntax.specs.Words.{link_kinds, more_exprs_kinds, parenthesized, postfix_kinds, type_kinds}
+use Rattle.c_syntax.specs.Words.{link_kinds, more_exprs_kinds, parenthesized_kinds, postfix_kinds, type_kinds}
 use Rattle.c_types_rules.specs.declared.library.Library.{Library}
 use Rattle.c_types_rules.specs.declared.library.Library.TheVariants as library
 use Rattle.c_types_expressions.specs.ExprWalk.{binary_of}
@@ -35,24 +35,24 @@ use Rattle.c_meaning.specs.declared.value_type.Called.{Called}
 use Rattle.c_meaning.specs.declared.value_type.Called.TheVariants as called
 use Rattle.c_meaning.specs.declared.value_type.ValueType.{ValueType}
 use Rattle.c_meaning.specs.declared.value_type.ValueType.TheVariants as type
-use Rattle.c_meaning.specs.Words.{as_type, types_taken, between, conversion, as_used, is_null_as, is_other_pointer, is_struct_value, Facts, Signature, Sites}
+use Rattle.c_meaning.specs.Words.{as_type, types_taken, kind_conversion, conversion, as_used, is_null_as, is_other_pointer, is_struct_value, Facts, Signature, Sites}
 use Rattle.c_meaning.specs.Words.{text_of_string, left_kind, operation, right_kind, type_given, Assignment, Plain, By, Joint, Both, Computes, Unjoined}
-use Rattle.c_meaning.specs.Words.{assignment, begins_null, called_as, count, ends_as_place, first_type, has_value, is_null_beside, is_place, joint, one_kind}
-use Rattle.c_meaning.specs.Words.{operand_type, other_types, step_of, token_of, type_of, listed, step_operation}
+use Rattle.c_meaning.specs.Words.{assignment_of_sign, begins_null, called_as, expression_count, ends_as_place, first_type, has_value, is_null_beside, is_place, joint_of_sign, one_kind}
+use Rattle.c_meaning.specs.Words.{operand_type, other_types, step_of, token_of, type_of, site_list, step_operation}
 use Rattle.c_meaning.specs.Trees as meaning
 use Rattle.lower_relation.specs.Calls as c
 use Rattle.lower_relation.specs.Expressions as x
 use Rattle.lower_relation.specs.Expressions.{has_more, number_of_text}
 use Rattle.lower_relation.specs.Operators as o
-use Rattle.lower_relation.specs.Paths.{Graph, Path, Ways, Emitted, Does, HaltsAt, Stuck, MarksAll, ForkTo, Tests, Only}
+use Rattle.lower_relation.specs.Paths.{Graph, Path, Ways, Emitted, Does, HaltsAt, Stuck, MarksAll, ForkTo, ValueTruth, PathOrStuck}
 use Rattle.lower_relation.specs.Values as v
 use Rattle.c_meaning_laws.specs.Typed.{HasSlot, Typed, TypedLinks, TypedPostfix}
 use Rattle.c_meaning_laws.specs.TypedStatements.{IsPrint, TypedFormat, TypedPrint}
-use Rattle.c_meaning_sound.proofs.Calling.{around}
+use Rattle.sites.proofs.Rises.{paren-length}
 use Rattle.c_meaning_sound.proofs.Spotting.{AllTyped, called_all, last_all}
 use Rattle.c_meaning_sound.proofs.SpottingBodies.{format_all}
 use Rattle.lower_fits.specs.FactsFit.{AllOwned}
-use Rattle.lower_fits.specs.Fitting.{FormatFirst, FormatOf, Formatted, fitting}
+use Rattle.lower_fits.specs.Fitting.{FormatFirst, FormatOf, Formatted, fitting_subgraph}
 use Rattle.lower_fits.proofs.Arguments.{IsOther, other_called}
 use Rattle.lower_fits.proofs.ConversionsOfFormats.{format_first}
 use Rattle.lower_fits.proofs.Leading.{EmittedInto, Into, either_into, one_of_into, same, then_into, turned_into}
@@ -63,7 +63,7 @@ use Rattle.lower_fits.proofs.Standing.{AllLie, Inside, Known, Lies, after, all_l
 module _ (names : Names) (bounds : Bounds) (G : Graph) where
   -- the part of the graph whose nodes fit
   abbrev pub H : Graph
-  H = fitting names bounds G
+  H = fitting_subgraph names bounds G
 
   -- a node that fits
   pub does : (op : Node) → IsTrue (names_fit names bounds op) → Into (Does G op) (Does H op)
@@ -90,11 +90,11 @@ module _ (names : Names) (bounds : Bounds) (G : Graph) where
   fork = record { leads = λ at k h. (h, refl) }
 
   -- a value and its truth
-  pub tests : {R R' : Path ℕ} → Into R R' → Into (Tests G R) (Tests H R')
+  pub tests : {R R' : Path ℕ} → Into R R' → Into (ValueTruth G R) (ValueTruth H R')
   tests a = then_into a fork
 
   -- where this isn't known to hold, no run comes there
-  pub only : {K : Type 0} {R R' : Path K} (b : Bool) → (IsTrue b → Into R R') → Into (Only G b R) (Only H b R')
+  pub only : {K : Type 0} {R R' : Path K} (b : Bool) → (IsTrue b → Into R R') → Into (PathOrStuck G b R) (PathOrStuck H b R')
   only true a = a refl
   only false a = stuck
 
@@ -116,7 +116,7 @@ module _ (names : Names) (bounds : Bounds) (G : Graph) where
   converts_below Misfit = stuck
 
   -- a value is handed over
-  pub handed : (of : Option ValueType) → Into (v.Handed G of) (v.Handed H of)
+  pub handed : (of : Option ValueType) → Into (v.HandedOverAs G of) (v.HandedOverAs H of)
   handed (Some (type.Number kind)) = free (node.Convert kind 0) tt
   handed (Some (type.Pointer size)) = then_into (free (node.Dup 0) tt) (then_into (free (node.Sole unary.Not 0) tt) (free (node.Drop 0) tt))
   handed of = stuck
@@ -129,20 +129,20 @@ module _ (names : Names) (bounds : Bounds) (G : Graph) where
   load of = stuck
 
   -- a value that isn't taken
-  pub dropped : {R R' : Path ℕ} → Into R R' → Into (v.Dropped G R) (v.Dropped H R')
+  pub dropped : {R R' : Path ℕ} → Into R R' → Into (v.DroppedValue G R) (v.DroppedValue H R')
   dropped a = then_into a (free (node.Drop 0) tt)
 
   -- a place whose value isn't taken
-  discarded : (is_struct : Bool) (of : Option ValueType) → Into (v.Discarded G is_struct of) (v.Discarded H is_struct of)
+  discarded : (is_struct : Bool) (of : Option ValueType) → Into (v.DiscardedPlace G is_struct of) (v.DiscardedPlace H is_struct of)
   discarded true of = free (node.Drop 0) tt
   discarded false of = dropped (load of)
 
   -- an expression that is no place
-  pub valued : {R R' : Path ℕ} → Into R R' → EmittedInto (v.Valued G R) (v.Valued H R')
+  pub valued : {R R' : Path ℕ} → Into R R' → EmittedInto (v.EmittedValue G R) (v.EmittedValue H R')
   valued a = record { value = a; place = stuck; effect = dropped a; truth = tests a }
 
   -- a place
-  pub placed : (of : Option ValueType) {P P' : Path ℕ} → Into P P' → EmittedInto (v.Placed G of P) (v.Placed H of P')
+  pub placed : (of : Option ValueType) {P P' : Path ℕ} → Into P P' → EmittedInto (v.EmittedPlace G of P) (v.EmittedPlace H of P')
   placed of a = record {
     value = then_into a (load of);
     place = a;
@@ -151,7 +151,7 @@ module _ (names : Names) (bounds : Bounds) (G : Graph) where
   }
 
   -- what is done for what it does alone
-  pub effected : {R R' : Path ℕ} → Into R R' → EmittedInto (v.Effected G R) (v.Effected H R')
+  pub effected : {R R' : Path ℕ} → Into R R' → EmittedInto (v.EmittedEffect G R) (v.EmittedEffect H R')
   effected a = record { value = stuck; place = stuck; effect = a; truth = stuck }
 
   -- a null pointer in place of a value
@@ -192,8 +192,8 @@ module _ (names : Names) (bounds : Bounds) (G : Graph) where
   -- an operation that moves by steps
   pub operates : (change : Operation) → Steps change → Into (o.Operates G change) (o.Operates H change)
   operates (Numbers sign left right) steps =
-      then_into (converts_below (between left (left_kind sign left right)))
-      (then_into (converts (between right (right_kind sign left right))) (free (node.Math sign 0) tt))
+      then_into (converts_below (kind_conversion left (left_kind sign left right)))
+      (then_into (converts (kind_conversion right (right_kind sign left right))) (free (node.Math sign 0) tt))
   operates (MoveLeft size) steps = does (node.Move size 0) (move_fits names bounds size steps)
   operates (MoveRight size) steps = then_into (free (node.Swap 0) tt) (does (node.Move size 0) (move_fits names bounds size steps))
   operates (Span size) steps = does (node.Span size 0) (span_fits names bounds size steps)
@@ -206,7 +206,7 @@ module _ (names : Names) (bounds : Bounds) (G : Graph) where
   member (Some offset) h = does (node.Member offset 0) (member_fits names bounds offset (h offset refl))
 
   -- a pointer becomes a place
-  pub pointed : Into (o.Pointed G) (o.Pointed H)
+  pub pointed : Into (o.PointerPlace G) (o.PointerPlace H)
   pointed = then_into (free (node.Dup 0) tt) (either_into fork same (free (node.Load want.Pointer 0) tt))
 
   -- the value at a pointer
@@ -216,7 +216,7 @@ module _ (names : Names) (bounds : Bounds) (G : Graph) where
   load_through of = then_into pointed (load of)
 
   -- the place that a pointer's value is
-  pub through : (of : Option ValueType) {R R' : Path ℕ} → Into R R' → EmittedInto (o.Through G of R) (o.Through H of R')
+  pub through : (of : Option ValueType) {R R' : Path ℕ} → Into R R' → EmittedInto (o.EmittedIndirection G of R) (o.EmittedIndirection H of R')
   through of a = record {
     value = then_into a (load_through of);
     place = then_into a pointed;
@@ -225,12 +225,12 @@ module _ (names : Names) (bounds : Bounds) (G : Graph) where
   }
 
   -- what stands before a postfix operator, as a value
-  pub settled : (known : Bool) (of : Option ValueType) → Into (o.Settled G known of) (o.Settled H known of)
+  pub settled : (known : Bool) (of : Option ValueType) → Into (o.OperandValue G known of) (o.OperandValue H known of)
   settled true of = load of
   settled false of = same
 
   -- a place where it is one, and else a value
-  pub spot : (known : Bool) {m n : Emitted} → EmittedInto m n → Into (o.Spot G known m) (o.Spot H known n)
+  pub spot : (known : Bool) {m n : Emitted} → EmittedInto m n → Into (o.PlaceOrValue G known m) (o.PlaceOrValue H known n)
   spot true a = a.place
   spot false a = a.value
 
@@ -255,7 +255,7 @@ module _ (names : Names) (bounds : Bounds) (G : Graph) where
   }
 
   -- 1 where a value is true, else 0
-  pub flagged : Into (o.Flagged G) (o.Flagged H)
+  pub flagged : Into (o.TruthAsInt G) (o.TruthAsInt H)
   flagged = then_into (free (node.Sole unary.Not 0) tt) (free (node.Sole unary.Not 0) tt)
 
   -- a unary operator
@@ -264,11 +264,11 @@ module _ (names : Names) (bounds : Bounds) (G : Graph) where
 
   module _ (facts : Facts) (sites : Sites) (lo hi : ℕ) (known : Known names bounds facts sites lo hi) where
     -- a condition's site, and its fork
-    decides : (token : ℕ) → Inside lo hi token → Into (o.Decided G facts sites token) (o.Decided H facts sites token)
-    decides token i = then_into (marks (listed (sites.branch_at token)) (branch_owned names bounds facts sites lo hi known token i)) fork
+    decides : (token : ℕ) → Inside lo hi token → Into (o.VisitedFork G facts sites token) (o.VisitedFork H facts sites token)
+    decides token i = then_into (marks (site_list (sites.branch_at token)) (branch_owned names bounds facts sites lo hi known token i)) fork
 
     -- a condition, with its site if there is one
-    decided : (site : Option ℕ) → AllOwned names.owners bounds.function (listed site) → {R R' : Path ℕ} {T T' : Path Ways} → Into R R' → Into T T' →
+    decided : (site : Option ℕ) → AllOwned names.owners bounds.function (site_list site) → {R R' : Path ℕ} {T T' : Path Ways} → Into R R' → Into T T' →
         Into (o.DecidesAt G facts sites site R T) (o.DecidesAt H facts sites site R' T')
     decided None own a b = b
     decided (Some site) own a b = then_into a (then_into (marks (site ∷ []) own) fork)
@@ -290,7 +290,7 @@ module _ (names : Names) (bounds : Bounds) (G : Graph) where
 
     -- the same from the place and the right value on
     changed : (token : ℕ) → Inside lo hi token → (of : Option ValueType) (change : Operation) → Steps change →
-        Into (o.Changed G facts sites token of change) (o.Changed H facts sites token of change)
+        Into (o.CompoundAssigned G facts sites token of change) (o.CompoundAssigned H facts sites token of change)
     changed token i of change steps =
         then_into (free (node.Over 0) tt) (then_into (load of) (then_into (free (node.Swap 0) tt) (updates token i of change steps)))
 
@@ -394,7 +394,7 @@ module _ (names : Names) (bounds : Bounds) (G : Graph) where
 
     -- a returned value, with its site
     returned : (token : ℕ) → Inside lo hi token → {R R' : Path ℕ} → Into R R' → EmittedInto (c.Returned G facts sites token R) (c.Returned H facts sites token R')
-    returned token i a = valued (then_into a (marks (listed (sites.return_at token)) (return_owned names bounds facts sites lo hi known token i)))
+    returned token i a = valued (then_into a (marks (site_list (sites.return_at token)) (return_owned names bounds facts sites lo hi known token i)))
 
     -- a call gives a value, or none
     with_result : (token : ℕ) → Inside lo hi token → (has : Bool) {R R' : Path ℕ} → Into R R' →
@@ -453,7 +453,7 @@ module _ (names : Names) (bounds : Bounds) (G : Graph) where
 
     -- what is known of parts: that their nodes fit
     abbrev pub Fits : ExprTree → Type 0
-    Fits y = EmittedInto (x.emitted G facts sites y) (x.emitted H facts sites y)
+    Fits y = EmittedInto (x.emitted_expression G facts sites y) (x.emitted_expression H facts sites y)
 
     -- expressions in a list
     abbrev pub AllFit : ExprList → Type 0
@@ -475,9 +475,9 @@ module _ (names : Names) (bounds : Bounds) (G : Graph) where
     PostfixFit (e.decrement token rest) = Inside lo hi token × PostfixFit rest
 
     -- operands of a comma
-    last : (ys : ExprList) → AllFit ys → EmittedInto (x.LastDoes G facts sites ys) (x.LastDoes H facts sites ys)
+    last : (ys : ExprList) → AllFit ys → EmittedInto (x.CommaDoes G facts sites ys) (x.CommaDoes H facts sites ys)
     last e.no_exprs all = valued stuck
-    last (e.more_exprs first rest) all = comma (count rest) all.0 (last rest all.1)
+    last (e.more_exprs first rest) all = comma (expression_count rest) all.0 (last rest all.1)
 
     -- arguments, the first one first
     arguments : (types : List ValueType) (ys : ExprList) → AllFit ys → Into (x.ArgumentsDo G facts sites types ys) (x.ArgumentsDo H facts sites types ys)
@@ -486,16 +486,16 @@ module _ (names : Names) (bounds : Bounds) (G : Graph) where
         then_into (handed_value (is_null_as (first_type types) first) (first_type types) all.0) (arguments (other_types types) rest all.1)
 
     -- the one argument
-    lone : (want : Option ValueType → Option ValueType) (ys : ExprList) → AllFit ys → Into (x.LoneDoes G facts sites want ys) (x.LoneDoes H facts sites want ys)
+    lone : (want : Option ValueType → Option ValueType) (ys : ExprList) → AllFit ys → Into (x.OneArgumentDoes G facts sites want ys) (x.OneArgumentDoes H facts sites want ys)
     lone want e.no_exprs all = stuck
     lone want (e.more_exprs first rest) all =
-        only (count rest == 0) (λ _. handed_value (is_null_as (want (type_of facts first)) first) (want (type_of facts first)) all.0)
+        only (expression_count rest == 0) (λ _. handed_value (is_null_as (want (type_of facts first)) first) (want (type_of facts first)) all.0)
 
     -- the value of a chain, from the left
     links_do : (left : Option ValueType) (links : LinkList) → LinksFit links → Into (x.LinksDo G facts sites left links) (x.LinksDo H facts sites left links)
     links_do left e.no_links all = same
     links_do left (e.more_links token sign operand rest) all =
-        then_into (linked (joint sign) token all.0 left (operand_type (is_null_beside (binary_of sign) left operand) (type_of facts operand))
+        then_into (linked (joint_of_sign sign) token all.0 left (operand_type (is_null_beside (binary_of sign) left operand) (type_of facts operand))
         (null_or (is_null_beside (binary_of sign) left operand) all.1)) (links_do (facts.type_at token) rest all.2)
 
     -- the truth of a chain, from the left
@@ -505,8 +505,8 @@ module _ (names : Names) (bounds : Bounds) (G : Graph) where
     links_hold left (e.more_links token sign operand rest) all r t =
         let operand_value = null_or (is_null_beside (binary_of sign) left operand) all.1 in
         let right = operand_type (is_null_beside (binary_of sign) left operand) (type_of facts operand) in
-        links_hold (facts.type_at token) rest all.2 (then_into r (linked (joint sign) token all.0 left right operand_value))
-        (linked_truth (joint sign) token all.0 left right r t operand_value (null_truth (is_null_beside (binary_of sign) left operand) all.1))
+        links_hold (facts.type_at token) rest all.2 (then_into r (linked (joint_of_sign sign) token all.0 left right operand_value))
+        (linked_truth (joint_of_sign sign) token all.0 left right r t operand_value (null_truth (is_null_beside (binary_of sign) left operand) all.1))
 
     -- a chain, with its value and its truth
     chain : (is_null : Bool) (of : Option ValueType) (links : LinkList) {m n : Emitted} → EmittedInto m n → LinksFit links →
@@ -523,7 +523,7 @@ module _ (names : Names) (bounds : Bounds) (G : Graph) where
 
     -- operators behind an operand
     behind : (taken is_known : Bool) (of : Option ValueType) (ys : PostfixList) → PostfixFit ys →
-        Into (x.Behind G facts sites taken is_known of ys) (x.Behind H facts sites taken is_known of ys)
+        Into (x.PostfixOperatorsDo G facts sites taken is_known of ys) (x.PostfixOperatorsDo H facts sites taken is_known of ys)
     behind taken is_known of e.no_postfix all = same
     behind taken is_known of (e.index token index rest) all =
         then_into (settled is_known of) (then_into all.0.value
@@ -542,7 +542,7 @@ module _ (names : Names) (bounds : Bounds) (G : Graph) where
     -- the tokens of arguments, and those behind a member's name
     argument_lies : (at : ℕ) (name : List ℕ) (ys : ExprList) → Lies lo hi at (expr_kinds (e.Call at name ys)) → Lies lo hi (at + 2) (exprs_kinds ys)
     argument_lies at name ys l =
-        enclosed lo hi (at + 1) (at + 2) (exprs_kinds ys) (omega arith) (after lo hi at (at + 1) _ (parenthesized (exprs_kinds ys)) refl l)
+        enclosed lo hi (at + 1) (at + 2) (exprs_kinds ys) (omega arith) (after lo hi at (at + 1) _ (parenthesized_kinds (exprs_kinds ys)) refl l)
 
     -- the tokens behind a member's name
     behind_name : (at : ℕ) (name : List ℕ) (rest : PostfixList) → Lies lo hi (at + 1) (a_name name ++ postfix_kinds rest) → Lies lo hi (at + 2) (postfix_kinds rest)
@@ -558,7 +558,7 @@ module _ (names : Names) (bounds : Bounds) (G : Graph) where
           let mark = back lo hi at (at + length (expr_kinds target)) (expr_kinds target) (a_sign sign) refl signed in
           let right = back lo hi at (token + 1) (expr_kinds target ++ a_sign sign) (expr_kinds value)
           (omega (arith, p, length-append (expr_kinds target) (a_sign sign))) l in
-          valued (assign token (inside lo hi (at + length (expr_kinds target)) token _ [] p.0 mark) (assignment sign)
+          valued (assign token (inside lo hi (at + length (expr_kinds target)) token _ [] p.0 mark) (assignment_of_sign sign)
           (is_null_as (type_of facts target) value) (type_of facts target) (type_of facts value)
           (expression target at p.1 (front lo hi at (expr_kinds target) (a_sign sign) signed) t.0) (expression value (token + 1) p.2 right t.1))
       expression (e.Conditional token condition first second) at p l t =
@@ -589,8 +589,8 @@ module _ (names : Names) (bounds : Bounds) (G : Graph) where
       expression (e.Cast token base stars operand) at p l t =
           cast (is_null_as (facts.type_at token) operand) (facts.type_at token)
           (expression operand (at + 1 + length (type_kinds base stars) + 1) p.2
-          (back lo hi at (at + 1 + length (type_kinds base stars) + 1) (parenthesized (type_kinds base stars)) (expr_kinds operand)
-          (omega (arith, around (type_kinds base stars))) l) t.0)
+          (back lo hi at (at + 1 + length (type_kinds base stars) + 1) (parenthesized_kinds (type_kinds base stars)) (expr_kinds operand)
+          (omega (arith, paren-length (type_kinds base stars))) l) t.0)
       expression (e.Prefix token operator operand) at p l t =
           prefixed token (inside lo hi at token _ (expr_kinds operand) p.0 l) operator (type_of facts operand) (facts.cells_at (token_of operand))
           (known.facts_fit.cells (token_of operand)) (expression operand (at + 1) p.1 (after lo hi at (at + 1) _ (expr_kinds operand) refl l) t.0)
@@ -606,8 +606,8 @@ module _ (names : Names) (bounds : Bounds) (G : Graph) where
       expression (e.Call token name values) at p l t =
           let callee = called_as (facts.function_at token) name in
           let all = each values (at + 2) p.1 (all_lie lo hi (at + 2) values (argument_lies at name values l)) (called_all facts sites bounds.locals callee values (facts.type_at token) t) in
-          call_does token (inside lo hi at token _ (parenthesized (exprs_kinds values)) p.0 l) callee (other_called facts sites bounds.locals callee values (facts.type_at token) t)
-          (count values) (x.FormatDoes G facts sites values) (x.FormatDoes H facts sites values) (λ types. arguments types values all)
+          call_does token (inside lo hi at token _ (parenthesized_kinds (exprs_kinds values)) p.0 l) callee (other_called facts sites bounds.locals callee values (facts.type_at token) t)
+          (expression_count values) (x.FormatDoes G facts sites values) (x.FormatDoes H facts sites values) (λ types. arguments types values all)
           (λ want. lone want values all)
       expression (e.Constant token kind value) at p l t = valued (pushes kind value l.constants.0.1)
       expression (e.Strings token parts) at p l t = valued (text_place token (facts.text_at token) refl)
@@ -671,14 +671,14 @@ module _ (names : Names) (bounds : Bounds) (G : Graph) where
     formatted e.no_exprs at p l t f = absurd t
     formatted (e.more_exprs y rest) at p l t f =
         let all = each rest (at + length (expr_kinds y) + 1) p.1 (rest_lie lo hi at y rest l) (format_all facts sites bounds.locals (text_of_string facts y) rest t) in
-        prints (number_of_text facts y) (text_of_string facts y) (count rest) (format_first names facts known.texts y f) (λ types. arguments types rest all)
+        prints (number_of_text facts y) (text_of_string facts y) (expression_count rest) (format_first names facts known.texts y f) (λ types. arguments types rest all)
 
     -- a call of `printf`
     print_does : (token at : ℕ) (callee : Called) (ys : ExprList) → ExprsAt at ys → AllLie lo hi at ys → TypedPrint facts sites bounds.locals callee ys →
         FormatOf facts callee ys →
-        EmittedInto (c.CallDoes G facts sites token callee (count ys) (λ types. x.ArgumentsDo G facts sites types ys) (λ want. x.LoneDoes G facts sites want ys)
+        EmittedInto (c.CallDoes G facts sites token callee (expression_count ys) (λ types. x.ArgumentsDo G facts sites types ys) (λ want. x.OneArgumentDoes G facts sites want ys)
         (x.FormatDoes G facts sites ys))
-        (c.CallDoes H facts sites token callee (count ys) (λ types. x.ArgumentsDo H facts sites types ys) (λ want. x.LoneDoes H facts sites want ys)
+        (c.CallDoes H facts sites token callee (expression_count ys) (λ types. x.ArgumentsDo H facts sites types ys) (λ want. x.OneArgumentDoes H facts sites want ys)
         (x.FormatDoes H facts sites ys))
     print_does token at (called.Library library.Printf) ys p l t f = effected (formatted ys at p l t f)
     print_does token at callee ys p l t f = absurd t

@@ -10,7 +10,7 @@ use Rattle.c_syntax.specs.declared.token.Word.TheVariants as word
 use Rattle.c_syntax.specs.ExprTree as e
 use Rattle.c_syntax.specs.Words.{ExprTree, ExprList, DeclarationAt, EachAt, EntriesAt, ExprAt, ForStartAt, InitialAt, StartAt, StatementAt, Kinds, after_commas}
 use Rattle.c_syntax.specs.Words.{a_sign, a_word, base_kinds, comma_kinds, declaration_kinds, declarator_kinds, entry_kinds, expr_kinds, exprs_kinds}
-use Rattle.c_syntax.specs.Words.{for_start_kinds, optional, parenthesized, start_kinds, statement_kinds, with_commas, InitialTree, StartTree, DeclarationTree}
+use Rattle.c_syntax.specs.Words.{for_start_kinds, optional_kinds, parenthesized_kinds, start_kinds, statement_kinds, with_commas, InitialTree, StartTree, DeclarationTree}
 use Rattle.c_syntax.specs.Words.{ForStartTree, StatementTree, EntryList}
 use Rattle.c_syntax.specs.StatementTree as tree
 use Rattle.flow.specs.declared.node.Node.TheVariants as node
@@ -22,7 +22,7 @@ use Rattle.flow.specs.declared.site.Slot.TheVariants as slot
 use Rattle.flow.specs.Nodes.{step_limit}
 use Rattle.c_meaning.specs.declared.value_type.ValueType.{ValueType}
 use Rattle.c_meaning.specs.declared.value_type.ValueType.TheVariants as type
-use Rattle.c_meaning.specs.Words.{is_null_as, Facts, Signature, Sites, equals_token, want_of, text_of_string, count, type_of}
+use Rattle.c_meaning.specs.Words.{is_null_as, Facts, Signature, Sites, equals_token, want_of, text_of_string, expression_count, type_of}
 use Rattle.lower_relation.specs.Expressions.{number_of_text}
 use Rattle.lower_relation.specs.Functions as f
 use Rattle.lower_relation.specs.Initialisers as i
@@ -32,10 +32,10 @@ use Rattle.lower_relation.specs.Statements as s
 use Rattle.lower_relation.specs.Statements.{GoesOn}
 use Rattle.c_meaning_laws.specs.Typed.{HasSlot}
 use Rattle.c_meaning_laws.specs.TypedStatements.{IsLocal, TypedBeginning, TypedEntries, TypedInitial, TypedPart, TypedStarts, TypedStatement, TypedTest, TypedValue, TypedWhole}
-use Rattle.c_meaning_sound.proofs.Calling.{around}
+use Rattle.sites.proofs.Rises.{paren-length}
 use Rattle.c_meaning_sound.proofs.Initialising.{equals_kinds}
 use Rattle.c_meaning_sound.proofs.Spotting.{elements_all}
-use Rattle.lower_fits.specs.Fitting.{FitsAsBody, Formatted, FormattedEntries, FormattedStatement, fitting}
+use Rattle.lower_fits.specs.Fitting.{FitsAsBody, Formatted, FormattedEntries, FormattedStatement, fitting_subgraph}
 use Rattle.lower_fits.proofs.NodesOfExpressions as fit
 use Rattle.lower_fits.proofs.Leading.{Into, before_into, either_into, same, then_into}
 use Rattle.lower_fits.proofs.FittingNodes.{clear_fits, spell_fits, zero_fits}
@@ -44,14 +44,14 @@ use Rattle.lower_fits.proofs.Standing.{Inside, Known, Lies, after, all_lie, back
 module _ (names : Names) (bounds : Bounds) (G : Graph) where
   -- the part of the graph whose nodes fit
   abbrev H : Graph
-  H = fitting names bounds G
+  H = fitting_subgraph names bounds G
 
   -- the condition before the body
-  while_into : {C C' : Path Ways} {B B' : Path Exits} → Into C C' → Into B B' → Into (s.WhileDo G C B) (s.WhileDo H C' B')
+  while_into : {C C' : Path Ways} {B B' : Path Exits} → Into C C' → Into B B' → Into (s.WhileLoop G C B) (s.WhileLoop H C' B')
   while_into c b = record { leads = λ at k h. (h.0, h.1, c.leads at _ h.2, b.leads h.0 _ h.3, (h.4, refl)) }
 
   -- the condition behind the body
-  do_into : {C C' : Path Ways} {B B' : Path Exits} → Into C C' → Into B B' → Into (s.DoDo G C B) (s.DoDo H C' B')
+  do_into : {C C' : Path Ways} {B B' : Path Exits} → Into C C' → Into B B' → Into (s.DoWhileLoop G C B) (s.DoWhileLoop H C' B')
   do_into c b = record { leads = λ at k h. (h.0, h.1, b.leads at _ h.2, c.leads h.0 _ h.3, (h.4, refl)) }
 
   -- the condition before the body, and a third part behind it
@@ -70,7 +70,7 @@ module _ (names : Names) (bounds : Bounds) (G : Graph) where
   ends_into false value k h = h
 
   -- all ways out of a function
-  pub leaves_into : (is_main value : Bool) (k : Exits) → f.Leaves G is_main value k → f.Leaves H is_main value k
+  pub leaves_into : (is_main value : Bool) (k : Exits) → f.FunctionExits G is_main value k → f.FunctionExits H is_main value k
   leaves_into is_main value k h = (
     gives_into value k.gives h.0,
     (h.1, refl),
@@ -146,7 +146,7 @@ module _ (names : Names) (bounds : Bounds) (G : Graph) where
         (fit.dropped names bounds G (fit.free names bounds G (node.Store 0) tt))))
 
     -- the items of a list are stored in its elements
-    elements : (token index : ℕ) (ys : ExprList) → IsLocal facts sites bounds.locals (facts.slot_at token) → index + count ys ≤ step_limit + 1 →
+    elements : (token index : ℕ) (ys : ExprList) → IsLocal facts sites bounds.locals (facts.slot_at token) → index + expression_count ys ≤ step_limit + 1 →
         fit.AllFit names bounds G facts sites lo hi known ys → Into (i.ElementsSet G facts sites token index ys) (i.ElementsSet H facts sites token index ys)
     elements token index e.no_exprs local near all = same
     elements token index (e.more_exprs value rest) local near all =
@@ -187,7 +187,7 @@ module _ (names : Names) (bounds : Bounds) (G : Graph) where
     -- a declared variable
     starts : (y : StartTree) (at : ℕ) → StartAt at y → Lies lo hi at (start_kinds y) →
         IsLocal facts sites bounds.locals (facts.slot_at y.declarator.name_token) →
-        TypedInitial facts sites bounds.locals y.declarator.name_token y.initial → Into (i.Starts G facts sites y) (i.Starts H facts sites y)
+        TypedInitial facts sites bounds.locals y.declarator.name_token y.initial → Into (i.VariableStarts G facts sites y) (i.VariableStarts H facts sites y)
     starts y at p l local t =
         let initial_lies = back lo hi at (at + length (declarator_kinds y.declarator)) (declarator_kinds y.declarator) (equals_kinds y.initial) refl l in
         then_into (on_local (facts.slot_at y.declarator.name_token) local clears)
@@ -196,7 +196,7 @@ module _ (names : Names) (bounds : Bounds) (G : Graph) where
 
     -- variables with commas between them
     all_start : (ys : List StartTree) (at : ℕ) → EachAt StartAt start_kinds 1 at ys → Lies lo hi at (with_commas start_kinds ys) →
-        TypedStarts facts sites bounds.locals ys → Into (i.AllStart G facts sites ys) (i.AllStart H facts sites ys)
+        TypedStarts facts sites bounds.locals ys → Into (i.VariablesStart G facts sites ys) (i.VariablesStart H facts sites ys)
     all_start [] at p l t = same
     all_start (y ∷ []) at p l t = then_into (starts y at p.0 (front lo hi at (start_kinds y) [] l) t.0 t.1) same
     all_start (y ∷ z ∷ zs) at p l t =
@@ -218,43 +218,43 @@ module _ (names : Names) (bounds : Bounds) (G : Graph) where
     whole y at p l t f = elim t [ inl print ↦ fit.printing names bounds G facts sites lo hi known y at p l print f | inr typed ↦ fit.expression names bounds G facts sites lo hi known y at p l typed ]
 
     -- what may be missing
-    optional_effect : (y : Option ExprTree) (at : ℕ) → IfSome y (ExprAt at) → Lies lo hi at (optional expr_kinds y) → TypedPart facts sites bounds.locals y →
+    optional_effect : (y : Option ExprTree) (at : ℕ) → IfSome y (ExprAt at) → Lies lo hi at (optional_kinds expr_kinds y) → TypedPart facts sites bounds.locals y →
         Into (s.OptionalEffect G facts sites y) (s.OptionalEffect H facts sites y)
     optional_effect None at p l t = same
     optional_effect (Some y) at p l t = (fit.expression names bounds G facts sites lo hi known y at p l t).effect
 
     -- a condition that may be missing
-    optional_condition : (token : ℕ) → Inside lo hi token → (y : Option ExprTree) (at : ℕ) → IfSome y (ExprAt at) → Lies lo hi at (optional expr_kinds y) →
+    optional_condition : (token : ℕ) → Inside lo hi token → (y : Option ExprTree) (at : ℕ) → IfSome y (ExprAt at) → Lies lo hi at (optional_kinds expr_kinds y) →
         TypedTest facts sites bounds.locals y → Into (s.OptionalCondition G facts sites token y) (s.OptionalCondition H facts sites token y)
     optional_condition token own None at p l t = same
     optional_condition token own (Some y) at p l t = fit.condition names bounds G facts sites lo hi known token own y (fit.expression names bounds G facts sites lo hi known y at p l t.0)
 
     -- what a `for` begins with
     for_starts : (y : ForStartTree) (at : ℕ) → ForStartAt at y → Lies lo hi at (for_start_kinds y) → TypedBeginning facts sites bounds.locals y →
-        Into (s.ForStarts G facts sites y) (s.ForStarts H facts sites y)
+        Into (s.ForStartPath G facts sites y) (s.ForStartPath H facts sites y)
     for_starts (tree.Declares d) at p l t = declares d at p l t
-    for_starts (tree.Computes y) at p l t = optional_effect y at p (front lo hi at (optional expr_kinds y) (a_sign sign.Semicolon) l) t
+    for_starts (tree.Computes y) at p l t = optional_effect y at p (front lo hi at (optional_kinds expr_kinds y) (a_sign sign.Semicolon) l) t
 
     -- `return`, with its value if there is one
-    return_into : (result : ValueType) (looping : Bool) (token at : ℕ) (y : Option ExprTree) → IfSome y (ExprAt at) → Lies lo hi at (optional expr_kinds y) →
-        TypedStatement facts sites bounds.locals result looping (tree.Return token y) → Into (s.ReturnDo G facts sites result y) (s.ReturnDo H facts sites result y)
+    return_into : (result : ValueType) (looping : Bool) (token at : ℕ) (y : Option ExprTree) → IfSome y (ExprAt at) → Lies lo hi at (optional_kinds expr_kinds y) →
+        TypedStatement facts sites bounds.locals result looping (tree.Return token y) → Into (s.ReturnPath G facts sites result y) (s.ReturnPath H facts sites result y)
     return_into result looping token at None p l t = record { leads = λ at k h. h }
     return_into result looping token at (Some y) p l t =
         let fits = fit.expression names bounds G facts sites lo hi known y at p l t.0 in
         record { leads = λ at k h. (fit.wanted names bounds G (is_null_as (Some result) y) (type_of facts y) (Some result) fits).leads at k.gives h }
 
     -- the condition behind the word of a statement, and what stands behind its parentheses
-    head_condition : (at : ℕ) (c body : Kinds) → Lies lo hi (at + 1) (parenthesized c ++ body) → Lies lo hi (at + 2) c
-    head_condition at c body l = enclosed lo hi (at + 1) (at + 2) c (omega arith) (front lo hi (at + 1) (parenthesized c) body l)
+    head_condition : (at : ℕ) (c body : Kinds) → Lies lo hi (at + 1) (parenthesized_kinds c ++ body) → Lies lo hi (at + 2) c
+    head_condition at c body l = enclosed lo hi (at + 1) (at + 2) c (omega arith) (front lo hi (at + 1) (parenthesized_kinds c) body l)
 
     -- what stands behind the parentheses of that condition
-    head_body : (at : ℕ) (c body : Kinds) → Lies lo hi (at + 1) (parenthesized c ++ body) → Lies lo hi (at + 2 + length c + 1) body
-    head_body at c body l = back lo hi (at + 1) (at + 2 + length c + 1) (parenthesized c) body (omega (arith, around c)) l
+    head_body : (at : ℕ) (c body : Kinds) → Lies lo hi (at + 1) (parenthesized_kinds c ++ body) → Lies lo hi (at + 2 + length c + 1) body
+    head_body at c body l = back lo hi (at + 1) (at + 2 + length c + 1) (parenthesized_kinds c) body (omega (arith, paren-length c)) l
 
     mutual
       -- a statement
       statement : (result : ValueType) (looping : Bool) (y : StatementTree) (at : ℕ) → StatementAt at y → Lies lo hi at (statement_kinds y) →
-          TypedStatement facts sites bounds.locals result looping y → FormattedStatement facts y → Into (s.Runs G facts sites result y) (s.Runs H facts sites result y)
+          TypedStatement facts sites bounds.locals result looping y → FormattedStatement facts y → Into (s.StatementDoes G facts sites result y) (s.StatementDoes H facts sites result y)
       statement result looping (tree.Block token entries) at p l t f =
           let within = front lo hi (at + 1) (entry_kinds entries) (a_sign sign.RightBrace)
           (after lo hi at (at + 1) _ (entry_kinds entries ++ a_sign sign.RightBrace) refl l) in
@@ -263,80 +263,80 @@ module _ (names : Names) (bounds : Bounds) (G : Graph) where
           let fits = whole y at p.1 (front lo hi at (expr_kinds y) (a_sign sign.Semicolon) l) t f in
           record { leads = λ at' k h. fits.effect.leads at' k.next h }
       statement result looping (tree.If token y first) at p l t f =
-          let head = after lo hi at (at + 1) _ (parenthesized (expr_kinds y) ++ statement_kinds first) refl l in
-          let mark = inside lo hi at token _ (parenthesized (expr_kinds y) ++ statement_kinds first) p.0 l in
+          let head = after lo hi at (at + 1) _ (parenthesized_kinds (expr_kinds y) ++ statement_kinds first) refl l in
+          let mark = inside lo hi at token _ (parenthesized_kinds (expr_kinds y) ++ statement_kinds first) p.0 l in
           let decides = fit.condition names bounds G facts sites lo hi known token mark y
           (fit.expression names bounds G facts sites lo hi known y (at + 2) p.1 (head_condition at (expr_kinds y) (statement_kinds first) head) t.0.0) in
           let runs = statement result looping first (at + 2 + length (expr_kinds y) + 1) p.2 (head_body at (expr_kinds y) (statement_kinds first) head) t.1 f in
           record { leads = λ at' k h. (either_into {S = GoesOn} {S' = GoesOn} decides runs same).leads at' k h }
       statement result looping (tree.IfElse token y first second) at p l t f =
-          let before_second = parenthesized (expr_kinds y) ++ statement_kinds first ++ a_word word.Else in
+          let before_second = parenthesized_kinds (expr_kinds y) ++ statement_kinds first ++ a_word word.Else in
           let all = after lo hi at (at + 1) _ (before_second ++ statement_kinds second) refl l in
           let with_else = front lo hi (at + 1) before_second (statement_kinds second) all in
-          let head = front lo hi (at + 1) (parenthesized (expr_kinds y) ++ statement_kinds first) (a_word word.Else) with_else in
+          let head = front lo hi (at + 1) (parenthesized_kinds (expr_kinds y) ++ statement_kinds first) (a_word word.Else) with_else in
           let mark = inside lo hi at token _ (before_second ++ statement_kinds second) p.0 l in
-          let first_long = length-append (parenthesized (expr_kinds y)) (statement_kinds first) in
-          let else_long = length-append (parenthesized (expr_kinds y) ++ statement_kinds first) (a_word word.Else) in
+          let first_long = length-append (parenthesized_kinds (expr_kinds y)) (statement_kinds first) in
+          let else_long = length-append (parenthesized_kinds (expr_kinds y) ++ statement_kinds first) (a_word word.Else) in
           let second_at = at + 2 + length (expr_kinds y) + 1 + length (statement_kinds first) + 1 in
-          let second_lies = back lo hi (at + 1) second_at before_second (statement_kinds second) (omega (arith, around (expr_kinds y))) all in
+          let second_lies = back lo hi (at + 1) second_at before_second (statement_kinds second) (omega (arith, paren-length (expr_kinds y))) all in
           let decides = fit.condition names bounds G facts sites lo hi known token mark y
           (fit.expression names bounds G facts sites lo hi known y (at + 2) p.1 (head_condition at (expr_kinds y) (statement_kinds first) head) t.0.0) in
           let runs = statement result looping first (at + 2 + length (expr_kinds y) + 1) p.2 (head_body at (expr_kinds y) (statement_kinds first) head) t.1 f.0 in
           let runs_second = statement result looping second second_at p.3 second_lies t.2 f.1 in
           record { leads = λ at' k h. (either_into decides runs runs_second).leads at' k h }
       statement result looping (tree.While token y body) at p l t f =
-          let head = after lo hi at (at + 1) _ (parenthesized (expr_kinds y) ++ statement_kinds body) refl l in
-          let mark = inside lo hi at token _ (parenthesized (expr_kinds y) ++ statement_kinds body) p.0 l in
+          let head = after lo hi at (at + 1) _ (parenthesized_kinds (expr_kinds y) ++ statement_kinds body) refl l in
+          let mark = inside lo hi at token _ (parenthesized_kinds (expr_kinds y) ++ statement_kinds body) p.0 l in
           let decides = fit.condition names bounds G facts sites lo hi known token mark y
           (fit.expression names bounds G facts sites lo hi known y (at + 2) p.1 (head_condition at (expr_kinds y) (statement_kinds body) head) t.0.0) in
           let runs = statement result true body (at + 2 + length (expr_kinds y) + 1) p.2 (head_body at (expr_kinds y) (statement_kinds body) head) t.1 f in
           record { leads = λ at' k h. (while_into decides runs).leads at' k h }
       statement result looping (tree.Do token body y) at p l t f =
           let before_condition = statement_kinds body ++ a_word word.While in
-          let before_end = before_condition ++ parenthesized (expr_kinds y) in
+          let before_end = before_condition ++ parenthesized_kinds (expr_kinds y) in
           let all = front lo hi (at + 1) before_end (a_sign sign.Semicolon) (after lo hi at (at + 1) _ (before_end ++ a_sign sign.Semicolon) refl l) in
           let body_lies = front lo hi (at + 1) (statement_kinds body) (a_word word.While)
-          (front lo hi (at + 1) before_condition (parenthesized (expr_kinds y)) all) in
+          (front lo hi (at + 1) before_condition (parenthesized_kinds (expr_kinds y)) all) in
           let while_long = length-append (statement_kinds body) (a_word word.While) in
           let test_lies = enclosed lo hi (at + 1 + length (statement_kinds body) + 1) (at + 1 + length (statement_kinds body) + 2) (expr_kinds y) (omega arith)
-          (back lo hi (at + 1) (at + 1 + length (statement_kinds body) + 1) before_condition (parenthesized (expr_kinds y)) (omega arith) all) in
+          (back lo hi (at + 1) (at + 1 + length (statement_kinds body) + 1) before_condition (parenthesized_kinds (expr_kinds y)) (omega arith) all) in
           let mark = inside lo hi at token _ (before_end ++ a_sign sign.Semicolon) p.0 l in
           let decides = fit.condition names bounds G facts sites lo hi known token mark y
           (fit.expression names bounds G facts sites lo hi known y (at + 1 + length (statement_kinds body) + 2) p.2 test_lies t.0.0) in
           let runs = statement result true body (at + 1) p.1 body_lies t.1 f in
           record { leads = λ at' k h. (do_into decides runs).leads at' k h }
       statement result looping (tree.For token start y third body) at p l t f =
-          let with_condition = for_start_kinds start ++ optional expr_kinds y in
+          let with_condition = for_start_kinds start ++ optional_kinds expr_kinds y in
           let before_third = with_condition ++ a_sign sign.Semicolon in
-          let parts = before_third ++ optional expr_kinds third in
-          let head = after lo hi at (at + 1) _ (parenthesized parts ++ statement_kinds body) refl l in
-          let mark = inside lo hi at token _ (parenthesized parts ++ statement_kinds body) p.0 l in
+          let parts = before_third ++ optional_kinds expr_kinds third in
+          let head = after lo hi at (at + 1) _ (parenthesized_kinds parts ++ statement_kinds body) refl l in
+          let mark = inside lo hi at token _ (parenthesized_kinds parts ++ statement_kinds body) p.0 l in
           let parts_lie = head_condition at parts (statement_kinds body) head in
-          let before_lies = front lo hi (at + 2) with_condition (a_sign sign.Semicolon) (front lo hi (at + 2) before_third (optional expr_kinds third) parts_lie) in
-          let condition_long = length-append (for_start_kinds start) (optional expr_kinds y) in
+          let before_lies = front lo hi (at + 2) with_condition (a_sign sign.Semicolon) (front lo hi (at + 2) before_third (optional_kinds expr_kinds third) parts_lie) in
+          let condition_long = length-append (for_start_kinds start) (optional_kinds expr_kinds y) in
           let sign_long = length-append with_condition (a_sign sign.Semicolon) in
-          let third_long = length-append before_third (optional expr_kinds third) in
+          let third_long = length-append before_third (optional_kinds expr_kinds third) in
           let condition_at = at + 2 + length (for_start_kinds start) in
-          let third_at = condition_at + length (optional expr_kinds y) + 1 in
-          let body_at = third_at + length (optional expr_kinds third) + 1 in
-          let begins = for_starts start (at + 2) p.1 (front lo hi (at + 2) (for_start_kinds start) (optional expr_kinds y) before_lies) t.0 in
+          let third_at = condition_at + length (optional_kinds expr_kinds y) + 1 in
+          let body_at = third_at + length (optional_kinds expr_kinds third) + 1 in
+          let begins = for_starts start (at + 2) p.1 (front lo hi (at + 2) (for_start_kinds start) (optional_kinds expr_kinds y) before_lies) t.0 in
           let decides = optional_condition token mark y condition_at p.2
-          (back lo hi (at + 2) condition_at (for_start_kinds start) (optional expr_kinds y) refl before_lies) t.1 in
+          (back lo hi (at + 2) condition_at (for_start_kinds start) (optional_kinds expr_kinds y) refl before_lies) t.1 in
           let steps = optional_effect third third_at p.3
-          (back lo hi (at + 2) third_at before_third (optional expr_kinds third) (omega arith) parts_lie) t.2 in
+          (back lo hi (at + 2) third_at before_third (optional_kinds expr_kinds third) (omega arith) parts_lie) t.2 in
           let runs = statement result true body body_at p.4
-          (back lo hi (at + 1) body_at (parenthesized parts) (statement_kinds body) (omega (arith, around parts)) head) t.3 f in
+          (back lo hi (at + 1) body_at (parenthesized_kinds parts) (statement_kinds body) (omega (arith, paren-length parts)) head) t.3 f in
           record { leads = λ at' k h. (then_into begins (for_into decides steps runs)).leads at' k h }
       statement result looping (tree.Return token y) at p l t f =
-          let value_lies = front lo hi (at + 1) (optional expr_kinds y) (a_sign sign.Semicolon)
-          (after lo hi at (at + 1) _ (optional expr_kinds y ++ a_sign sign.Semicolon) refl l) in
+          let value_lies = front lo hi (at + 1) (optional_kinds expr_kinds y) (a_sign sign.Semicolon)
+          (after lo hi at (at + 1) _ (optional_kinds expr_kinds y ++ a_sign sign.Semicolon) refl l) in
           record { leads = λ at' k h. (return_into result looping token (at + 1) y p.1 value_lies t).leads at' k h }
       statement result looping y at p l t f = record { leads = λ at' k h. h }
 
       -- the declarations and statements of a block
       all_entries : (result : ValueType) (looping : Bool) (ys : EntryList) (at : ℕ) → EntriesAt at ys → Lies lo hi at (entry_kinds ys) →
           TypedEntries facts sites bounds.locals result looping ys → FormattedEntries facts ys →
-          Into (s.RunsAll G facts sites result ys) (s.RunsAll H facts sites result ys)
+          Into (s.EntriesDo G facts sites result ys) (s.EntriesDo H facts sites result ys)
       all_entries result looping tree.no_entries at p l t f = record { leads = λ at' k h. h }
       all_entries result looping (tree.declared d rest) at p l t f =
           let begins = declares d at p.0 (front lo hi at (declaration_kinds d) (entry_kinds rest) l) t.0 in

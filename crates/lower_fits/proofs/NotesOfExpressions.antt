@@ -3,7 +3,7 @@ use Rattle.std.proofs.Common.{◌≡◌, ℕ, ◌≤◌, refl, ap, subst, sym, �
 use Rattle.std.specs.Prelude.{IfSome, Option, Result, if◌then◌else◌, slice_get}
 use Rattle.std.specs.List.{AllByRecursion}
 use Rattle.c_types_expressions.proofs.Given.{Gives, and_then}
-use Rattle.base_lists.proofs.Every.{all_at}
+use Rattle.base_lists.proofs.Every.{all_at, all_join}
 use Rattle.c_syntax.specs.declared.parts.Base.{Base}
 use Rattle.c_syntax.specs.declared.parts.Base.TheVariants as base
 use Rattle.c_syntax.specs.ExprTree as e
@@ -13,22 +13,22 @@ use Rattle.c_types_rules.specs.declared.layout.Member.{Member}
 use Rattle.c_types_rules.specs.declared.layout.StructType.{StructType}
 use Rattle.c_types_rules.specs.declared.operand.Operand.{Operand}
 use Rattle.c_types_rules.specs.TypeTree as t
-use Rattle.c_types_rules.specs.Words.{TypeTree, constant_of, decayed, enclosed, null_of, place_of, string_of, value_of, Looked, library_called, cast_to}
-use Rattle.c_types_rules.specs.Words.{measured, stepped, chosen, indexed, known_member, member_behind, member_in, member_named, member_of, sequenced}
+use Rattle.c_types_rules.specs.Words.{TypeTree, constant_of, decayed_type, parenthesized_operand, null_of, place_of, string_of, value_of, OperandOrFault, library_called, cast_to}
+use Rattle.c_types_rules.specs.Words.{typed_sizeof, typed_increment, typed_conditional, typed_subscript, known_member, member_behind, member_in, member_named, member_of, typed_comma}
 use Rattle.c_types_rules.specs.Conversions as rule
 use Rattle.c_types_rules.specs.Functions as function
 use Rattle.c_types_expressions.specs.declared.names.Meaning.{Meaning}
 use Rattle.c_types_expressions.specs.declared.names.Meaning.TheVariants as meaning
 use Rattle.c_types_expressions.specs.declared.walk.FunctionEntry.{FunctionEntry}
 use Rattle.c_types_expressions.specs.declared.walk.Walk.{Walk}
-use Rattle.c_types_expressions.specs.Words.{assigning, base_type, binary_of, called_name, chained, compound_of, format_of, is_printf, looked, named}
-use Rattle.c_types_expressions.specs.Words.{of_function, of_variable, prefixed, selected, string_cells, tagged_type, walk_expr, walk_exprs, walk_links}
-use Rattle.c_types_expressions.specs.Words.{walk_postfix, walk_whole, with_call, with_offset, with_stars, with_use, found, meaning_of, Walked, ◌>>=◌, with_type}
+use Rattle.c_types_expressions.specs.Words.{typed_assignment, base_type, binary_of, called_name, typed_chain_operation, compound_of, format_of, is_printf, operand_noted, named_operand}
+use Rattle.c_types_expressions.specs.Words.{of_function, of_variable, typed_prefix_operation, selected_member, string_cells, tagged_type, walk_expr, walk_exprs, walk_links}
+use Rattle.c_types_expressions.specs.Words.{walk_postfix, walk_whole, with_call, with_offset, with_stars, with_use, declared_meaning, meaning_of, Walked, ◌>>=◌, with_type}
 use Rattle.flow.specs.Nodes.{step_limit}
 use Rattle.c_meaning_sound.proofs.Ending.{Sums, core_is_deep}
 use Rattle.c_meaning_sound.proofs.Noting.{Deep}
 use Rattle.c_meaning_sound.proofs.Reaching.{Flat, stars_flat}
-use Rattle.lower_fits.proofs.Lists.{AllNoted, all_join, all_replaced}
+use Rattle.lower_fits.proofs.Lists.{AllNoted, all_replaced}
 use Rattle.lower_fits.proofs.Pointing.{Leads, Steady, assigning_leads, called_leads, cast_leads, chained_leads, chosen_leads, constant_steady, enclosed_steady}
 use Rattle.lower_fits.proofs.Pointing.{format_leads, indexed_leads, library_leads, measured_leads, null_steady, place_steady, prefixed_leads}
 use Rattle.lower_fits.proofs.Pointing.{sequenced_leads, stepped_leads, string_steady, value_steady}
@@ -55,12 +55,12 @@ base_then (base.Void token) w k h = h t.Void (λ n. stars_flat n t.Void tt)
 base_then (base.Char token) w k h = h t.Char (λ n. stars_flat n t.Char tt)
 base_then (base.Int token) w k h = h t.Int (λ n. stars_flat n t.Int tt)
 base_then (base.Unsigned token int) w k h = h t.Unsigned (λ n. stars_flat n t.Unsigned tt)
-base_then (base.Struct token tag) w k h = tag_then token (found tag w.tags) w k h
+base_then (base.Struct token tag) w k h = tag_then token (declared_meaning tag w.tags) w k h
 
 module _ (tree : SourceTree) (z : Walk) where
   -- what the value of an operand of the type points to has steps
   abbrev pub Points : TypeTree → Type 0
-  Points of = Deep tree z (decayed of)
+  Points of = Deep tree z (decayed_type of)
 
   -- so it is with all types that were noted, and with those of variables; and offsets are within the limit
   pub record Noted (w : Walk) : Type 0 where
@@ -142,7 +142,7 @@ module _ (tree : SourceTree) (z : Walk) (sums : Sums z) (structs : List StructTy
   }
 
   -- a construct that is looked at
-  looked_good : (token : ℕ) (r : Looked) (w : Walk) → Known w → Leads tree z r → Gives (looked token r w) Good
+  looked_good : (token : ℕ) (r : OperandOrFault) (w : Walk) → Known w → Leads tree z r → Gives (operand_noted token r w) Good
   looked_good token (Ok x) w k f = record { by = (f, typed_known token x.ctype w k f.deep) }
   looked_good token (Err kind) w k f = record { by = tt }
 
@@ -154,7 +154,7 @@ module _ (tree : SourceTree) (z : Walk) (sums : Sums z) (structs : List StructTy
       (place_steady tree z of (all_at (Deep tree z) w.declared_types index of k.noted.declared h))
 
   -- a name that is not called
-  named_good : (token : ℕ) (m : Option Meaning) (w : Walk) → Known w → Gives (named token m w) Good
+  named_good : (token : ℕ) (m : Option Meaning) (w : Walk) → Known w → Gives (named_operand token m w) Good
   named_good token (Some (meaning.Variable index)) w k = variable_good token index (slice_get w.declared_types index) w refl k
   named_good token m w k = record { by = tt }
 
@@ -164,7 +164,7 @@ module _ (tree : SourceTree) (z : Walk) (sums : Sums z) (structs : List StructTy
   function_good token index None xs w h k = record { by = tt }
   function_good token index (Some f) xs w h k =
       let here : slice_get functions index ≡ Some f = ap (λ fs. slice_get fs index) (sym k.functions_are) ∙ h in
-      looked_good token (function.called f.ctype xs) (with_call token index w) (call_known token index w k)
+      looked_good token (function.typed_call f.ctype xs) (with_call token index w) (call_known token index w k)
       (called_leads tree z f.ctype xs (results index f here))
 
   -- a name that is called
@@ -199,7 +199,7 @@ module _ (tree : SourceTree) (z : Walk) (sums : Sums z) (structs : List StructTy
   behind_leads name of = tt
 
   -- a member is selected
-  selected_good : (token : ℕ) (is_place : Bool) (r : Result Member FaultKind) (w : Walk) → Known w → MemberLeads r → Gives (selected token is_place r w) Good
+  selected_good : (token : ℕ) (is_place : Bool) (r : Result Member FaultKind) (w : Walk) → Known w → MemberLeads r → Gives (selected_member token is_place r w) Good
   selected_good token is_place (Err kind) w k f = record { by = tt }
   selected_good token is_place (Ok m) w k f =
       let steady : Steady tree z (place_of m.ctype) = place_steady tree z m.ctype f.0 in
@@ -211,27 +211,27 @@ module _ (tree : SourceTree) (z : Walk) (sums : Sums z) (structs : List StructTy
     -- an expression
     pub expr_good : (x : ExprTree) (w : Walk) → Known w → Gives (walk_expr x w) Good
     expr_good (e.Comma token operands) w k = and_then (exprs_good operands [] w k tt) (λ xs v g.
-        looked_good token (sequenced t.Void xs) v g.1 (sequenced_leads tree z t.Void xs tt g.0))
+        looked_good token (typed_comma t.Void xs) v g.1 (sequenced_leads tree z t.Void xs tt g.0))
     expr_good (e.Assign token s target value) w k = and_then (expr_good target w k) (λ x v g. and_then (expr_good value v g.1) (λ y u h.
-        looked_good token (assigning u.structs (compound_of s) x y) u h.1 (assigning_leads tree z u.structs (compound_of s) x y g.0 h.0)))
+        looked_good token (typed_assignment u.structs (compound_of s) x y) u h.1 (assigning_leads tree z u.structs (compound_of s) x y g.0 h.0)))
     expr_good (e.Conditional token condition first second) w k = and_then (expr_good condition w k) (λ c v g. and_then (expr_good first v g.1) (λ x u h.
-        and_then (expr_good second u h.1) (λ y r i. looked_good token (chosen c x y) r i.1 (chosen_leads tree z c x y h.0 i.0))))
+        and_then (expr_good second u h.1) (λ y r i. looked_good token (typed_conditional c x y) r i.1 (chosen_leads tree z c x y h.0 i.0))))
     expr_good (e.Chain level first links) w k = and_then (expr_good first w k) (λ x v g. links_good links x v g.0 g.1)
     expr_good (e.Cast token b stars operand) w k =
-        base_then b w (λ of v. walk_expr operand v >>= λ x u. looked token (cast_to (with_stars stars of) x) u) (λ of flat.
+        base_then b w (λ of v. walk_expr operand v >>= λ x u. operand_noted token (cast_to (with_stars stars of) x) u) (λ of flat.
         and_then (expr_good operand w k) (λ x u g.
         looked_good token (cast_to (with_stars stars of) x) u g.1 (cast_leads tree z (with_stars stars of) x (named_deep (with_stars stars of) (flat stars)))))
     expr_good (e.Prefix token operator operand) w k = and_then (expr_good operand w k) (λ x v g.
-        looked_good token (prefixed v.structs operator x) v g.1 (prefixed_leads tree z v.structs operator x g.0))
-    expr_good (e.SizeOfType token b stars) w k = base_then b w (λ of v. looked token (measured v.structs (with_stars stars of)) v) (λ of flat.
-        looked_good token (measured w.structs (with_stars stars of)) w k (measured_leads tree z w.structs (with_stars stars of)))
+        looked_good token (typed_prefix_operation v.structs operator x) v g.1 (prefixed_leads tree z v.structs operator x g.0))
+    expr_good (e.SizeOfType token b stars) w k = base_then b w (λ of v. operand_noted token (typed_sizeof v.structs (with_stars stars of)) v) (λ of flat.
+        looked_good token (typed_sizeof w.structs (with_stars stars of)) w k (measured_leads tree z w.structs (with_stars stars of)))
     expr_good (e.Postfix primary operators) w k = and_then (expr_good primary w k) (λ x v g. postfix_good operators x v g.0 g.1)
     expr_good (e.Name token name) w k = named_good token (meaning_of name w.names) w k
     expr_good (e.Call token name arguments) w k = and_then (exprs_good arguments [] w k tt) (λ xs v g.
         called_good token (meaning_of name v.names) xs v g.1)
     expr_good (e.Constant token own value) w k = looked_good token (Ok (constant_of own value)) w k (constant_steady tree z own (constant_of own value).null)
     expr_good (e.Strings token parts) w k = looked_good token (Ok (string_of (string_cells parts))) w k (string_steady tree z (string_cells parts))
-    expr_good (e.Paren token inner) w k = and_then (expr_good inner w k) (λ x v g. looked_good token (Ok (enclosed x)) v g.1 (enclosed_steady tree z x g.0))
+    expr_good (e.Paren token inner) w k = and_then (expr_good inner w k) (λ x v g. looked_good token (Ok (parenthesized_operand x)) v g.1 (enclosed_steady tree z x g.0))
     expr_good (e.Null token) w k = looked_good token (Ok null_of) w k (null_steady tree z)
     expr_good (e.EndOfFile token) w k = looked_good token (Ok (value_of t.Int)) w k (value_steady tree z t.Int tt)
 
@@ -246,14 +246,14 @@ module _ (tree : SourceTree) (z : Walk) (sums : Sums z) (structs : List StructTy
     links_good : (links : LinkList) (left : Operand) (w : Walk) → Steady tree z left → Known w → Gives (walk_links links left w) Good
     links_good e.no_links left w f k = record { by = (f, k) }
     links_good (e.more_links token s operand rest) left w f k = and_then (expr_good operand w k) (λ right v g.
-        and_then (looked_good token (chained v.structs (binary_of s) left right) v g.1 (chained_leads tree z v.structs (binary_of s) left right f g.0)) (λ x u h.
+        and_then (looked_good token (typed_chain_operation v.structs (binary_of s) left right) v g.1 (chained_leads tree z v.structs (binary_of s) left right f g.0)) (λ x u h.
         links_good rest x u h.0 h.1))
 
     -- the operators behind an operand
     postfix_good : (operators : PostfixList) (left : Operand) (w : Walk) → Steady tree z left → Known w → Gives (walk_postfix operators left w) Good
     postfix_good e.no_postfix left w f k = record { by = (f, k) }
     postfix_good (e.index token x rest) left w f k = and_then (expr_good x w k) (λ right v g.
-        and_then (looked_good token (indexed v.structs left right) v g.1 (indexed_leads tree z v.structs left right f g.0)) (λ y u h.
+        and_then (looked_good token (typed_subscript v.structs left right) v g.1 (indexed_leads tree z v.structs left right f g.0)) (λ y u h.
         postfix_good rest y u h.0 h.1))
     postfix_good (e.member token name rest) left w f k =
         and_then (selected_good token left.place (member_of w.structs name left.ctype) w k
@@ -264,13 +264,13 @@ module _ (tree : SourceTree) (z : Walk) (sums : Sums z) (structs : List StructTy
         (subst (λ own. MemberLeads (member_behind own name (rule.value_type left))) (sym k.structs_are) (behind_leads name (rule.value_type left)))) (λ y u h.
         postfix_good rest y u h.0 h.1)
     postfix_good (e.increment token rest) left w f k =
-        and_then (looked_good token (stepped w.structs left) w k (stepped_leads tree z w.structs left f)) (λ y u h. postfix_good rest y u h.0 h.1)
+        and_then (looked_good token (typed_increment w.structs left) w k (stepped_leads tree z w.structs left f)) (λ y u h. postfix_good rest y u h.0 h.1)
     postfix_good (e.decrement token rest) left w f k =
-        and_then (looked_good token (stepped w.structs left) w k (stepped_leads tree z w.structs left f)) (λ y u h. postfix_good rest y u h.0 h.1)
+        and_then (looked_good token (typed_increment w.structs left) w k (stepped_leads tree z w.structs left f)) (λ y u h. postfix_good rest y u h.0 h.1)
 
   -- the whole expression of a statement
   pub whole_good : (x : ExprTree) (w : Walk) → Known w → Gives (walk_whole x w) Good
   whole_good (e.Call token name arguments) w k = and_then (exprs_good arguments [] w k tt) (λ xs v g.
-      either_gives (is_printf (meaning_of name v.names)) (looked token (format_of arguments xs) v) (called_name token (meaning_of name v.names) xs v)
+      either_gives (is_printf (meaning_of name v.names)) (operand_noted token (format_of arguments xs) v) (called_name token (meaning_of name v.names) xs v)
       (looked_good token (format_of arguments xs) v g.1 (format_leads tree z arguments xs)) (called_good token (meaning_of name v.names) xs v g.1))
   whole_good x w k = expr_good x w k

@@ -15,12 +15,12 @@ use Rattle.c_types_rules.specs.declared.function.FunctionType.{FunctionType}
 use Rattle.c_types_rules.specs.declared.layout.Member.{Member}
 use Rattle.c_types_rules.specs.declared.layout.StructType.{StructType}
 use Rattle.c_types_rules.specs.TypeTree as t
-use Rattle.c_types_rules.specs.Words.{TypeTree, decayed, member_named, cells_of, is_complete}
+use Rattle.c_types_rules.specs.Words.{TypeTree, decayed_type, member_named, cells_of, is_complete}
 use Rattle.c_types_expressions.specs.declared.walk.Parameter.{Parameter}
 use Rattle.c_types_expressions.specs.declared.walk.Walk.{Walk}
 use Rattle.c_types.specs.Answers.{offset_at, type_at}
-use Rattle.c_types_expressions.specs.Words.{with_stars, beginning, found, Done, Fine, opened}
-use Rattle.c_types_walk.specs.ItemWalk.{clashes, entered, known_as, types_of, walk_item, walk_items, with_function, with_param, with_params}
+use Rattle.c_types_expressions.specs.Words.{with_stars, empty_walk, declared_meaning, Done, Fine, scope_opened}
+use Rattle.c_types_walk.specs.ItemWalk.{is_clashing_name, body_scope_opened, known_as, types_of, walk_item, walk_items, with_function, with_param, with_params}
 use Rattle.c_types.specs.Laid.{AreLaid, IsSummed}
 use Rattle.c_types.proofs.Summed.{structs_summed}
 use Rattle.flow.specs.Nodes.{step_limit}
@@ -101,16 +101,16 @@ module _ (tree : SourceTree) (z : Walk) (ends : Ended tree z) (sums : Sums z) (m
       let u : Walk = with_function name f known w in
       let g : Grown u z = grown_then u v z (defines_onward token f name own body known w v d) onward in
       let before : Noted tree z u = function_noted name f known w n in
-      let begun : Inside u g (opened (record u { locals = 0 })) = record {
+      let begun : Inside u g (scope_opened (record u { locals = 0 })) = record {
         structs_are = refl;
         functions_are = refl;
         noted = record { types = before.types; offsets = before.offsets; declared = before.declared };
       } in
-      let inside : Inside u g (entered own u) = params_known u g lo hi own (opened (record u { locals = 0 })) params begun in
+      let inside : Inside u g (body_scope_opened own u) = params_known u g lo hi own (scope_opened (record u { locals = 0 })) params begun in
       let behind : Inside u g d.behind = subst (Gives (λ done r. Inside u g r)) d.walked
       (entries_good tree z ends sums u.structs u.functions (members_before u g) (results_before u g)
       (grows_before u g) (stays_before u g) f.gives false body
-      (entered own u) inside).by in
+      (body_scope_opened own u) inside).by in
       let last : Inside u g d.last = subst (Gives (λ done r. Inside u g r)) d.closes
       (closing_known tree z ends sums u.structs u.functions (members_before u g) (results_before u g)
       (grows_before u g) (stays_before u g) tt d.behind behind).by in
@@ -126,15 +126,15 @@ module _ (tree : SourceTree) (z : Walk) (ends : Ended tree z) (sums : Sums z) (m
       let k = function_is token b stars name ps None (at + length (type_kinds b stars) + 2)
       (at + length (type_kinds b stars) + 2 + length (params_kinds ps)) w a v p.2 (omega arith) e in
       let f : FunctionType = record { gives = with_stars stars k.of; params = types_of k.own } in
-      let known : Option ℕ = known_as f (found name w.names) w in
-      let same : v ≡ with_function name f known w = (declares_is token (clashes name known w) f.gives (with_function name f known w) v a k.rest).same in
+      let known : Option ℕ = known_as f (declared_meaning name w.names) w in
+      let same : v ≡ with_function name f known w = (declares_is token (is_clashing_name name known w) f.gives (with_function name f known w) v a k.rest).same in
       rw same (function_noted name f known w n)
   item_noted (item.Function token b stars name ps (Some body)) at w v a o p s g e n =
       let lo : ℕ = at + length (type_kinds b stars) + 2 in
       let hi : ℕ = at + length (type_kinds b stars) + 2 + length (params_kinds ps) in
       let k = function_is token b stars name ps (Some body) lo hi w a v p.2 (omega arith) e in
       let f : FunctionType = record { gives = with_stars stars k.of; params = types_of k.own } in
-      let known : Option ℕ = known_as f (found name w.names) w in
+      let known : Option ℕ = known_as f (declared_meaning name w.names) w in
       body_noted token f name k.own body known lo hi w v k.are (body_defines token f name k.own body known w v a k.rest) g n
   item_noted (item.Declaration d) at w v a o p s g e n =
       let whole : Grown w z = grown_then w v z (declaration_grown d w v a e) g in
@@ -165,7 +165,7 @@ accepted_noted tree z a =
     let summed : IsSummed z.structs s = all_at (IsSummed z.structs) z.structs tag s (structs_summed tree z a.walked) e in
     let before : m.offset ≤ s.cells = laid_before z.structs 0 s.cells name s.members m summed.laid k in
     ((ends.members tag s e name m k).0, omega (arith, before, sound.most)) in
-    items_noted tree z ends sums members tree.items 0 (beginning (length tree.lines)) tt a.formed.shaped.items a.formed.shaped.placed
+    items_noted tree z ends sums members tree.items 0 (empty_walk (length tree.lines)) tt a.formed.shaped.items a.formed.shaped.placed
     (record { structs = tt; functions = tt }) (tree_is tree z a.walked).items (record {
       types = none_noted (Points tree z) (length tree.lines);
       offsets = none_noted IsNear (length tree.lines);
@@ -184,14 +184,14 @@ step_some n h = some_by (and_parts (nat_le 1 n) (nat_le n 1048576) h).0
     some_by k = grind (arith, nat_tests, k)
 
 -- a pointer to an object can be moved
-pointed_some : (tree : SourceTree) (z : Walk) (of to : TypeTree) → Points tree z of → decayed of ≡ t.Pointer to → is_complete z.structs to ≡ true
+pointed_some : (tree : SourceTree) (z : Walk) (of to : TypeTree) → Points tree z of → decayed_type of ≡ t.Pointer to → is_complete z.structs to ≡ true
     → 1 ≤ element_cells z.structs to
 pointed_some tree z of to d h complete =
     let deep : Deep tree z to = subst (Deep tree z) h d in
     step_some (element_cells z.structs to) (steps_known tree z (t.Pointer to) deep complete)
 
 -- so it is with each pointer and each array that was noted
-pub noted_moves : (tree : SourceTree) (z : Walk) → IsAcceptedTree tree z → (token : ℕ) (of to : TypeTree) → type_at z token ≡ Some of → decayed of ≡ t.Pointer to
+pub noted_moves : (tree : SourceTree) (z : Walk) → IsAcceptedTree tree z → (token : ℕ) (of to : TypeTree) → type_at z token ≡ Some of → decayed_type of ≡ t.Pointer to
     → is_complete z.structs to ≡ true → 1 ≤ element_cells z.structs to
 noted_moves tree z a token of to h leads complete =
     pointed_some tree z of to (noted_at (Points tree z) z.types token of (accepted_noted tree z a).types h) leads complete

@@ -11,9 +11,9 @@ use Rattle.c_types_rules.specs.Words.{TypeTree, cells_of, is_object, most_cells}
 use Rattle.c_types_expressions.specs.declared.walk.FunctionEntry.{FunctionEntry}
 use Rattle.c_types_expressions.specs.declared.walk.Walk.{Walk}
 use Rattle.c_types_walk.specs.Declarators.{declared_type, is_open}
-use Rattle.c_types_expressions.specs.Words.{walk_expr, walk_whole, with_stars, is_name_taken, Walked, Done, Fine, Faulty, ◌>>=◌, closing, opened, with_variable}
-use Rattle.c_types_walk.specs.Initialisers.{cells_of_string, listed_type, valued, walk_initial}
-use Rattle.c_types_walk.specs.StatementWalk.{counted_cells, sized, walk_closed, walk_declaration, walk_entries, walk_open, walk_start, walk_starts, walk_typed}
+use Rattle.c_types_expressions.specs.Words.{walk_expr, walk_whole, with_stars, is_name_taken, Walked, Done, Fine, Faulty, ◌>>=◌, scope_closed, scope_opened, with_variable}
+use Rattle.c_types_walk.specs.Initialisers.{cells_of_string, listed_type, type_by_expression, walk_initial}
+use Rattle.c_types_walk.specs.StatementWalk.{counted_cells, object_type_checked, walk_closed, walk_declaration, walk_entries, walk_open, walk_start, walk_starts, walk_typed}
 use Rattle.c_types_walk.specs.StatementWalk.{with_declared_type}
 use Rattle.c_types_expressions.proofs.Kept.{Keeps}
 use Rattle.c_types_walk.proofs.Kept.{IsKeptByStatements, entries_keep}
@@ -24,7 +24,8 @@ use Rattle.c_meaning_sound.proofs.Growing.{Grows}
 use Rattle.c_meaning_sound.proofs.Initialising.{Lengthened, as_it_is, completed, listed_length, valued_length}
 use Rattle.c_meaning_sound.proofs.Noting.{Deep}
 use Rattle.c_meaning_sound.proofs.Sizing.{Open, core, core_deep, declared_core, object_stays, open_by, whole_by}
-use Rattle.lower_fits.proofs.Lists.{all_join, all_replaced}
+use Rattle.base_lists.proofs.Every.{all_join}
+use Rattle.lower_fits.proofs.Lists.{all_replaced}
 use Rattle.lower_fits.proofs.NotesOfExpressions.{Good, Known, MembersFit, ResultsFit, base_then, expr_good, exprs_good, named_deep, whole_good}
 
 module _ (tree : SourceTree) (z : Walk) (ends : Ended tree z) (sums : Sums z) (structs : List StructType) (functions : List FunctionEntry)
@@ -38,7 +39,7 @@ module _ (tree : SourceTree) (z : Walk) (ends : Ended tree z) (sums : Sums z) (s
   Behind x v = Within v
 
   -- where a scope begins, the same is known
-  opened_known : (w : Walk) → Within w → Within (opened w)
+  opened_known : (w : Walk) → Within w → Within (scope_opened w)
   opened_known w k = record {
     structs_are = k.structs_are;
     functions_are = k.functions_are;
@@ -46,7 +47,7 @@ module _ (tree : SourceTree) (z : Walk) (ends : Ended tree z) (sums : Sums z) (s
   }
 
   -- and where it ends
-  pub closing_known : (done : Done) (w : Walk) → Within w → Gives (closing done w) Behind
+  pub closing_known : (done : Done) (w : Walk) → Within w → Gives (scope_closed done w) Behind
   closing_known done w k = record {
     by = record {
       structs_are = k.structs_are;
@@ -108,7 +109,7 @@ module _ (tree : SourceTree) (z : Walk) (ends : Ended tree z) (sums : Sums z) (s
 
   -- a type that objects may have
   sized_known : {A : Type 0} {Q : A → Walk → Type 0} (global : Bool) (token : ℕ) (of : TypeTree) (w : Walk) (next : Done → Walk → Walked A) → Within w
-      → ((v : Walk) → Within v → is_object structs of ≡ true → Gives (next tt v) Q) → Gives (sized global token of w >>= next) Q
+      → ((v : Walk) → Within v → is_object structs of ≡ true → Gives (next tt v) Q) → Gives (object_type_checked global token of w >>= next) Q
   sized_known {A = A} {Q = Q} global token of w next k h =
       either (is_object w.structs of) (subst (λ own. is_object own of ≡ is_object w.structs of) k.structs_are refl)
     where
@@ -128,7 +129,7 @@ module _ (tree : SourceTree) (z : Walk) (ends : Ended tree z) (sums : Sums z) (s
   initial_good : (global : Bool) (of : TypeTree) (x : Option InitialTree) (w : Walk) → Within w → Gives (walk_initial global of x w) (Completes of)
   initial_good global of None w k = record { by = (k, as_it_is of) }
   initial_good global of (Some (s.Value value)) w k = and_then (expr_good tree z sums structs functions members results value w k) (λ x v g.
-      completed (first_token value) (valued global of value x (cells_of_string value)) v (λ u h.
+      completed (first_token value) (type_by_expression global of value x (cells_of_string value)) v (λ u h.
       (g.1, valued_length global (cells_of_string value) of u value x h)))
   initial_good global of (Some (s.Braced token items comma)) w k = and_then (exprs_good tree z sums structs functions members results items [] w k tt) (λ xs v g.
       completed token (listed_type global items xs of) v (λ u h. (g.1, listed_length tree z ends global of u items xs h)))

@@ -9,7 +9,7 @@ use Rattle.cbi_base.specs.declared.scalar.Kind.{Kind}
 use Rattle.cbi_base.specs.declared.scalar.Kind.TheVariants.{Char, Int, Unsigned}
 use Rattle.cbi_base.specs.Kind.{lies_in}
 use Rattle.flow.specs.Nodes as node
-use Rattle.flow.specs.Nodes.{is_format, step_limit}
+use Rattle.flow.specs.Nodes.{step_limit}
 use Rattle.c_meaning.specs.declared.value_type.ValueType.{ValueType}
 use Rattle.c_meaning.specs.declared.value_type.ValueType.TheVariants as type
 use Rattle.c_meaning.specs.Words.{as_used, is_step_size, moves_left, moves_right, on_pointers, on_values, operation, order_of, order_operation}

@@ -20,7 +20,7 @@ use Rattle.c_types_expressions.specs.declared.walk.Walk.{Walk}
 use Rattle.c_types.specs.Answers.{declared_at}
 use Rattle.c_types.specs.Fault.{walk_tree}
 use Rattle.c_types_expressions.specs.Walked.{Fine}
-use Rattle.c_meaning.specs.Words.{constant, filled_up, given_to, global_object, global_objects, object_with, one_more, starts_of, static_object, zeros_of}
+use Rattle.c_meaning.specs.Words.{constant_value, filled_up, given_to, global_object, global_objects, object_with, one_more, starts_of, static_object, zeros_of}
 use Rattle.c_meaning.specs.Words.{computed_type, element_type, facts_of, strings_initial, strings_of_item}
 use Rattle.c_meaning_laws.specs.TypedText.{GlobalInitial, IsConstant, TypedGlobal, TypedGlobals}
 use Rattle.c_meaning_sound.proofs.Initialising.{equals_kinds}
@@ -101,9 +101,9 @@ module _ (tree : SourceTree) (z : Walk) (walked : walk_tree tree ≡ Fine tt z) 
 
   -- the value of a scalar
   value_enough : (of : TypeTree) (value : ExprTree) → is_scalar of ≡ true → IsConstant (facts_of tree z) value → AllByRecursion KindFits (expr_kinds value)
-      → IfEnough of (option_map (λ v. v ∷ []) (constant (facts_of tree z) (Some (computed_type z.structs of)) value))
+      → IfEnough of (option_map (λ v. v ∷ []) (constant_value (facts_of tree z) (Some (computed_type z.structs of)) value))
   value_enough of value e h f =
-      enough_by 1 of (option_map (λ v. v ∷ []) (constant (facts_of tree z) (Some (computed_type z.structs of)) value))
+      enough_by 1 of (option_map (λ v. v ∷ []) (constant_value (facts_of tree z) (Some (computed_type z.structs of)) value))
       (value_given tree z (Some (computed_type z.structs of)) value h f) (omega (arith, scalar_cells z.structs of e))
 
   -- what an initialiser gives

@@ -1,31 +1,28 @@
 -- The sites that stand within a body are those of its function.
 use Rattle.std.proofs.Common.{◌≡◌, ℕ, zero, suc, ◌≤◌, ◌<◌, refl, ap, subst, ◌∙◌, arith, List, [], ◌∷◌, ◌++◌, Some, None, ◌+◌, Bool, true, false, length}
-use Rattle.std.specs.Prelude.{Option, ◌==◌, ◌&&◌, if◌then◌else◌, map, option_map, slice_get}
-use Rattle.std.specs.List.{All, AllByRecursion, flat_map}
-use Rattle.std.proofs.lemmas.Bool.Decides.{nat_tests}
-use Rattle.std.proofs.lemmas.List.Elements.{All-append, All-nil, recursion_from_All}
+use Rattle.std.specs.Prelude.{◌==◌, ◌&&◌, if◌then◌else◌, map, option_map, slice_get}
+use Rattle.std.specs.List.{AllByRecursion, flat_map}
+use Rattle.std.proofs.lemmas.List.Elements.{recursion_from_All}
 use Rattle.std.proofs.lemmas.Bool.{and_parts}
 use Rattle.std.proofs.lemmas.Option.{same_Some}
 use Rattle.base_lists.proofs.Numbers.{same_number}
-use Rattle.base_lists.proofs.Every.{all_so}
+use Rattle.base_lists.proofs.Every.{all_so, all_join}
 use Rattle.c_syntax.specs.Words.{EntryList, ItemTree, SourceTree, EachAt, EntriesAt, ItemAt, ShapedEntries, ShapedItem, entry_kinds, item_kinds, params_kinds}
 use Rattle.c_syntax.specs.Words.{type_kinds, IsShaped}
 use Rattle.c_syntax.specs.ItemTree as item
 use Rattle.c_types_expressions.specs.declared.walk.Walk.{Walk}
 use Rattle.flow.specs.declared.site.Site.{Site}
 use Rattle.flow.specs.declared.site.SiteKind.{SiteKind}
-use Rattle.c_meaning.specs.Words.{bodies, body_of_item, head_site, is_branch, is_pair, is_return, sites_from, sites_by_table}
+use Rattle.c_meaning.specs.Words.{function_bodies, body_of_item, head_site, is_branch, is_pair, is_return, sites_from, sites_by_table}
 use Rattle.flow.specs.declared.choice.Schemes.{Schemes}
-use Rattle.sites.specs.declared.spots.Spot.{Spot}
 use Rattle.sites.specs.Bodies.{entries_spots}
 use Rattle.sites.specs.Rising.{RisesWithin}
-use Rattle.sites.specs.SitesAt.{Body, sites_at, sites_at_token, sites_in, sites_standing, spot_token, stand_on}
+use Rattle.sites.specs.SitesAt.{Body, sites_in}
 use Rattle.sites.specs.Table as table
 use Rattle.sites.specs.Table.{body_with, defined_by, item_sites, items_sites}
-use Rattle.sites.proofs.Owners.{BelongsTo, standing, in-body}
+use Rattle.sites.proofs.Owners.{BelongsTo, in-body}
 use Rattle.sites.proofs.RisesTable.{rises-item}
 use Rattle.c_meaning_sound.proofs.Accepting.{body_long}
-use Rattle.lower_fits.proofs.Lists.{all_join}
 use Rattle.lower_fits.specs.FactsFit.{AllOwned, SitesOwned}
 use Rattle.lower_fits.specs.Owned.{BodyOwns}
 
@@ -187,7 +184,7 @@ sites_owned sites lo hi number own =
 
 -- each body of a shaped text stands in it, and the sites of the text's table within it are its own
 pub table_owned : (tree : SourceTree) (z : Walk) (schemes : Schemes) (number : ℕ) (body : EntryList) → IsShaped tree
-    → slice_get (bodies tree) number ≡ Some body → BodyOwns (table.sites_of tree z schemes) number body
+    → slice_get (function_bodies tree) number ≡ Some body → BodyOwns (table.sites_of tree z schemes) number body
 table_owned tree z schemes number body s e =
     let k = items_placed tree z tree.lines schemes tree.items 0 0 number body s.items s.placed e in
     record {
@@ -200,7 +197,7 @@ table_owned tree z schemes number body s e =
 
 -- so it is where there are no sites
 pub none_owned : (tree : SourceTree) (z : Walk) (schemes : Schemes) (number : ℕ) (body : EntryList) → IsShaped tree
-    → slice_get (bodies tree) number ≡ Some body → BodyOwns [] number body
+    → slice_get (function_bodies tree) number ≡ Some body → BodyOwns [] number body
 none_owned tree z schemes number body s e =
     let k = items_placed tree z tree.lines schemes tree.items 0 0 number body s.items s.placed e in
     record {

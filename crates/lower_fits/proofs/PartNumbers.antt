@@ -1,11 +1,8 @@
 -- Lists by the numbers of their elements.
-use Rattle.std.proofs.Common.{◌≡◌, ℕ, zero, suc, ◌<◌, refl, sym, ap, ap₂, subst, ◌∙◌, arith, List, [], ◌∷◌, map, length, Some, slice_get, sum_by, All}
+use Rattle.std.proofs.Common.{◌≡◌, ℕ, zero, suc, ◌<◌, refl, sym, ap, ap₂, subst, ◌∙◌, arith, List, [], ◌∷◌, map, length, Some, slice_get, sum_by}
 use Rattle.std.specs.List.{AllByRecursion, sum}
-use Rattle.std.proofs.lemmas.List.Elements.{recursion_from_All}
 use Rattle.std.proofs.lemmas.List.Sums.{sum-map}
 use Rattle.base_lists.proofs.Options.{none_some, some_is}
-use Rattle.base_lists.proofs.Lists.{item_there}
-use Rattle.base_lists.proofs.Every.{every_at}
 
 -- what every_at of each item_there every_at of this one
 holds_by : {A : Type 0} (P : A → Type 0) (xs : List A) → AllByRecursion P xs → (number : ℕ) (x : A) → slice_get xs number ≡ Some x → P x

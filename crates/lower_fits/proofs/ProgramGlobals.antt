@@ -12,9 +12,9 @@ use Rattle.cbi_base.specs.Objects.{Object}
 use Rattle.c_syntax.specs.Words.{SourceTree, tree_kinds, StartTree, KindFits}
 use Rattle.c_types_rules.specs.TypeTree as t
 use Rattle.c_types_expressions.specs.declared.walk.Walk.{Walk}
-use Rattle.c_types_expressions.specs.Words.{beginning, Fine}
+use Rattle.c_types_expressions.specs.Words.{empty_walk, Fine}
 use Rattle.c_types.specs.Fault.{walk_tree}
-use Rattle.c_meaning.specs.Words.{first_objects, global_objects, starts_of, then_strings, facts_of, literals, texts_of}
+use Rattle.c_meaning.specs.Words.{first_objects, global_objects, starts_of, then_strings, facts_of, string_literals, texts_of}
 use Rattle.flow.specs.declared.program.Cell.{Cell}
 use Rattle.flow.specs.declared.program.Cell.TheVariants as cell
 use Rattle.flow.specs.declared.program.Global.{Global}
@@ -62,11 +62,11 @@ module _ (tree : SourceTree) (z : Walk) (walked : walk_tree tree ≡ Fine tt z) 
       → AllByRecursion (GlobalFits (length (facts_of tree z).statics.texts)) gs
   globals_may n [] e h = tt
   globals_may n (g ∷ gs) e h =
-      let texts : length (texts_of (literals tree)) ≡ length (literals tree) = length-map (literals tree) _ in (
+      let texts : length (texts_of (string_literals tree)) ≡ length (string_literals tree) = length-map (string_literals tree) _ in (
         record {
           filled = omega (arith, h.0.1, length-map g.cells (cell_value n));
-          cells = All-from_recursion (λ c. IsTrue (cell_fits (length (texts_of (literals tree))) c)) g.cells
-              (cells_may n (length (texts_of (literals tree))) (objects_of tree z) g.cells (sym e) (sym texts) h.0.0);
+          cells = All-from_recursion (λ c. IsTrue (cell_fits (length (texts_of (string_literals tree))) c)) g.cells
+              (cells_may n (length (texts_of (string_literals tree))) (objects_of tree z) g.cells (sym e) (sym texts) h.0.0);
         },
         globals_may n gs e h.1,
       )
@@ -77,7 +77,7 @@ module _ (tree : SourceTree) (z : Walk) (walked : walk_tree tree ≡ Fine tt z) 
       → AreObjects tree z walked small xs (map (object_of_global (length gs)) gs)
   objects_are gs xs None e h = absurd (cc)
   objects_are gs xs (Some objects) e h =
-      let texts : List Text = texts_of (literals tree) in
+      let texts : List Text = texts_of (string_literals tree) in
       let first : List Object = map (object_of_global (length gs)) gs in
       let same : first ≡ objects = append_cancel_right first objects (map text_object texts)
       (same_Some (first ++ map text_object texts) (objects ++ map text_object texts) e) in
@@ -89,7 +89,7 @@ pub globals_fit : (tree : SourceTree) (z : Walk) (gs : List Global) → IsAccept
 globals_fit tree z gs a s f e =
     let small : (tag : ℕ) → Small tree z (t.Struct tag) = small_structs tree z (tree_sums tree z a.formed.shaped a.walked) in
     let xs : List StartTree = flat_map starts_of tree.items in
-    let counted : Counted tree z tree.items (beginning (length tree.lines)) z = globals_counted tree z a in
+    let counted : Counted tree z tree.items (empty_walk (length tree.lines)) z = globals_counted tree z a in
     let objects : AreObjects tree z a.walked small xs (map (object_of_global (length gs)) gs) =
     objects_are tree z a.walked small gs xs (global_objects (facts_of tree z) z xs) e
     (starts_fit tree z a.walked small xs counted.each (none_fits tree z a).globals (plain_items tree tree.items f (strings_spelled tree z a))) in

@@ -3,11 +3,11 @@ use Rattle.std.proofs.Common.{ℕ, ◌≤◌, arith, [], ◌++◌, ◌+◌, leng
 use Rattle.c_syntax.specs.declared.token.Sign.TheVariants as sign
 use Rattle.c_syntax.specs.ExprTree as e
 use Rattle.c_syntax.specs.Words.{ExprTree, ExprList, LinkList, PostfixList, ExprAt, ExprsAt, LinksAt, PostfixAt, HasLink, HasTwo, ShapedExpr, ShapedExprs}
-use Rattle.c_syntax.specs.Words.{ShapedLinks, ShapedPostfix, rank, a_sign, expr_kinds, exprs_kinds, link_kinds, more_exprs_kinds, parenthesized, postfix_kinds}
+use Rattle.c_syntax.specs.Words.{ShapedLinks, ShapedPostfix, expression_rank, a_sign, expr_kinds, exprs_kinds, link_kinds, more_exprs_kinds, parenthesized_kinds, postfix_kinds}
 use Rattle.c_syntax.specs.Words.{type_kinds}
 use Rattle.c_meaning.specs.Facts.{Sites}
 use Rattle.lower_relation.specs.Room.{expr_room, exprs_room, links_room, postfix_room}
-use Rattle.c_meaning_sound.proofs.Calling.{around}
+use Rattle.sites.proofs.Rises.{paren-length}
 use Rattle.c_meaning_sound.proofs.Parting.{infix_long, texts_long}
 use Rattle.lower_fits.proofs.Allowing.{Allows, nothing, one, two, wide}
 
@@ -34,7 +34,7 @@ leaves_some (e.EndOfFile token) = omega arith
 leaves_some x = omega arith
 
 -- a primary expression leaves 8
-primary_leaves : (x : ExprTree) → ShapedExpr x → 16 ≤ rank x → 8 ≤ spare x
+primary_leaves : (x : ExprTree) → ShapedExpr x → 16 ≤ expression_rank x → 8 ≤ spare x
 primary_leaves (e.Chain level first links) q h = omega arith
 primary_leaves x q h = omega arith
 
@@ -95,9 +95,9 @@ module _ (sites : Sites) where
         wide (two (expr_allowed first at q.3 p.0) (links_allowed links level (at + length (expr_kinds first)) q.5 p.1) (omega arith)) (omega arith)
         (omega arith) (omega (arith, leaves_some first, chain_leaves links q.4))
     expr_allowed (e.Cast token b stars operand) at q p =
-        let long = length-append (parenthesized (type_kinds b stars)) (expr_kinds operand) in
+        let long = length-append (parenthesized_kinds (type_kinds b stars)) (expr_kinds operand) in
         wide (two (one token) (expr_allowed operand (at + 1 + length (type_kinds b stars) + 1) q.1 p.2) (omega arith)) (omega arith)
-        (omega (arith, around (type_kinds b stars))) (omega (arith, leaves_some operand))
+        (omega (arith, paren-length (type_kinds b stars))) (omega (arith, leaves_some operand))
     expr_allowed (e.Prefix token o operand) at q p =
         wide (two (one token) (expr_allowed operand (at + 1) q.1 p.1) (omega arith)) (omega arith) (omega arith)
         (omega (arith, leaves_some operand))
@@ -108,12 +108,12 @@ module _ (sites : Sites) where
         (omega arith) (omega (arith, primary_leaves primary q.1 q.0))
     expr_allowed (e.Name token name) at q p = wide (one token) (omega arith) (omega arith) (omega arith)
     expr_allowed (e.Call token name arguments) at q p =
-        wide (two (one token) (exprs_allowed arguments (at + 2) q p.1) (omega arith)) (omega arith) (omega (arith, around (exprs_kinds arguments)))
+        wide (two (one token) (exprs_allowed arguments (at + 2) q p.1) (omega arith)) (omega arith) (omega (arith, paren-length (exprs_kinds arguments)))
         (omega (arith, list_leaves 3 arguments (omega arith)))
     expr_allowed (e.Constant token k value) at q p = wide (one token) (omega arith) (omega arith) (omega arith)
     expr_allowed (e.Strings token parts) at q p = wide (one token) (omega arith) (omega (arith, texts_long parts q)) (omega arith)
     expr_allowed (e.Paren token inner) at q p =
-        wide (two (one token) (expr_allowed inner (at + 1) q p.1) (omega arith)) (omega arith) (omega (arith, around (expr_kinds inner)))
+        wide (two (one token) (expr_allowed inner (at + 1) q p.1) (omega arith)) (omega arith) (omega (arith, paren-length (expr_kinds inner)))
         (omega (arith, leaves_some inner))
     expr_allowed (e.Null token) at q p = wide (one token) (omega arith) (omega arith) (omega arith)
     expr_allowed (e.EndOfFile token) at q p = wide (one token) (omega arith) (omega arith) (omega arith)

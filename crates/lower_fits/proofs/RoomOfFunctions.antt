@@ -7,10 +7,10 @@ use Rattle.std.proofs.lemmas.List.Sums.{count_by-le-length, sum_by-cons}
 use Rattle.c_syntax.specs.ItemTree as i
 use Rattle.c_syntax.specs.Words.{ItemTree, SourceTree, EntryList, tree_kinds, IsShaped}
 use Rattle.c_types_expressions.specs.declared.walk.Definition.{Definition}
-use Rattle.c_types.specs.Numbers.{frame, frame_of, frames_from, variables_in}
+use Rattle.c_types.specs.Numbers.{definition_frame, frame_of, frames_from, variables_in}
 use Rattle.c_types.specs.Parts.{item_parts}
 use Rattle.flow.specs.declared.site.Site.{Site}
-use Rattle.c_meaning.specs.Words.{Sites, bodies, body_of_item, sites_by_table}
+use Rattle.c_meaning.specs.Words.{Sites, function_bodies, body_of_item, sites_by_table}
 use Rattle.lower_relation.specs.Room.{function_room, functions_room}
 use Rattle.lower_fits.proofs.Allowing.{Allows, none_allowed}
 use Rattle.lower_fits.proofs.SitesAtTokens.{before, table_allows}
@@ -37,8 +37,8 @@ all_frames count (x ∷ xs) =
     )
 
 -- where each definition has its frame, there are as many bodies as definitions
-pub as_many : (tree : SourceTree) (definitions : List Definition) → map frame definitions ≡ frames_from 0 tree.items → length definitions ≡ length (bodies tree)
-as_many tree definitions h = sym (length-map definitions frame) ∙ ap length h ∙ all_frames 0 tree.items
+pub as_many : (tree : SourceTree) (definitions : List Definition) → map definition_frame definitions ≡ frames_from 0 tree.items → length definitions ≡ length (function_bodies tree)
+as_many tree definitions h = sym (length-map definitions definition_frame) ∙ ap length h ∙ all_frames 0 tree.items
 
 module _ (sites : Sites) where
   -- the first function, and those behind it
@@ -55,16 +55,16 @@ module _ (sites : Sites) where
 
 -- all functions of a text have room for no more nodes than its tokens allow
 pub few_nodes : (tree : SourceTree) (table : List Site) → IsShaped tree
-    → functions_room (sites_by_table table) (slice_get (bodies tree)) (length (bodies tree)) ≤ 16 * length (tree_kinds tree) + length table
+    → functions_room (sites_by_table table) (slice_get (function_bodies tree)) (length (function_bodies tree)) ≤ 16 * length (tree_kinds tree) + length table
 few_nodes tree table h =
-    let all : Allows (sites_by_table table) 0 (0 + length (tree_kinds tree)) (bodies_room (sites_by_table table) (bodies tree)) =
+    let all : Allows (sites_by_table table) 0 (0 + length (tree_kinds tree)) (bodies_room (sites_by_table table) (function_bodies tree)) =
     items_allowed (sites_by_table table) tree.items 0 h.items h.placed in
     let few : before (0 + length (tree_kinds tree)) table ≤ length table = count_by-le-length _ table in
     omega (
       arith,
       all.by,
       few,
-      all_room (sites_by_table table) (bodies tree),
+      all_room (sites_by_table table) (function_bodies tree),
       none_allowed (sites_by_table table),
       table_allows table (0 + length (tree_kinds tree)),
     )

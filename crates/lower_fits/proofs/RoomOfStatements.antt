@@ -8,14 +8,14 @@ use Rattle.c_syntax.specs.declared.token.Sign.TheVariants as sign
 use Rattle.c_syntax.specs.declared.token.Word.TheVariants as word
 use Rattle.c_syntax.specs.Words.{ExprTree, InitialTree, StartTree, DeclarationTree, ForStartTree, StatementTree, EntryList, ItemTree, DeclarationAt, EachAt}
 use Rattle.c_syntax.specs.Words.{EntriesAt, ExprAt, ForStartAt, InitialAt, ItemAt, StartAt, StatementAt, ShapedDeclaration, ShapedEntries, ShapedExpr}
-use Rattle.c_syntax.specs.Words.{ShapedForStart, ShapedInitial, ShapedItem, ShapedStart, ShapedStatement, a_name, a_sign, a_word, base_kinds, braced}
-use Rattle.c_syntax.specs.Words.{declaration_kinds, declarator_kinds, entry_kinds, expr_kinds, for_start_kinds, item_kinds, optional, params_kinds}
-use Rattle.c_syntax.specs.Words.{parenthesized, start_kinds, statement_kinds, type_kinds, with_commas}
+use Rattle.c_syntax.specs.Words.{ShapedForStart, ShapedInitial, ShapedItem, ShapedStart, ShapedStatement, a_name, a_sign, a_word, base_kinds, braced_kinds}
+use Rattle.c_syntax.specs.Words.{declaration_kinds, declarator_kinds, entry_kinds, expr_kinds, for_start_kinds, item_kinds, optional_kinds, params_kinds}
+use Rattle.c_syntax.specs.Words.{parenthesized_kinds, start_kinds, statement_kinds, type_kinds, with_commas}
 use Rattle.c_syntax.specs.StatementTree as s
 use Rattle.c_syntax.specs.ItemTree as i
 use Rattle.c_meaning.specs.Words.{Sites, body_of_item}
 use Rattle.lower_relation.specs.Room.{declaration_room, entries_room, for_start_room, function_room, initial_room, part_room, start_room, statement_room}
-use Rattle.c_meaning_sound.proofs.Calling.{around}
+use Rattle.sites.proofs.Rises.{paren-length}
 use Rattle.c_meaning_sound.proofs.Declaring.{commas_long}
 use Rattle.c_meaning_sound.proofs.Initialising.{braced_long, equals_kinds}
 use Rattle.c_meaning_sound.proofs.Stating.{for_long}
@@ -29,7 +29,7 @@ bodies_room sites bodies = sum_by (λ body. function_room sites (Some body)) bod
 module _ (sites : Sites) where
   -- an expression that may be missing
   option_allowed : (x : Option ExprTree) (at : ℕ) → IfSome x ShapedExpr → IfSome x (ExprAt at)
-      → Allows sites at (at + length (optional expr_kinds x)) (part_room sites x)
+      → Allows sites at (at + length (optional_kinds expr_kinds x)) (part_room sites x)
   option_allowed None at q p = nothing (omega arith)
   option_allowed (Some x) at q p = wide (expr_allowed sites x at q p) (omega arith) (omega arith) (omega arith)
 
@@ -75,7 +75,7 @@ module _ (sites : Sites) where
       → Allows sites at (at + length (for_start_kinds x)) (for_start_room sites x)
   for_start_allowed (s.Declares declaration) at q p = declaration_allowed declaration at q p
   for_start_allowed (s.Computes x) at q p =
-      let long = length-append (optional expr_kinds x) (a_sign sign.Semicolon) in
+      let long = length-append (optional_kinds expr_kinds x) (a_sign sign.Semicolon) in
       wide (option_allowed x at q p) (omega arith) (omega arith) (omega arith)
 
   mutual
@@ -88,40 +88,40 @@ module _ (sites : Sites) where
         let long = length-append (expr_kinds x) (a_sign sign.Semicolon) in
         wide (expr_allowed sites x at q p.1) (omega arith) (omega arith) (omega arith)
     statement_allowed (s.If token condition first) at q p =
-        let long = length-append (parenthesized (expr_kinds condition)) (statement_kinds first) in
+        let long = length-append (parenthesized_kinds (expr_kinds condition)) (statement_kinds first) in
         wide (two (two (one token) (expr_allowed sites condition (at + 2) q.0 p.1) (omega arith))
         (statement_allowed first (at + 2 + length (expr_kinds condition) + 1) q.1 p.2) (omega arith)) (omega arith)
-        (omega (arith, around (expr_kinds condition))) (omega arith)
+        (omega (arith, paren-length (expr_kinds condition))) (omega arith)
     statement_allowed (s.IfElse token condition first second) at q p =
-        let with_second = length-append (parenthesized (expr_kinds condition) ++ statement_kinds first ++ a_word word.Else) (statement_kinds second) in
-        let with_else = length-append (parenthesized (expr_kinds condition) ++ statement_kinds first) (a_word word.Else) in
-        let with_first = length-append (parenthesized (expr_kinds condition)) (statement_kinds first) in
+        let with_second = length-append (parenthesized_kinds (expr_kinds condition) ++ statement_kinds first ++ a_word word.Else) (statement_kinds second) in
+        let with_else = length-append (parenthesized_kinds (expr_kinds condition) ++ statement_kinds first) (a_word word.Else) in
+        let with_first = length-append (parenthesized_kinds (expr_kinds condition)) (statement_kinds first) in
         wide (two (two (two (one token) (expr_allowed sites condition (at + 2) q.0 p.1) (omega arith))
         (statement_allowed first (at + 2 + length (expr_kinds condition) + 1) q.1 p.2) (omega arith))
         (statement_allowed second (at + 2 + length (expr_kinds condition) + 1 + length (statement_kinds first) + 1) q.3 p.3) (omega arith)) (omega arith)
-        (omega (arith, around (expr_kinds condition))) (omega arith)
+        (omega (arith, paren-length (expr_kinds condition))) (omega arith)
     statement_allowed (s.While token condition body) at q p =
-        let long = length-append (parenthesized (expr_kinds condition)) (statement_kinds body) in
+        let long = length-append (parenthesized_kinds (expr_kinds condition)) (statement_kinds body) in
         wide (two (two (one token) (expr_allowed sites condition (at + 2) q.0 p.1) (omega arith))
         (statement_allowed body (at + 2 + length (expr_kinds condition) + 1) q.1 p.2) (omega arith)) (omega arith)
-        (omega (arith, around (expr_kinds condition))) (omega arith)
+        (omega (arith, paren-length (expr_kinds condition))) (omega arith)
     statement_allowed (s.Do token body condition) at q p =
-        let with_end = length-append (statement_kinds body ++ a_word word.While ++ parenthesized (expr_kinds condition)) (a_sign sign.Semicolon) in
-        let with_condition = length-append (statement_kinds body ++ a_word word.While) (parenthesized (expr_kinds condition)) in
+        let with_end = length-append (statement_kinds body ++ a_word word.While ++ parenthesized_kinds (expr_kinds condition)) (a_sign sign.Semicolon) in
+        let with_condition = length-append (statement_kinds body ++ a_word word.While) (parenthesized_kinds (expr_kinds condition)) in
         let with_while = length-append (statement_kinds body) (a_word word.While) in
         wide (two (two (one token) (statement_allowed body (at + 1) q.0 p.1) (omega arith))
         (expr_allowed sites condition (at + 1 + length (statement_kinds body) + 2) q.1 p.2) (omega arith)) (omega arith)
-        (omega (arith, around (expr_kinds condition))) (omega arith)
+        (omega (arith, paren-length (expr_kinds condition))) (omega arith)
     statement_allowed (s.For token start condition step body) at q p =
         let condition_at = at + 2 + length (for_start_kinds start) in
-        let step_at = condition_at + length (optional expr_kinds condition) + 1 in
-        let body_at = step_at + length (optional expr_kinds step) + 1 in
+        let step_at = condition_at + length (optional_kinds expr_kinds condition) + 1 in
+        let body_at = step_at + length (optional_kinds expr_kinds step) + 1 in
         wide (two (two (two (two (one token) (for_start_allowed start (at + 2) q.0 p.1) (omega arith))
         (option_allowed condition condition_at q.1 p.2) (omega arith)) (option_allowed step step_at q.2 p.3) (omega arith))
         (statement_allowed body body_at q.3 p.4) (omega arith)) (omega arith)
-        (omega (arith, for_long (for_start_kinds start) (optional expr_kinds condition) (optional expr_kinds step) (statement_kinds body))) (omega arith)
+        (omega (arith, for_long (for_start_kinds start) (optional_kinds expr_kinds condition) (optional_kinds expr_kinds step) (statement_kinds body))) (omega arith)
     statement_allowed (s.Return token value) at q p =
-        let long = length-append (optional expr_kinds value) (a_sign sign.Semicolon) in
+        let long = length-append (optional_kinds expr_kinds value) (a_sign sign.Semicolon) in
         wide (two (one token) (option_allowed value (at + 1) q p.1) (omega arith)) (omega arith) (omega arith) (omega arith)
     statement_allowed x at q p = nothing (omega arith)
 
@@ -140,12 +140,12 @@ module _ (sites : Sites) where
   -- an item, of which only a defined function needs room
   item_allowed : (x : ItemTree) (at : ℕ) → ShapedItem x → ItemAt at x → Allows sites at (at + length (item_kinds x)) (bodies_room sites (body_of_item x))
   item_allowed (i.Function token b stars name ps (Some body)) at q p =
-      let with_body = length-append (type_kinds b stars ++ a_name name ++ parenthesized (params_kinds ps)) (braced (entry_kinds body)) in
-      let with_params = length-append (type_kinds b stars ++ a_name name) (parenthesized (params_kinds ps)) in
+      let with_body = length-append (type_kinds b stars ++ a_name name ++ parenthesized_kinds (params_kinds ps)) (braced_kinds (entry_kinds body)) in
+      let with_params = length-append (type_kinds b stars ++ a_name name) (parenthesized_kinds (params_kinds ps)) in
       let with_name = length-append (type_kinds b stars) (a_name name) in
       wide (two (one (at + length (type_kinds b stars)))
       (entries_allowed body (at + length (type_kinds b stars) + 2 + length (params_kinds ps) + 2) q.1 p.3) (omega arith)) (omega arith)
-      (omega (arith, brace-length (entry_kinds body), around (params_kinds ps))) (omega arith)
+      (omega (arith, brace-length (entry_kinds body), paren-length (params_kinds ps))) (omega arith)
   item_allowed x at q p = nothing (omega arith)
 
   -- all items of a text

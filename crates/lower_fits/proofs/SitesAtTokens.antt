@@ -7,7 +7,7 @@ use Rattle.std.proofs.lemmas.List.Sums.{sum_by-cons}
 use Rattle.flow.specs.declared.site.Site.{Site}
 use Rattle.flow.specs.declared.site.SiteKind.{SiteKind}
 use Rattle.flow.specs.declared.site.SiteKind.TheVariants.{Branch, Return, Pair}
-use Rattle.c_meaning.specs.Words.{head_site, is_branch, is_pair, is_return, sites_from, sites_by_table, listed}
+use Rattle.c_meaning.specs.Words.{head_site, is_branch, is_pair, is_return, sites_from, sites_by_table, site_list}
 use Rattle.lower_fits.proofs.Allowing.{allowed, next_allowed, none_allowed}
 
 -- how many sites of the table stand before the token
@@ -31,7 +31,7 @@ one_token : (at token : ℕ) → cond (at == token) 1 0 + cond (nat_lt at token)
 one_token at token = grind (arith, nat_tests)
 
 -- the first of several is one of them
-first_counts : (xs : List ℕ) → length (listed (head_site xs)) ≤ length xs
+first_counts : (xs : List ℕ) → length (site_list (head_site xs)) ≤ length xs
 first_counts [] = omega arith
 first_counts (x ∷ xs) = omega arith
 

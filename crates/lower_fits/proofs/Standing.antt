@@ -6,11 +6,11 @@ use Rattle.base_lists.proofs.Every.{all_first, all_second}
 use Rattle.c_syntax.specs.declared.token.Sign.TheVariants as sign
 use Rattle.c_syntax.specs.declared.token.TokenKind.{TokenKind}
 use Rattle.c_syntax.specs.ExprTree as e
-use Rattle.c_syntax.specs.Words.{ExprTree, ExprList, Kinds, a_sign, expr_kinds, exprs_kinds, more_exprs_kinds, parenthesized, KindFits}
+use Rattle.c_syntax.specs.Words.{ExprTree, ExprList, Kinds, a_sign, expr_kinds, exprs_kinds, more_exprs_kinds, parenthesized_kinds, KindFits}
 use Rattle.flow.specs.declared.scope.Bounds.{Bounds}
 use Rattle.flow.specs.declared.scope.Names.{Names}
 use Rattle.flow.specs.Nodes.{step_limit}
-use Rattle.c_meaning.specs.Words.{Facts, Sites, count, listed}
+use Rattle.c_meaning.specs.Words.{Facts, Sites, expression_count, site_list}
 use Rattle.lower_fits.specs.FactsFit.{AllOwned, FactsFit, SitesOwned}
 use Rattle.lower_fits.specs.Fitting.{TextsNamed}
 
@@ -55,7 +55,7 @@ module _ (lo hi : ℕ) where
   }
 
   -- those within parentheses
-  pub enclosed : (at behind : ℕ) (xs : Kinds) → behind ≡ at + 1 → Lies lo hi at (parenthesized xs) → Lies lo hi behind xs
+  pub enclosed : (at behind : ℕ) (xs : Kinds) → behind ≡ at + 1 → Lies lo hi at (parenthesized_kinds xs) → Lies lo hi behind xs
   enclosed at behind xs e l = front behind xs (a_sign sign.RightParen) (after at behind _ (xs ++ a_sign sign.RightParen) e l)
 
   -- expressions with commas between them, if there are any
@@ -76,12 +76,12 @@ module _ (lo hi : ℕ) where
       (back at (at + length (expr_kinds x)) (expr_kinds x) (more_exprs_kinds (e.more_exprs y rest)) (omega arith) l)
 
 -- each expression but the first has its comma
-more_counted : (xs : ExprList) → count xs ≤ length (more_exprs_kinds xs)
+more_counted : (xs : ExprList) → expression_count xs ≤ length (more_exprs_kinds xs)
 more_counted e.no_exprs = omega arith
 more_counted (e.more_exprs x rest) = omega (arith, more_counted rest, length-append (expr_kinds x) (more_exprs_kinds rest))
 
 -- there are no more expressions than tokens, and one
-pub counted : (xs : ExprList) → count xs ≤ length (exprs_kinds xs) + 1
+pub counted : (xs : ExprList) → expression_count xs ≤ length (exprs_kinds xs) + 1
 counted e.no_exprs = omega arith
 counted (e.more_exprs x rest) = omega (arith, more_counted rest, length-append (expr_kinds x) (more_exprs_kinds rest))
 
@@ -93,17 +93,17 @@ pub record Known (names : Names) (bounds : Bounds) (facts : Facts) (sites : Site
   pub few : hi ≤ lo + step_limit
 
 -- the sites of one function, if there is one
-listed_owned : (owners : List ℕ) (number : ℕ) (o : Option ℕ) → ((site : ℕ) → o ≡ Some site → slice_get owners site ≡ Some number) → AllOwned owners number (listed o)
+listed_owned : (owners : List ℕ) (number : ℕ) (o : Option ℕ) → ((site : ℕ) → o ≡ Some site → slice_get owners site ≡ Some number) → AllOwned owners number (site_list o)
 listed_owned owners number None h = tt
 listed_owned owners number (Some site) h = (h site refl, tt)
 
 module _ (names : Names) (bounds : Bounds) (facts : Facts) (sites : Sites) (lo hi : ℕ) (known : Known names bounds facts sites lo hi) where
   -- the site of a condition is the function's
-  pub branch_owned : (token : ℕ) → Inside lo hi token → AllOwned names.owners bounds.function (listed (sites.branch_at token))
+  pub branch_owned : (token : ℕ) → Inside lo hi token → AllOwned names.owners bounds.function (site_list (sites.branch_at token))
   branch_owned token i =
       listed_owned names.owners bounds.function (sites.branch_at token) (λ site e. known.owned.branches token site i.from i.before e)
 
   -- and so is that of a returned value
-  pub return_owned : (token : ℕ) → Inside lo hi token → AllOwned names.owners bounds.function (listed (sites.return_at token))
+  pub return_owned : (token : ℕ) → Inside lo hi token → AllOwned names.owners bounds.function (site_list (sites.return_at token))
   return_owned token i =
       listed_owned names.owners bounds.function (sites.return_at token) (λ site e. known.owned.returns token site i.from i.before e)

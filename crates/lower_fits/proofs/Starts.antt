@@ -10,8 +10,8 @@ use Rattle.c_types_rules.specs.Words.{TypeTree, cells_of, is_complete, is_object
 use Rattle.c_types_expressions.specs.declared.walk.Walk.{Walk}
 use Rattle.c_types_walk.specs.Declarators.{declared_type, is_open}
 use Rattle.c_types_walk.specs.Initialisers.{walk_initial}
-use Rattle.c_types_expressions.specs.Words.{is_name_taken, Walked, Done, Fine, Faulty, replaced, with_variable}
-use Rattle.c_types_walk.specs.StatementWalk.{sized, walk_closed, walk_open, walk_start, walk_typed}
+use Rattle.c_types_expressions.specs.Words.{is_name_taken, Walked, Done, Fine, Faulty, item_replaced, with_variable}
+use Rattle.c_types_walk.specs.StatementWalk.{object_type_checked, walk_closed, walk_open, walk_start, walk_typed}
 use Rattle.c_types_walk.proofs.Kept.{initial_keeps}
 use Rattle.c_types.proofs.Noted.{Gives, gives_more, gives_then}
 use Rattle.lower_fits.proofs.Laying.{IsObject, Long, last_replaced}
@@ -27,7 +27,7 @@ pub record Begins (x : StartTree) (w v : Walk) : Type 0 where
   pub structs : v.structs ≡ w.structs
   pub types : v.declared_types ≡ w.declared_types ++ of ∷ []
   pub more : length v.variables ≡ length w.variables + 1
-  pub notes : v.variables_at ≡ replaced w.variables_at x.declarator.name_token (Some (length w.variables))
+  pub notes : v.variables_at ≡ item_replaced w.variables_at x.declarator.name_token (Some (length w.variables))
   pub cells : v.global_cells ≡ w.global_cells + cells_of w.structs of
   pub few : v.global_cells ≤ 1048576
 
@@ -58,7 +58,7 @@ counts_by true false token of w e h = tt
 counts_by false c token of w e h = tt
 
 -- the cells of a global are counted
-counts : (token : ℕ) (of : TypeTree) (w : Walk) → Gives (λ _ v. Counts of w v) (sized true token of w)
+counts : (token : ℕ) (of : TypeTree) (w : Walk) → Gives (λ _ v. Counts of w v) (object_type_checked true token of w)
 counts token of w = counts_by (is_object w.structs of) (nat_le (w.global_cells + cells_of w.structs of) most_cells) token of w refl refl
 
 -- what an initialiser is, and what it leaves
@@ -81,13 +81,13 @@ open_begins : (x : StartTree) (of : TypeTree) (w : Walk) → Long w → Gives (�
 open_begins x of w l =
     let first : Walk = with_variable true x.declarator.name_token x.declarator.name of w in
     gives_then (Initialised of x first) (λ _ v. Begins x w v) (walk_initial true of x.initial first) _ (initialised of x first)
-    (λ own u h. gives_then (λ _ v. Counts own u v) (λ _ v. Begins x w v) (sized true x.token own u) _ (counts x.token own u)
+    (λ own u h. gives_then (λ _ v. Counts own u v) (λ _ v. Begins x w v) (object_type_checked true x.token own u) _ (counts x.token own u)
     (λ _ v k. record {
       of = own;
       object = subst (λ structs. IsObject structs own) h.leaves.structs k.object;
       takes = h.initial.takes;
       structs = k.structs ∙ h.leaves.structs;
-      types = ap (λ ts. replaced ts (length w.variables) own) (k.types ∙ h.leaves.types)
+      types = ap (λ ts. item_replaced ts (length w.variables) own) (k.types ∙ h.leaves.types)
           ∙ last_replaced w.declared_types of own (length w.variables) l;
       more = ap length (k.variables ∙ h.leaves.variables) ∙ length-append w.variables _;
       notes = k.notes ∙ h.initial.unnoted;
@@ -98,7 +98,7 @@ open_begins x of w l =
 -- any other global
 closed_begins : (x : StartTree) (of : TypeTree) (w : Walk) → Gives (λ _ v. Begins x w v) (walk_closed true x of w)
 closed_begins x of w =
-    gives_then (λ _ v. Counts of w v) (λ _ v. Begins x w v) (sized true x.token of w) _ (counts x.token of w)
+    gives_then (λ _ v. Counts of w v) (λ _ v. Begins x w v) (object_type_checked true x.token of w) _ (counts x.token of w)
     (λ _ u k.
     let first : Walk = with_variable true x.declarator.name_token x.declarator.name of u in
     gives_then (Initialised of x first) (λ _ v. Begins x w v) (walk_initial true of x.initial first) _ (initialised of x first)
@@ -109,8 +109,8 @@ closed_begins x of w =
       structs = h.leaves.structs ∙ k.structs;
       types = h.leaves.types ∙ ap (λ ts. ts ++ of ∷ []) k.types;
       more = ap length h.leaves.variables ∙ length-append u.variables _ ∙ ap (λ xs. length xs + 1) k.variables;
-      notes = h.initial.unnoted ∙ ap (λ ns. replaced ns x.declarator.name_token (Some (length u.variables))) k.notes
-          ∙ ap (λ xs. replaced w.variables_at x.declarator.name_token (Some (length xs))) k.variables;
+      notes = h.initial.unnoted ∙ ap (λ ns. item_replaced ns x.declarator.name_token (Some (length u.variables))) k.notes
+          ∙ ap (λ xs. item_replaced w.variables_at x.declarator.name_token (Some (length xs))) k.variables;
       cells = h.keeps ∙ k.cells;
       few = subst (λ n. n ≤ 1048576) (sym h.keeps) k.few;
     }))

@@ -6,9 +6,9 @@ use Rattle.c_syntax.specs.declared.token.Sign.TheVariants as sign
 use Rattle.c_syntax.specs.declared.token.Word.TheVariants as word
 use Rattle.c_syntax.specs.ExprTree as e
 use Rattle.c_syntax.specs.Words.{ExprTree, ExprList, LinkList, PostfixList, InitialTree, StartTree, DeclarationTree, ForStartTree, StatementTree, EntryList}
-use Rattle.c_syntax.specs.Words.{ItemTree, SourceTree, Kinds, a_name, a_sign, a_word, after_commas, base_kinds, body_kinds, comma_kinds, declaration_kinds}
+use Rattle.c_syntax.specs.Words.{ItemTree, Kinds, a_name, a_sign, a_word, after_commas, base_kinds, body_kinds, comma_kinds, declaration_kinds}
 use Rattle.c_syntax.specs.Words.{declarator_kinds, entry_kinds, expr_kinds, exprs_kinds, for_start_kinds, initial_kinds, item_kinds, link_kinds}
-use Rattle.c_syntax.specs.Words.{more_exprs_kinds, optional, params_kinds, parenthesized, postfix_kinds, prefix_kinds, start_kinds, statement_kinds, text_kinds}
+use Rattle.c_syntax.specs.Words.{more_exprs_kinds, optional_kinds, params_kinds, parenthesized_kinds, postfix_kinds, prefix_kinds, start_kinds, statement_kinds, text_kinds}
 use Rattle.c_syntax.specs.Words.{type_kinds, with_commas}
 use Rattle.c_syntax.specs.StatementTree as s
 use Rattle.c_syntax.specs.ItemTree as item
@@ -37,11 +37,11 @@ module _ (f : Literal → ℕ) (g : TokenKind → ℕ)
         (behind f g (strings_in c) (expr_kinds c) (a_sign sign.Question) (expr_fewer c)) (expr_fewer x))) (expr_fewer y)
     expr_fewer (e.Chain level first links) =
         join f g (strings_in first) (strings_of_links links) (expr_kinds first) (link_kinds links) (expr_fewer first) (links_fewer links)
-    expr_fewer (e.Cast token b stars x) = before f g (strings_in x) (parenthesized (type_kinds b stars)) (expr_kinds x) (expr_fewer x)
+    expr_fewer (e.Cast token b stars x) = before f g (strings_in x) (parenthesized_kinds (type_kinds b stars)) (expr_kinds x) (expr_fewer x)
     expr_fewer (e.Prefix token o x) = before f g (strings_in x) (prefix_kinds o) (expr_kinds x) (expr_fewer x)
     expr_fewer (e.Postfix x operators) =
         join f g (strings_in x) (strings_behind operators) (expr_kinds x) (postfix_kinds operators) (expr_fewer x) (postfix_fewer operators)
-    expr_fewer (e.Call token name arguments) = before f g (strings_of_all arguments) (a_name name) (parenthesized (exprs_kinds arguments))
+    expr_fewer (e.Call token name arguments) = before f g (strings_of_all arguments) (a_name name) (parenthesized_kinds (exprs_kinds arguments))
         (enclosed f g (strings_of_all arguments) (exprs_kinds arguments) (exprs_fewer arguments))
     expr_fewer (e.Strings token parts) = omega (arith, own token parts, one (record { token = token; bytes = flat_map (λ bytes. bytes) parts }))
     expr_fewer (e.Paren token x) = enclosed f g (strings_in x) (expr_kinds x) (expr_fewer x)
@@ -77,7 +77,7 @@ module _ (f : Literal → ℕ) (g : TokenKind → ℕ)
     postfix_fewer (e.decrement token rest) = before f g (strings_behind rest) (a_sign sign.MinusMinus) (postfix_kinds rest) (postfix_fewer rest)
 
   -- those of an expression that may be left out
-  if_fewer : (x : Option ExprTree) → Within f g (strings_if x) (optional expr_kinds x)
+  if_fewer : (x : Option ExprTree) → Within f g (strings_if x) (optional_kinds expr_kinds x)
   if_fewer None = nothing f g []
   if_fewer (Some x) = expr_fewer x
 
@@ -89,13 +89,13 @@ module _ (f : Literal → ℕ) (g : TokenKind → ℕ)
       (behind f g (strings_of_all items) (exprs_kinds items) (comma_kinds comma) (exprs_fewer items))
 
   -- those of an initialiser that may be left out
-  initials_fewer : (x : Option InitialTree) → Within f g (strings_initial x) (optional (λ y. a_sign sign.Equal ++ initial_kinds y) x)
+  initials_fewer : (x : Option InitialTree) → Within f g (strings_initial x) (optional_kinds (λ y. a_sign sign.Equal ++ initial_kinds y) x)
   initials_fewer None = nothing f g []
   initials_fewer (Some x) = before f g (strings_initial (Some x)) (a_sign sign.Equal) (initial_kinds x) (initial_fewer x)
 
   -- those of a declarator with its initialiser
   start_fewer : (x : StartTree) → Within f g (strings_initial x.initial) (start_kinds x)
-  start_fewer x = before f g (strings_initial x.initial) (declarator_kinds x.declarator) (optional (λ y. a_sign sign.Equal ++ initial_kinds y) x.initial)
+  start_fewer x = before f g (strings_initial x.initial) (declarator_kinds x.declarator) (optional_kinds (λ y. a_sign sign.Equal ++ initial_kinds y) x.initial)
       (initials_fewer x.initial)
 
   -- those of declarators behind a comma each
@@ -120,13 +120,13 @@ module _ (f : Literal → ℕ) (g : TokenKind → ℕ)
   -- those of the start of a `for`
   begun_fewer : (x : ForStartTree) → Within f g (strings_begun x) (for_start_kinds x)
   begun_fewer (s.Declares d) = declaration_fewer d
-  begun_fewer (s.Computes x) = behind f g (strings_if x) (optional expr_kinds x) (a_sign sign.Semicolon) (if_fewer x)
+  begun_fewer (s.Computes x) = behind f g (strings_if x) (optional_kinds expr_kinds x) (a_sign sign.Semicolon) (if_fewer x)
 
   -- those of a condition and what comes after it
   conditioned : (token : List Literal) (w : Kinds) (c : ExprTree) (ks : Kinds) → Within f g token ks
-      → Within f g (strings_in c ++ token) (w ++ parenthesized (expr_kinds c) ++ ks)
-  conditioned xs w c ks h = join f g (strings_in c) xs (w ++ parenthesized (expr_kinds c)) ks
-      (before f g (strings_in c) w (parenthesized (expr_kinds c)) (enclosed f g (strings_in c) (expr_kinds c) (expr_fewer c))) h
+      → Within f g (strings_in c ++ token) (w ++ parenthesized_kinds (expr_kinds c) ++ ks)
+  conditioned xs w c ks h = join f g (strings_in c) xs (w ++ parenthesized_kinds (expr_kinds c)) ks
+      (before f g (strings_in c) w (parenthesized_kinds (expr_kinds c)) (enclosed f g (strings_in c) (expr_kinds c) (expr_fewer c))) h
 
   mutual
     -- those of a statement
@@ -136,27 +136,27 @@ module _ (f : Literal → ℕ) (g : TokenKind → ℕ)
     stated_fewer (s.Expr token x) = behind f g (strings_in x) (expr_kinds x) (a_sign sign.Semicolon) (expr_fewer x)
     stated_fewer (s.If token c first) = conditioned (strings_stated first) (a_word word.If) c (statement_kinds first) (stated_fewer first)
     stated_fewer (s.IfElse token c first second) =
-        let a = a_word word.If ++ parenthesized (expr_kinds c) ++ statement_kinds first in
+        let a = a_word word.If ++ parenthesized_kinds (expr_kinds c) ++ statement_kinds first in
         join f g (strings_in c ++ strings_stated first) (strings_stated second) (a ++ a_word word.Else) (statement_kinds second)
         (behind f g (strings_in c ++ strings_stated first) a (a_word word.Else)
         (conditioned (strings_stated first) (a_word word.If) c (statement_kinds first) (stated_fewer first))) (stated_fewer second)
     stated_fewer (s.While token c body) = conditioned (strings_stated body) (a_word word.While) c (statement_kinds body) (stated_fewer body)
     stated_fewer (s.Do token body c) =
         let a = a_word word.Do ++ statement_kinds body ++ a_word word.While in
-        behind f g (strings_stated body ++ strings_in c) (a ++ parenthesized (expr_kinds c)) (a_sign sign.Semicolon)
-        (join f g (strings_stated body) (strings_in c) a (parenthesized (expr_kinds c))
+        behind f g (strings_stated body ++ strings_in c) (a ++ parenthesized_kinds (expr_kinds c)) (a_sign sign.Semicolon)
+        (join f g (strings_stated body) (strings_in c) a (parenthesized_kinds (expr_kinds c))
         (between f g (strings_stated body) (a_word word.Do) (statement_kinds body) (a_word word.While) (stated_fewer body))
         (enclosed f g (strings_in c) (expr_kinds c) (expr_fewer c)))
     stated_fewer (s.For token start c step body) =
-        let a = for_start_kinds start ++ optional expr_kinds c ++ a_sign sign.Semicolon in
+        let a = for_start_kinds start ++ optional_kinds expr_kinds c ++ a_sign sign.Semicolon in
         let xs = strings_begun start ++ strings_if c ++ strings_if step in
-        join f g xs (strings_stated body) (a_word word.For ++ parenthesized (a ++ optional expr_kinds step)) (statement_kinds body)
-        (before f g xs (a_word word.For) (parenthesized (a ++ optional expr_kinds step)) (enclosed f g xs (a ++ optional expr_kinds step)
-        (join f g (strings_begun start ++ strings_if c) (strings_if step) a (optional expr_kinds step)
-        (behind f g (strings_begun start ++ strings_if c) (for_start_kinds start ++ optional expr_kinds c) (a_sign sign.Semicolon)
-        (join f g (strings_begun start) (strings_if c) (for_start_kinds start) (optional expr_kinds c) (begun_fewer start) (if_fewer c))) (if_fewer step))))
+        join f g xs (strings_stated body) (a_word word.For ++ parenthesized_kinds (a ++ optional_kinds expr_kinds step)) (statement_kinds body)
+        (before f g xs (a_word word.For) (parenthesized_kinds (a ++ optional_kinds expr_kinds step)) (enclosed f g xs (a ++ optional_kinds expr_kinds step)
+        (join f g (strings_begun start ++ strings_if c) (strings_if step) a (optional_kinds expr_kinds step)
+        (behind f g (strings_begun start ++ strings_if c) (for_start_kinds start ++ optional_kinds expr_kinds c) (a_sign sign.Semicolon)
+        (join f g (strings_begun start) (strings_if c) (for_start_kinds start) (optional_kinds expr_kinds c) (begun_fewer start) (if_fewer c))) (if_fewer step))))
         (stated_fewer body)
-    stated_fewer (s.Return token value) = between f g (strings_if value) (a_word word.Return) (optional expr_kinds value) (a_sign sign.Semicolon) (if_fewer value)
+    stated_fewer (s.Return token value) = between f g (strings_if value) (a_word word.Return) (optional_kinds expr_kinds value) (a_sign sign.Semicolon) (if_fewer value)
     stated_fewer x = nothing f g (statement_kinds x)
 
     -- those of the entries of a block
@@ -177,7 +177,7 @@ module _ (f : Literal → ℕ) (g : TokenKind → ℕ)
   item_fewer : (x : ItemTree) → Within f g (strings_of_item x) (item_kinds x)
   item_fewer (item.Struct token tag members) = nothing f g (item_kinds (item.Struct token tag members))
   item_fewer (item.Function token b stars name ps body) =
-      before f g (strings_of_body body) (type_kinds b stars ++ a_name name ++ parenthesized (params_kinds ps)) (body_kinds body) (body_fewer body)
+      before f g (strings_of_body body) (type_kinds b stars ++ a_name name ++ parenthesized_kinds (params_kinds ps)) (body_kinds body) (body_fewer body)
   item_fewer (item.Declaration d) = declaration_fewer d
 
   -- the strings of a text

@@ -10,7 +10,7 @@ use Rattle.c_syntax.specs.declared.token.TokenKind.{TokenKind}
 use Rattle.c_syntax.specs.declared.token.TokenKind.TheVariants as kind
 use Rattle.c_syntax.specs.Words.{SourceTree, Kinds, text_kinds, tree_kinds, IsOfBytes, kind_text_len}
 use Rattle.c_types_expressions.specs.declared.walk.Walk.{Walk}
-use Rattle.c_meaning.specs.Words.{facts_of, Literal, literals, texts_of}
+use Rattle.c_meaning.specs.Words.{facts_of, Literal, string_literals, texts_of}
 use Rattle.flow.specs.declared.program.Text.{Text}
 use Rattle.flow.specs.Words.{byte_limit, text_limit, AreTexts}
 use Rattle.c_meaning_sound.specs.Accepted.{IsAcceptedTree}
@@ -32,10 +32,10 @@ rise_long lo hi [] r = omega (arith, r)
 rise_long lo hi (s ∷ xs) r = omega (arith, r.0, rise_long (s.token + 1) hi xs r.1)
 
 -- an accepted text has at most as many strings as tokens
-few_strings : (tree : SourceTree) (z : Walk) → IsAcceptedTree tree z → IsSited tree → length (literals tree) ≤ 100000
+few_strings : (tree : SourceTree) (z : Walk) → IsAcceptedTree tree z → IsSited tree → length (string_literals tree) ≤ 100000
 few_strings tree z a s = omega (
   arith,
-  rise_long 0 _ (literals tree) (items_rise tree.items 0 a.formed.shaped.items a.formed.shaped.placed).by,
+  rise_long 0 _ (string_literals tree) (items_rise tree.items 0 a.formed.shaped.items a.formed.shaped.placed).by,
   a.formed.shaped.lines,
   s.few,
 )
@@ -51,7 +51,7 @@ string_long (p ∷ parts) = omega (
 )
 
 -- all strings together have no more bytes than all tokens
-all_bytes : (tree : SourceTree) → sum_by (λ s. length (bytes_of s)) (literals tree) ≤ sum_by kind_text_len (tree_kinds tree)
+all_bytes : (tree : SourceTree) → sum_by (λ s. length (bytes_of s)) (string_literals tree) ≤ sum_by kind_text_len (tree_kinds tree)
 all_bytes tree = items_fewer (λ s. length (bytes_of s)) kind_text_len (λ token parts. string_long parts) tree.items
 
 -- the texts have as many bytes as the strings
@@ -133,24 +133,24 @@ each_small (x ∷ xs) h =
 
 -- a program can have so many texts
 pub few_texts : (tree : SourceTree) (z : Walk) → IsAcceptedTree tree z → IsSited tree → length (facts_of tree z).statics.texts ≤ text_limit
-few_texts tree z a s = omega (arith, few_strings tree z a s, length-map (literals tree) text_of)
+few_texts tree z a s = omega (arith, few_strings tree z a s, length-map (string_literals tree) text_of)
 
 -- and so many bytes together
 pub total_bytes : (tree : SourceTree) (z : Walk) → IsAcceptedTree tree z → sum_by (λ (t : Text). length t.bytes) (facts_of tree z).statics.texts ≤ byte_limit
-total_bytes tree z a = omega (arith, texts_sum (literals tree), all_bytes tree, a.short)
+total_bytes tree z a = omega (arith, texts_sum (string_literals tree), all_bytes tree, a.short)
 
 -- the strings of an accepted text are texts of a program, where its tokens are of bytes
 pub texts_fit : (tree : SourceTree) (z : Walk) → IsAcceptedTree tree z → IsSited tree → AllByRecursion IsOfBytes (tree_kinds tree)
     → AreTexts (facts_of tree z).statics.texts
 texts_fit tree z a s b =
-    let none : sum_by (λ s. large (bytes_of s)) (literals tree) ≡ 0 = omega (
+    let none : sum_by (λ s. large (bytes_of s)) (string_literals tree) ≡ 0 = omega (
       arith,
       items_fewer (λ s. large (bytes_of s)) kind_large (λ token parts. string_large parts) tree.items,
       tokens_none (tree_kinds tree) b,
     ) in
     record {
       few = few_texts tree z a s;
-      bytes = All-map (λ (t : Text). All (λ b. b < 256) t.bytes) text_of (literals tree)
-          (All-from_recursion (λ s. All (λ b. b < 256) (bytes_of s)) (literals tree) (each_small (literals tree) none));
+      bytes = All-map (λ (t : Text). All (λ b. b < 256) t.bytes) text_of (string_literals tree)
+          (All-from_recursion (λ s. All (λ b. b < 256) (bytes_of s)) (string_literals tree) (each_small (string_literals tree) none));
       total = total_bytes tree z a;
     }

@@ -13,7 +13,7 @@ use Rattle.cbi_base.specs.declared.scalar.Scalar.{Scalar}
 use Rattle.cbi_base.specs.declared.scalar.Scalar.TheVariants.{Number, Place, Null, Undefined}
 use Rattle.cbi_base.specs.declared.trap.Trap.{Trap}
 use Rattle.cbi_base.specs.declared.trap.Trap.TheVariants as trap
-use Rattle.cbi_base.specs.Words.{lies_in, applied_to_one, as_number, converted, char_of}
+use Rattle.cbi_base.specs.Words.{lies_in, applied_to_one, as_number, converted_number, char_of}
 use Rattle.c_values.proofs.Ranges.{wrapped-LiesIn}
 use Rattle.c_syntax.specs.declared.expr.PrefixOperator.TheVariants as prefix
 use Rattle.c_syntax.specs.declared.token.TokenKind.{TokenKind}
@@ -27,10 +27,10 @@ use Rattle.c_types_expressions.specs.declared.walk.Walk.{Walk}
 use Rattle.c_meaning.specs.declared.conversion.Conversion.{Conversion}
 use Rattle.c_meaning.specs.declared.conversion.Conversion.TheVariants.{Keep, To, Misfit}
 use Rattle.c_meaning.specs.declared.value_type.ValueType.{ValueType}
-use Rattle.c_meaning.specs.Words.{as_wanted, conversion, converts, is_null_as, Sense, wanted_value, before_all, before_cells, cells_of_structs, constant}
-use Rattle.c_meaning.specs.Words.{constants, given_by, nowhere, spelled_cells, zero_cells, zeros_of, facts_of, Literal, literals, number_from, strings_in, expr}
-use Rattle.c_meaning.specs.Words.{text_of_string, text_place, type_of, Out, Go, Stop, World, answered, bind}
-use Rattle.lower_globals.specs.Cells.{given, negative_given, wanted_given}
+use Rattle.c_meaning.specs.Words.{as_wanted, conversion, conversion_result, is_null_as, Sense, wanted_value, before_all, before_cells, cells_of_structs, constant_value}
+use Rattle.c_meaning.specs.Words.{constant_values, given_by, empty_world, spelled_cells, zero_cells, zeros_of, facts_of, Literal, string_literals, number_from, strings_in, expr}
+use Rattle.c_meaning.specs.Words.{text_of_string, text_place, type_of, Out, Go, Stop, World, answer_or_trap, bind}
+use Rattle.lower_globals.specs.Cells.{given_scalar, negated_if_some, converted_if_some}
 use Rattle.lower_globals.proofs.ConstantLaws.{as_negative}
 use Rattle.c_meaning_laws.specs.TypedText.{GlobalItems, IsConstant}
 use Rattle.c_meaning_sound.proofs.Texts.{Spelled}
@@ -113,8 +113,8 @@ bytes_cells n (b ∷ bytes) = (wrapped-LiesIn kind.Char (pos b), bytes_cells n b
 -- constants
 
 -- what a conversion makes of a value
-converted_cell : (n : Firsts) (c : Conversion) (v : Scalar) → IsCell n v → IfCell n (given (converts c v))
-unfolding converted
+converted_cell : (n : Firsts) (c : Conversion) (v : Scalar) → IsCell n v → IfCell n (given_scalar (conversion_result c v))
+unfolding converted_number
 converted_cell n Keep v h = h
 converted_cell n (To k) (Number from value) h = wrapped-LiesIn k value
 converted_cell n (To k) Undefined h = absurd h
@@ -123,17 +123,17 @@ converted_cell n (To k) Null h = tt
 converted_cell n Misfit v h = tt
 
 -- what a conversion makes of a value, if there is one
-wanted_cell : (n : Firsts) (c : Conversion) (o : Option Scalar) → IfCell n o → IfCell n (wanted_given c o)
+wanted_cell : (n : Firsts) (c : Conversion) (o : Option Scalar) → IfCell n o → IfCell n (converted_if_some c o)
 wanted_cell n c None h = tt
 wanted_cell n c (Some v) h = converted_cell n c v h
 
 -- the negative of an `int`, where it is one
-fitted_cell : (n : Firsts) (value : ℤ) (b : Bool) → lies_in kind.Int value ≡ b → IfCell n (given (as_number kind.Int (if b then Ok value else Err trap.Overflow)))
+fitted_cell : (n : Firsts) (value : ℤ) (b : Bool) → lies_in kind.Int value ≡ b → IfCell n (given_scalar (as_number kind.Int (if b then Ok value else Err trap.Overflow)))
 fitted_cell n value true h = h
 fitted_cell n value false h = tt
 
 -- the negative of a value, if there is one
-negated_cell : (n : Firsts) (o : Option Scalar) → IfCell n o → IfCell n (negative_given o)
+negated_cell : (n : Firsts) (o : Option Scalar) → IfCell n o → IfCell n (negated_if_some o)
 unfolding applied_to_one
 negated_cell n (Some (Number kind.Int value)) h = fitted_cell n (neg_ℤ value) (lies_in kind.Int (neg_ℤ value)) refl
 negated_cell n (Some (Number kind.Unsigned value)) h = wrapped-LiesIn kind.Unsigned (neg_ℤ value)
@@ -141,20 +141,20 @@ negated_cell n (Some Undefined) h = absurd h
 negated_cell n o h = tt
 
 -- what an operation answers
-answered_cell : (n : Firsts) (r : Result Scalar Trap) (w : World) → IfCell n (given r) → IfCell n (given_by (answered r w))
+answered_cell : (n : Firsts) (r : Result Scalar Trap) (w : World) → IfCell n (given_scalar r) → IfCell n (given_by (answer_or_trap r w))
 answered_cell n (Ok v) w h = h
 answered_cell n (Err t) w h = tt
 
 -- a value as one of a type
 bound_cell : (n : Firsts) (o : Out Scalar) (c : Conversion) → IfCell n (given_by o) → IfCell n (given_by (bind o (as_wanted c)))
-bound_cell n (Go v w) c h = answered_cell n (converts c v) w (converted_cell n c v h)
+bound_cell n (Go v w) c h = answered_cell n (conversion_result c v) w (converted_cell n c v h)
 bound_cell n (Stop outcome w) c h = tt
 
 -- the same, or null
-sensed_cell : (n : Firsts) (b : Bool) (own of : Option ValueType) (m : Sense) → IfCell n (given_by (m.value nowhere))
-    → IfCell n (given_by (wanted_value b own of m nowhere))
+sensed_cell : (n : Firsts) (b : Bool) (own of : Option ValueType) (m : Sense) → IfCell n (given_by (m.value empty_world))
+    → IfCell n (given_by (wanted_value b own of m empty_world))
 sensed_cell n true own of m h = tt
-sensed_cell n false own of m h = bound_cell n (m.value nowhere) (conversion own of) h
+sensed_cell n false own of m h = bound_cell n (m.value empty_world) (conversion own of) h
 
 -- the number of a string is this one, or a later one
 number_by : (b : Bool) (k m number : ℕ) (o : Option ℕ) → (if b then Some k else o) ≡ Some number → (o ≡ Some number → number < suc k + m) → number < k + suc m
@@ -191,46 +191,46 @@ alone_given n (Some v) h = ((h, tt), refl)
 module _ (tree : SourceTree) (z : Walk) where
   -- the globals and the strings of the text
   abbrev pub objects_of : Firsts
-  objects_of = record { globals = z.globals; texts = length (literals tree) }
+  objects_of = record { globals = z.globals; texts = length (string_literals tree) }
 
   -- the place of a string
-  placed_cell : (o : Option ℕ) → ((number : ℕ) → o ≡ Some number → number < length (literals tree))
-      → IfCell objects_of (given_by (text_place (facts_of tree z) o nowhere))
+  placed_cell : (o : Option ℕ) → ((number : ℕ) → o ≡ Some number → number < length (string_literals tree))
+      → IfCell objects_of (given_by (text_place (facts_of tree z) o empty_world))
   placed_cell None h = tt
   placed_cell (Some number) h = (refl, omega arith, omega (arith, h number refl))
 
   -- the value of a constant, as one of a type
   pub constant_cell : (of : Option ValueType) (x : ExprTree) → IsConstant (facts_of tree z) x → AllByRecursion KindFits (expr_kinds x)
-      → IfCell objects_of (constant (facts_of tree z) of x)
+      → IfCell objects_of (constant_value (facts_of tree z) of x)
   constant_cell of (e.Constant token k value) h f =
       sensed_cell objects_of (is_null_as of (e.Constant token k value)) (type_of (facts_of tree z) (e.Constant token k value)) of
       (expr (before_all (facts_of tree z)) (e.Constant token k value)) f.0.1
   constant_cell of (e.Prefix token prefix.Minus (e.Constant at k value)) h f =
       let first : Conversion = conversion ((facts_of tree z).type_at at) ((facts_of tree z).type_at token) in
       subst (IfCell objects_of) (sym (as_negative (facts_of tree z) of token at k value))
-      (wanted_cell objects_of (conversion ((facts_of tree z).type_at token) of) (negative_given (given (converts first (Number k value))))
-      (negated_cell objects_of (given (converts first (Number k value))) (converted_cell objects_of first (Number k value) f.1.0.1)))
+      (wanted_cell objects_of (conversion ((facts_of tree z).type_at token) of) (negated_if_some (given_scalar (conversion_result first (Number k value))))
+      (negated_cell objects_of (given_scalar (conversion_result first (Number k value))) (converted_cell objects_of first (Number k value) f.1.0.1)))
   constant_cell of (e.Strings token parts) h f =
       sensed_cell objects_of (is_null_as of (e.Strings token parts)) (type_of (facts_of tree z) (e.Strings token parts)) of
       (expr (before_all (facts_of tree z)) (e.Strings token parts))
-      (placed_cell (number_from 0 token (literals tree)) (λ number q. omega (arith, number_below 0 token (literals tree) number q)))
+      (placed_cell (number_from 0 token (string_literals tree)) (λ number q. omega (arith, number_below 0 token (string_literals tree) number q)))
   constant_cell of (e.Null token) h f =
       sensed_cell objects_of (is_null_as of (e.Null token)) (type_of (facts_of tree z) (e.Null token)) of (expr (before_all (facts_of tree z)) (e.Null token)) tt
   constant_cell of x h f = absurd h
 
   -- the values of several constants
   pub constants_given : (of : Option ValueType) (xs : ExprList) → GlobalItems (facts_of tree z) of xs → AllByRecursion KindFits (exprs_kinds xs)
-      → IfGiven objects_of (items_in xs) (constants (facts_of tree z) of xs)
+      → IfGiven objects_of (items_in xs) (constant_values (facts_of tree z) of xs)
   constants_given of e.no_exprs h f = (tt, refl)
   constants_given of (e.more_exprs x rest) h f =
-      before_given objects_of (items_in rest) (constant (facts_of tree z) of x) (constants (facts_of tree z) of rest)
+      before_given objects_of (items_in rest) (constant_value (facts_of tree z) of x) (constant_values (facts_of tree z) of rest)
       (constant_cell of x h.0 (all_first KindFits (expr_kinds x) (more_exprs_kinds rest) f))
       (constants_given of rest h.2 (rest_kinds KindFits rest (all_second KindFits (expr_kinds x) (more_exprs_kinds rest) f)))
 
   -- the value of one constant, in a cell alone
   pub value_given : (of : Option ValueType) (x : ExprTree) → IsConstant (facts_of tree z) x → AllByRecursion KindFits (expr_kinds x)
-      → IfGiven objects_of 1 (option_map (λ v. v ∷ []) (constant (facts_of tree z) of x))
-  value_given of x h f = alone_given objects_of (constant (facts_of tree z) of x) (constant_cell of x h f)
+      → IfGiven objects_of 1 (option_map (λ v. v ∷ []) (constant_value (facts_of tree z) of x))
+  value_given of x h f = alone_given objects_of (constant_value (facts_of tree z) of x) (constant_cell of x h f)
 
   -- the bytes of a string, without its closing zero
   pub text_given : (x : ExprTree) → AllByRecursion (Spelled tree) (strings_in x) → IfGiven objects_of (bytes_in x) (spelled_cells (text_of_string (facts_of tree z) x))

@@ -14,14 +14,14 @@ use Rattle.c_syntax.specs.declared.token.Word.TheVariants as word
 use Rattle.c_syntax.specs.ExprTree as e
 use Rattle.c_syntax.specs.Words.{ExprTree, ExprList, LinkList, PostfixList, InitialTree, StartTree, DeclarationTree, ForStartTree, StatementTree, EntryList}
 use Rattle.c_syntax.specs.Words.{ItemTree, SourceTree, Kinds, a_name, a_sign, a_word, after_commas, base_kinds, body_kinds, bound_kinds, declaration_kinds}
-use Rattle.c_syntax.specs.Words.{declarator_kinds, entry_kinds, expr_kinds, for_start_kinds, item_kinds, optional, param_kinds, param_name_kinds, params_kinds}
-use Rattle.c_syntax.specs.Words.{parenthesized, start_kinds, statement_kinds, type_kinds, with_commas}
+use Rattle.c_syntax.specs.Words.{declarator_kinds, entry_kinds, expr_kinds, for_start_kinds, item_kinds, optional_kinds, param_kinds, param_name_kinds, params_kinds}
+use Rattle.c_syntax.specs.Words.{parenthesized_kinds, start_kinds, statement_kinds, type_kinds, with_commas}
 use Rattle.c_syntax.specs.StatementTree as s
 use Rattle.c_syntax.specs.ItemTree as item
 use Rattle.c_types_expressions.specs.declared.walk.Definition.{Definition}
 use Rattle.c_types_expressions.specs.declared.walk.Walk.{Walk}
 use Rattle.c_types_walk.specs.ItemWalk.{listed_params}
-use Rattle.c_types.specs.Numbers.{frame, frames_from, locals_behind, variables_in}
+use Rattle.c_types.specs.Numbers.{definition_frame, frames_from, locals_behind, variables_in}
 use Rattle.c_types.specs.Parts.{Part, Expression, Use, Declared, Begins, declaration_parts, entries_parts, expr_parts, exprs_parts, for_start_parts}
 use Rattle.c_types.specs.Parts.{initial_parts, item_parts, links_parts, named_parts, optional_parts, params_parts, postfix_parts, starts_parts, statement_parts}
 use Rattle.c_types.proofs.FunctionLaws.{frames_are}
@@ -174,31 +174,31 @@ mutual
   stated_fewer (s.Expr token x) = quiet_fewer (expr_parts x) (statement_kinds (s.Expr token x)) (expr_quiet x)
   stated_fewer (s.If token c first) =
       quiet_first (expr_parts c) (statement_parts first) (statement_kinds (s.If token c first)) (expr_quiet c)
-      (before one_local one_token (statement_parts first) (a_word word.If ++ parenthesized (expr_kinds c)) (statement_kinds first) (stated_fewer first))
+      (before one_local one_token (statement_parts first) (a_word word.If ++ parenthesized_kinds (expr_kinds c)) (statement_kinds first) (stated_fewer first))
   stated_fewer (s.IfElse token c first second) =
-      let head : Kinds = a_word word.If ++ parenthesized (expr_kinds c) in
+      let head : Kinds = a_word word.If ++ parenthesized_kinds (expr_kinds c) in
       quiet_first (expr_parts c) (statement_parts first ++ statement_parts second) (statement_kinds (s.IfElse token c first second)) (expr_quiet c)
       (join one_local one_token (statement_parts first) (statement_parts second) (head ++ statement_kinds first ++ a_word word.Else) (statement_kinds second)
       (between one_local one_token (statement_parts first) head (statement_kinds first) (a_word word.Else) (stated_fewer first)) (stated_fewer second))
   stated_fewer (s.While token c body) =
       quiet_first (expr_parts c) (statement_parts body) (statement_kinds (s.While token c body)) (expr_quiet c)
-      (before one_local one_token (statement_parts body) (a_word word.While ++ parenthesized (expr_kinds c)) (statement_kinds body) (stated_fewer body))
+      (before one_local one_token (statement_parts body) (a_word word.While ++ parenthesized_kinds (expr_kinds c)) (statement_kinds body) (stated_fewer body))
   stated_fewer (s.Do token body c) =
       let head : Kinds = a_word word.Do ++ statement_kinds body ++ a_word word.While in
       quiet_second (statement_parts body) (expr_parts c) (statement_kinds (s.Do token body c))
-      (behind one_local one_token (statement_parts body) (head ++ parenthesized (expr_kinds c)) (a_sign sign.Semicolon)
-      (behind one_local one_token (statement_parts body) head (parenthesized (expr_kinds c))
+      (behind one_local one_token (statement_parts body) (head ++ parenthesized_kinds (expr_kinds c)) (a_sign sign.Semicolon)
+      (behind one_local one_token (statement_parts body) head (parenthesized_kinds (expr_kinds c))
       (between one_local one_token (statement_parts body) (a_word word.Do) (statement_kinds body) (a_word word.While) (stated_fewer body)))) (expr_quiet c)
   stated_fewer (s.For token start c step body) =
-      let two : Kinds = for_start_kinds start ++ optional expr_kinds c in
-      let head : Kinds = two ++ a_sign sign.Semicolon ++ optional expr_kinds step in
+      let two : Kinds = for_start_kinds start ++ optional_kinds expr_kinds c in
+      let head : Kinds = two ++ a_sign sign.Semicolon ++ optional_kinds expr_kinds step in
       join one_local one_token (for_start_parts start) (optional_parts c ++ (optional_parts step ++ statement_parts body))
-      (a_word word.For ++ parenthesized head) (statement_kinds body)
-      (before one_local one_token (for_start_parts start) (a_word word.For) (parenthesized head)
+      (a_word word.For ++ parenthesized_kinds head) (statement_kinds body)
+      (before one_local one_token (for_start_parts start) (a_word word.For) (parenthesized_kinds head)
       (enclosed one_local one_token (for_start_parts start) head
-      (behind one_local one_token (for_start_parts start) (two ++ a_sign sign.Semicolon) (optional expr_kinds step)
+      (behind one_local one_token (for_start_parts start) (two ++ a_sign sign.Semicolon) (optional_kinds expr_kinds step)
       (behind one_local one_token (for_start_parts start) two (a_sign sign.Semicolon)
-      (behind one_local one_token (for_start_parts start) (for_start_kinds start) (optional expr_kinds c) (begun_fewer start))))))
+      (behind one_local one_token (for_start_parts start) (for_start_kinds start) (optional_kinds expr_kinds c) (begun_fewer start))))))
       (quiet_first (optional_parts c) (optional_parts step ++ statement_parts body) (statement_kinds body) (option_quiet c)
       (quiet_first (optional_parts step) (statement_parts body) (statement_kinds body) (option_quiet step) (stated_fewer body)))
   stated_fewer (s.Return token value) = quiet_fewer (optional_parts value) (statement_kinds (s.Return token value)) (option_quiet value)
@@ -213,14 +213,14 @@ mutual
       (stated_fewer x) (entered_fewer rest)
 
 -- parameters
-named_fewer : (o : Option ParamName) → Fewer (named_parts o) (optional param_name_kinds o)
+named_fewer : (o : Option ParamName) → Fewer (named_parts o) (optional_kinds param_name_kinds o)
 named_fewer None = nothing one_local one_token []
-named_fewer (Some n) = omega (arith, ones (param_name_kinds n), length-append (a_name n.name) (optional bound_kinds n.bound))
+named_fewer (Some n) = omega (arith, ones (param_name_kinds n), length-append (a_name n.name) (optional_kinds bound_kinds n.bound))
 
 -- a parameter
 param_fewer : (p : Param) → Fewer (named_parts p.name) (param_kinds p)
 param_fewer p =
-    before one_local one_token (named_parts p.name) (type_kinds p.base p.stars) (optional param_name_kinds p.name) (named_fewer p.name)
+    before one_local one_token (named_parts p.name) (type_kinds p.base p.stars) (optional_kinds param_name_kinds p.name) (named_fewer p.name)
 
 -- parameters behind a comma each
 params_fewer : (ps : List Param) → Fewer (params_parts ps) (after_commas param_kinds ps)
@@ -260,8 +260,8 @@ frames_fewer at (item.Function token b stars name ps (Some body) ∷ xs) =
     let x : ItemTree = item.Function token b stars name ps (Some body) in
     let head : Kinds = type_kinds b stars ++ a_name name in
     let own : Fewer (params_parts (listed_params ps) ++ entries_parts body) (item_kinds x) =
-    join one_local one_token (params_parts (listed_params ps)) (entries_parts body) (head ++ parenthesized (params_kinds ps)) (body_kinds (Some body))
-    (before one_local one_token (params_parts (listed_params ps)) head (parenthesized (params_kinds ps))
+    join one_local one_token (params_parts (listed_params ps)) (entries_parts body) (head ++ parenthesized_kinds (params_kinds ps)) (body_kinds (Some body))
+    (before one_local one_token (params_parts (listed_params ps)) head (parenthesized_kinds (params_kinds ps))
     (enclosed one_local one_token (params_parts (listed_params ps)) (params_kinds ps) (listed_fewer ps)))
     (between one_local one_token (entries_parts body) (a_sign sign.LeftBrace) (entry_kinds body) (a_sign sign.RightBrace) (entered_fewer body)) in
     let rest : List (ℕ × ℕ) = frames_from (at + variables_in (item_parts x)) xs in
@@ -282,9 +282,9 @@ frames_fewer at (item.Declaration d ∷ xs) = omega (
 )
 
 -- definitions have as many locals as their frames
-counts_sum : (ds : List Definition) → sum_by count_of ds ≡ sum_by count_in (map frame ds)
+counts_sum : (ds : List Definition) → sum_by count_of ds ≡ sum_by count_in (map definition_frame ds)
 counts_sum [] = refl
-counts_sum (d ∷ ds) = sum_by-cons count_of d ds ∙ ap (λ n. d.count + n) (counts_sum ds) ∙ sym (sum_by-cons count_in (frame d) (map frame ds))
+counts_sum (d ∷ ds) = sum_by-cons count_of d ds ∙ ap (λ n. d.count + n) (counts_sum ds) ∙ sym (sum_by-cons count_in (definition_frame d) (map definition_frame ds))
 
 -- a program can have so many locals together
 pub locals_together : (tree : SourceTree) (z : Walk) → IsAcceptedTree tree z → IsSited tree → sum_by count_of z.definitions ≤ local_limit

@@ -20,7 +20,7 @@ use Rattle.c_types_rules.specs.Words.{TypeTree, member_named, cells_of, empty_st
 use Rattle.c_types_rules.specs.Sizes as size
 use Rattle.c_types_expressions.specs.declared.walk.Walk.{Walk}
 use Rattle.c_types_walk.specs.Declarators.{declared_type}
-use Rattle.c_types_expressions.specs.Words.{base_type, beginning, is_here, Walked, Done, Fine, Faulty}
+use Rattle.c_types_expressions.specs.Words.{base_type, empty_walk, is_here, Walked, Done, Fine, Faulty}
 use Rattle.c_types.specs.Fault.{walk_tree}
 use Rattle.c_types_walk.specs.ItemWalk.{typed_member, walk_declarators, walk_item, walk_items, walk_member, walk_members, walk_struct, with_tag}
 use Rattle.c_types.specs.Laid.{member_cells}
@@ -201,6 +201,6 @@ items_stay (x ∷ xs) w =
 -- each type of a text without a fault has as many zeros as cells
 pub zeros_long : (tree : SourceTree) (z : Walk) → walk_tree tree ≡ Fine tt z → (of : TypeTree) → length (zeros_of z.structs of) ≡ cells_of z.structs of
 zeros_long tree z walked of =
-    let w : Walk = beginning (length tree.lines) in
+    let w : Walk = empty_walk (length tree.lines) in
     type_long (cells_of_structs z.structs []) z.structs
     (taken (λ _ v. StaysZeroed w v) (walk_items tree.items w) tt z (items_stay tree.items w) (tree_is tree z walked).items refl) of

@@ -6,7 +6,7 @@ use Rattle.flow.specs.declared.scope.Bounds.{Bounds}
 use Rattle.flow.specs.declared.scope.Names.{Names}
 use Rattle.c_meaning.specs.declared.value_type.ValueType.TheVariants as type
 use Rattle.c_meaning.specs.Facts.{Facts, Signature}
-use Rattle.c_meaning_laws.specs.Example.{example, example_body, example_facts}
+use Rattle.c_meaning_laws.specs.Example.{example_source, example_body, example_facts}
 use Rattle.lower_fits.specs.Fitting.{FitsAsBody}
 
 abbrev pub main_signature : Signature
@@ -25,4 +25,4 @@ main_bounds = record { function = 0; locals = 1; nodes = 0 }
 
 -- the first token of its body is the seventh one
 abbrev pub ExampleFits : Type 0
-ExampleFits = FitsAsBody main_facts example.sites main_names main_bounds main_signature 6 example_body
+ExampleFits = FitsAsBody main_facts example_source.sites main_names main_bounds main_signature 6 example_body

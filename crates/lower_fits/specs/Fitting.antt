@@ -36,8 +36,8 @@ fits_view names bounds (view.Exports next) = false
 fits_view names bounds view.Nowhere = false
 
 -- the part of a graph whose nodes may stand there
-abbrev pub fitting : Names → Bounds → Graph → Graph
-fitting names bounds G i v = G i v × IsTrue (fits_view names bounds v)
+abbrev pub fitting_subgraph : Names → Bounds → Graph → Graph
+fitting_subgraph names bounds G i v = G i v × IsTrue (fits_view names bounds v)
 
 -- the strings that may be named have the conversions of the text's strings
 abbrev pub TextsNamed : Facts → Names → Type 0

@@ -4,7 +4,7 @@ ghost use Rattle.c_types_rules.specs.declared.operand.Operand.{Operand};
 ghost use Rattle.c_types_rules.specs.Words.{value_type, is_complete, TypeTree, Array, Pointer};
 ghost use Rattle.c_types.specs.Answers.{type_at};
 ghost use Rattle.c_types_expressions.specs.declared.walk.Walk.{Walk};
-ghost use Rattle.c_meaning.specs.Known.{bodies, element_cells, facts_of};
+ghost use Rattle.c_meaning.specs.Known.{function_bodies, element_cells, facts_of};
 ghost use Rattle.flow.specs.declared.site.Site.{Site};
 ghost use Rattle.flow.specs.declared.choice.Schemes.{Schemes};
 ghost use Rattle.sites.specs.Table.{sites_of};
@@ -23,9 +23,9 @@ pub fn facts_of_an_accepted_text_fit()
 /// the text for any schemes, and without sites.
 pub fn bodies_own_their_sites()
     ensures table { (tree : SourceTree) (walk : Walk) (schemes : Schemes) (number : ℕ) (body : EntryList) → IsAcceptedTree tree walk
-        → slice_get (bodies tree) number ≡ Some body → BodyOwns (sites_of tree walk schemes) number body }
+        → slice_get (function_bodies tree) number ≡ Some body → BodyOwns (sites_of tree walk schemes) number body }
     ensures plain { (tree : SourceTree) (walk : Walk) (number : ℕ) (body : EntryList) → IsAcceptedTree tree walk
-        → slice_get (bodies tree) number ≡ Some body → BodyOwns [] number body }
+        → slice_get (function_bodies tree) number ≡ Some body → BodyOwns [] number body }
 {}
 
 /// Where the rules let a pointer be moved, it points to an object of at least one cell: no type that was noted at a token of an accepted text

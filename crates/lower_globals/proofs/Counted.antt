@@ -10,7 +10,7 @@ use Rattle.c_syntax.specs.Words.{SourceTree}
 use Rattle.c_syntax.specs.StatementTree as s
 use Rattle.c_syntax.specs.ItemTree as i
 use Rattle.c_types_expressions.specs.declared.walk.Walk.{Walk}
-use Rattle.c_types_expressions.specs.Words.{beginning, Fine}
+use Rattle.c_types_expressions.specs.Words.{empty_walk, Fine}
 use Rattle.c_types.specs.Fault.{walk_tree}
 use Rattle.c_types_walk.specs.ItemWalk.{listed_params}
 use Rattle.c_types.specs.Parts.{Part, Expression, Use, Declared, Begins, entries_parts, expr_parts, exprs_parts, for_start_parts, initial_parts, item_parts, items_parts, links_parts, named_parts, optional_parts, params_parts, parts_of, postfix_parts, starts_parts, statement_parts}
@@ -153,4 +153,4 @@ in_items (x ∷ xs) =
 
 pub globals_are : (t : SourceTree) (w : Walk) → walk_tree t ≡ Fine tt w → w.globals ≡ length (flat_map starts_of t.items)
 globals_are t w is =
-    ap (λ (s : Seen). s.globals) (text_notes t w is).0 ∙ noted_globals (parts_of t) (plainly (seen (beginning (length t.lines)))) ∙ ap (λ n. 0 + n) (in_items t.items) ∙ omega arith
+    ap (λ (s : Seen). s.globals) (text_notes t w is).0 ∙ noted_globals (parts_of t) (plainly (seen (empty_walk (length t.lines)))) ∙ ap (λ n. 0 + n) (in_items t.items) ∙ omega arith

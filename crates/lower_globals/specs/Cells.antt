@@ -6,24 +6,24 @@ use Rattle.cbi_base.specs.declared.scalar.Scalar.{Scalar}
 use Rattle.cbi_base.specs.declared.trap.Trap.{Trap}
 use Rattle.cbi_base.specs.Scalars.{applied_to_one}
 use Rattle.c_meaning.specs.declared.conversion.Conversion.{Conversion}
-use Rattle.c_meaning.specs.Conversions.{converts}
+use Rattle.c_meaning.specs.Conversions.{conversion_result}
 
 -- what an operation gives, if it gives anything
-abbrev pub given : Result Scalar Trap → Option Scalar
-given (Ok v) = Some v
-given (Err t) = None
+abbrev pub given_scalar : Result Scalar Trap → Option Scalar
+given_scalar (Ok v) = Some v
+given_scalar (Err t) = None
 
-abbrev pub wanted_given : Conversion → Option Scalar → Option Scalar
-wanted_given c None = None
-wanted_given c (Some v) = given (converts c v)
+abbrev pub converted_if_some : Conversion → Option Scalar → Option Scalar
+converted_if_some c None = None
+converted_if_some c (Some v) = given_scalar (conversion_result c v)
 
-abbrev pub negative_given : Option Scalar → Option Scalar
-negative_given None = None
-negative_given (Some v) = given (applied_to_one Neg v)
+abbrev pub negated_if_some : Option Scalar → Option Scalar
+negated_if_some None = None
+negated_if_some (Some v) = given_scalar (applied_to_one Neg v)
 
 -- the negative of a value that is converted before and after
-abbrev pub negative : Conversion → Conversion → Scalar → Option Scalar
-negative first second v = wanted_given second (negative_given (given (converts first v)))
+abbrev pub negated_constant : Conversion → Conversion → Scalar → Option Scalar
+negated_constant first second v = converted_if_some second (negated_if_some (given_scalar (conversion_result first v)))
 
 -- the cells behind others, where there are any
 abbrev pub with_before : List Scalar → Option (List Scalar) → Option (List Scalar)

@@ -6,8 +6,8 @@ use Rattle.c_types_rules.specs.declared.layout.Member.{Member}
 use Rattle.c_meaning.specs.Globals.{zero_cells}
 
 -- the cells, so many times
-abbrev pub repeated : ℕ → List Scalar → List Scalar
-repeated count cells = flat_map (λ cells. cells) (replicate count cells)
+abbrev pub cells_repeated : ℕ → List Scalar → List Scalar
+cells_repeated count cells = flat_map (λ cells. cells) (replicate count cells)
 
 -- zeros in the cells of several members
 abbrev pub member_zeros : List (List Scalar) → List Member → List Scalar

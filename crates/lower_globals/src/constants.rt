@@ -3,8 +3,8 @@ ghost use Rattle.cbi_base.specs.Scalars.{IsInRange, applied_to_one};
 ghost use Rattle.cbi_base.specs.declared.operators.Unary.TheVariants.{Neg};
 ghost use Rattle.c_syntax.specs.declared.expr.PrefixOperator.TheVariants.{Minus};
 ghost use Rattle.c_syntax.specs.Words.{Prefix, plain_expr};
-ghost use Rattle.c_meaning.specs.Words.{converts, constant};
-ghost use Rattle.lower_globals.specs.Cells.{given, negative};
+ghost use Rattle.c_meaning.specs.Words.{conversion_result, constant_value};
+ghost use Rattle.lower_globals.specs.Cells.{given_scalar, negated_constant};
 ghost use Rattle.lower_globals.specs.Starts.{IsStart};
 ghost use Rattle.lower_facts.specs.Facts.{facts_in};
 
@@ -18,7 +18,7 @@ use lower_trees::is_null_as;
 /// What a value gives where one of another type is wanted, if it gives anything.
 fn wanted(conversion: Conversion, value: Scalar) -> Option<Scalar>
     requires { IsInRange value }
-    ensures value { result ≡ given (converts conversion value) }
+    ensures value { result ≡ given_scalar (conversion_result conversion value) }
     ensures in_range { IfSome result IsInRange }
 {
     match conversion {
@@ -34,7 +34,7 @@ fn wanted(conversion: Conversion, value: Scalar) -> Option<Scalar>
 /// The negative of a value, if it has one.
 fn negated(value: Scalar) -> Option<Scalar>
     requires { IsInRange value }
-    ensures value { result ≡ given (applied_to_one Neg value) }
+    ensures value { result ≡ given_scalar (applied_to_one Neg value) }
     ensures in_range { IfSome result IsInRange }
 {
     match apply_unary(Unary::Neg, value) {
@@ -46,7 +46,7 @@ fn negated(value: Scalar) -> Option<Scalar>
 /// The negative of a value that is converted before and after.
 fn negative(first: Conversion, second: Conversion, value: Scalar) -> Option<Scalar>
     requires { IsInRange value }
-    ensures { result ≡ negative first second value }
+    ensures { result ≡ negated_constant first second value }
 {
     match wanted(first, value) {
         None => None,
@@ -60,7 +60,7 @@ fn negative(first: Conversion, second: Conversion, value: Scalar) -> Option<Scal
 /// A constant behind a `-`, as a value of the wanted type.
 fn minus(facts: &TreeFacts<'_>, of: Option<ValueType>, token: u32, operand: &Expr) -> Option<Scalar>
     requires { IsStart (Prefix token Minus (plain_expr operand.now)) }
-    ensures { result ≡ constant (facts_in facts.now) of (Prefix token Minus (plain_expr operand.now)) }
+    ensures { result ≡ constant_value (facts_in facts.now) of (Prefix token Minus (plain_expr operand.now)) }
 {
     let Expr::Constant {
         token: inner,
@@ -82,7 +82,7 @@ fn minus(facts: &TreeFacts<'_>, of: Option<ValueType>, token: u32, operand: &Exp
 /// What a constant that initialises a global gives to one of the type, if it gives anything.
 pub(crate) fn constant(facts: &TreeFacts<'_>, of: Option<ValueType>, expr: &Expr) -> Option<Scalar>
     requires { IsStart (plain_expr expr.now) }
-    ensures { result ≡ constant (facts_in facts.now) of (plain_expr expr.now) }
+    ensures { result ≡ constant_value (facts_in facts.now) of (plain_expr expr.now) }
 {
     if is_null_as(of, expr) {
         return Some(Scalar::Null);

@@ -2,7 +2,7 @@ ghost use Rattle.std.specs.Prelude.{◌≡◌, ◌∷◌, [], Some, IfOk, map, o
 ghost use Rattle.std.specs.Option.{option_copied};
 ghost use Rattle.c_syntax.specs.Plain.{plain_expr, plain_exprs, plain_initial};
 ghost use Rattle.cbi_base.specs.Scalars.{char_of};
-ghost use Rattle.c_meaning.specs.Words.{constant, constants, given_to, spelled_cells, text_of_string};
+ghost use Rattle.c_meaning.specs.Words.{constant_value, constant_values, given_to, spelled_cells, text_of_string};
 ghost use Rattle.lower_facts.specs.Facts.{facts_in};
 ghost use Rattle.lower_globals.specs.Starts.{AreStarts, IsGlobalStart, IsStart};
 
@@ -17,7 +17,7 @@ use lower_facts::TreeFacts;
 use std::alloc::Global;
 
 /// A byte as a `char`.
-#[tactic(auto, unfolding(cbi_base::specs::Scalars::converted))]
+#[tactic(auto, unfolding(cbi_base::specs::Scalars::converted_number))]
 fn char_of(byte: u8) -> Scalar
     ensures { result ≡ char_of byte }
 {
@@ -50,7 +50,7 @@ fn constants(
     items: &[Expr],
 ) -> Result<Option<Seq<Scalar>>, Memory>
     requires { AreStarts (plain_exprs items.now) }
-    ensures { IfOk result (λ cells. cells ≡ constants (facts_in facts.now) of (plain_exprs items.now)) }
+    ensures { IfOk result (λ cells. cells ≡ constant_values (facts_in facts.now) of (plain_exprs items.now)) }
 {
     let mut cells = Vec::new(alloc);
     for item in items {
@@ -94,7 +94,7 @@ fn one_constant(
     value: &Expr,
 ) -> Result<Option<Seq<Scalar>>, Memory>
     requires { IsStart (plain_expr value.now) }
-    ensures { IfOk result (λ cells. cells ≡ option_map (λ v. v ∷ []) (constant (facts_in facts.now) (Some of) (plain_expr value.now))) }
+    ensures { IfOk result (λ cells. cells ≡ option_map (λ v. v ∷ []) (constant_value (facts_in facts.now) (Some of) (plain_expr value.now))) }
 {
     match constant(facts, Some(of), value) {
         None => Ok(None),

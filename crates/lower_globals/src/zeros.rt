@@ -1,7 +1,7 @@
 ghost use Rattle.std.specs.Prelude.{◌≡◌, ◌∷◌, [], IfOk, drop, slice_get, unwrap_or};
 ghost use Rattle.c_types_rules.specs.Plain.{plain_type};
 ghost use Rattle.c_meaning.specs.Globals.{cells_of_structs, filled_up, zero_cells};
-ghost use Rattle.lower_globals.specs.Zeros.{member_zeros, repeated};
+ghost use Rattle.lower_globals.specs.Zeros.{member_zeros, cells_repeated};
 
 use c_types_rules::{CType, Member, StructType};
 use cbi_base::{Kind, Memory, Scalar, Seq};
@@ -19,7 +19,7 @@ pub(crate) fn one(alloc: Global, value: Scalar) -> Result<Seq<Scalar>, Memory>
 /// The cells, so many times.
 #[tactic(auto, using(crate::proofs::Zeroed::once_more))]
 fn repeated(alloc: Global, count: u32, element: &[Scalar]) -> Result<Seq<Scalar>, Memory>
-    ensures { IfOk result (λ cells. cells ≡ repeated count element.now) }
+    ensures { IfOk result (λ cells. cells ≡ cells_repeated count element.now) }
 {
     let mut cells = Vec::new(alloc);
     for _ in 0..count {

@@ -12,10 +12,10 @@ use Rattle.flow.specs.declared.node.View.TheVariants as view
 use Rattle.flow.specs.Words.{view_at, is_again, led_to, view as view_of}
 use Rattle.lower_relation.specs.Paths as paths
 use Rattle.lower_relation.specs.Paths.{Graph, Path, Ways, ◌then◌, Either, Nothing}
-use Rattle.lower_relation.specs.Functions.{standing}
+use Rattle.lower_relation.specs.Functions.{graph_of_nodes}
 use Rattle.lower_nodes.specs.Ends.{AllBelow, Any, no_ends}
-use Rattle.lower_nodes.specs.Made.{Later, LeadBack, LeadsBack, Made, MadeAlone, MadeTo, MadeWays, GraphPath, CameOut}
-use Rattle.lower_nodes.specs.Standing.{AllLike, AllStand, Allowed, Like, Allowance, StandsRightly, Stood, bare, fork_at, forks, may_visit}
+use Rattle.lower_nodes.specs.Made.{Later, LeadBack, LeadsBack, Made, MadeAlone, MadeTo, MadeWays, GraphPath, IsEmittedNode}
+use Rattle.lower_nodes.specs.Standing.{AllLike, AllStand, Allowed, Like, Allowance, StandsRightly, PartStands, view_without_successors, fork_at, is_fork, may_visit}
 
 pub later_trans : (lo lo' : ℕ) (a b fin : List Node) → lo ≤ lo' → Later 0 a b → Later lo b fin → Later lo' a fin
 later_trans lo lo' a b fin le f g = record {
@@ -39,7 +39,7 @@ later_put : (old : List Node) (x : Node) → Later 0 old (old ++ x ∷ [])
 later_put old x = record { longer = omega (arith, length-append old (x ∷ [])); same = λ j low high. slice_append old (x ∷ []) j high }
 
 -- the node that was put stands in every later graph
-stands_put : (old : List Node) (x : Node) (fin : List Node) (v : View) → view_of x ≡ v → Later (length old) (old ++ x ∷ []) fin → standing fin (length old) v
+stands_put : (old : List Node) (x : Node) (fin : List Node) (v : View) → view_of x ≡ v → Later (length old) (old ++ x ∷ []) fin → graph_of_nodes fin (length old) v
 stands_put old x fin v e l =
     ap (option_map view_of) (l.same (length old) (omega arith) (omega (arith, length-append old (x ∷ []))) ∙ slice_end old x) ∙ ap (λ y. Some y) e
 
@@ -78,12 +78,12 @@ one_back old x leads = record {
 }
 
 -- what was there stands still
-pub stays_put : (a : List Node) (k : ℕ) → AllBelow (length a) (k ∷ []) → CameOut (length a) a k
+pub stays_put : (a : List Node) (k : ℕ) → AllBelow (length a) (k ∷ []) → IsEmittedNode (length a) a k
 stays_put a k below = record { inside = below.0; back = none_back a }
 
-fork_by : (a b : List Node) (n : ℕ) (x : Option Node) → Later 0 a b → slice_get a n ≡ x → forks (view_at x) ≡ true → fork_at b n ≡ true
+fork_by : (a b : List Node) (n : ℕ) (x : Option Node) → Later 0 a b → slice_get a n ≡ x → is_fork (view_at x) ≡ true → fork_at b n ≡ true
 fork_by a b n None later at e = absurd (false≢true e)
-fork_by a b n (Some x) later at e = ap (λ o. forks (view_at o)) (later.same n (omega arith) (slice_get_within a n x at) ∙ at) ∙ e
+fork_by a b n (Some x) later at e = ap (λ o. is_fork (view_at o)) (later.same n (omega arith) (slice_get_within a n x at) ∙ at) ∙ e
 
 -- where more nodes are put, forks stay forks
 pub fork_more : (a b : List Node) (n : ℕ) → Later 0 a b → fork_at a n ≡ true → fork_at b n ≡ true
@@ -125,14 +125,14 @@ likes_more s a b (x ∷ xs) [] later h = absurd h
 likes_more s a b (x ∷ xs) (y ∷ ys) later h = (like_more s a b x y later h.0, likes_more s a b xs ys later h.1)
 
 -- no node was put
-pub stood_put : (s : Allowance) (a : List Node) (k j : ℕ) → Like s a k j → Stood s (length a) a k j
+pub stood_put : (s : Allowance) (a : List Node) (k j : ℕ) → Like s a k j → PartStands s (length a) a k j
 stood_put s a k j like = record { all = none_stand s a; like = like }
 
 -- a node with the first view stands rightly where one with the second one is allowed
 pub record Resembles (s : Allowance) (nodes : List Node) (v w : View) : Type 0 where
-  pub same : bare w ≡ bare v
+  pub same : view_without_successors w ≡ view_without_successors v
   pub visits : IsTrue (may_visit s.frees s.forks_at w) → IsTrue (may_visit s.frees (fork_at nodes) v)
-  pub fork : forks w ≡ true → forks v ≡ true
+  pub fork : is_fork w ≡ true → is_fork v ≡ true
 
 -- a visit does, where it goes on at a fork if that one does
 pub visit_resembles : (s : Allowance) (nodes : List Node) (site k l : ℕ) → Like s nodes k l → Resembles s nodes (view.Marks site k) (view.Marks site l)
@@ -143,7 +143,7 @@ visit_resembles s nodes site k l like = record {
 }
 
 -- one node was put
-one_stood : (s : Allowance) (old : List Node) (x : Node) (v w : View) (j : ℕ) → view_of x ≡ v → Resembles s old v w → Allowed s j w → Stood s (length old) (old ++ x ∷ []) (length old) j
+one_stood : (s : Allowance) (old : List Node) (x : Node) (v w : View) (j : ℕ) → view_of x ≡ v → Resembles s old v w → Allowed s j w → PartStands s (length old) (old ++ x ∷ []) (length old) j
 one_stood s old x v w j e like h =
     let fin : List Node = old ++ x ∷ [] in
     let here : StandsRightly s fin v = record {
@@ -158,7 +158,7 @@ one_stood s old x v w j e like h =
             let same : y ≡ x = cc in
             subst (λ z. StandsRightly s fin (view_of z)) (sym same) (subst (λ u. StandsRightly s fin u) (sym e) here);
       };
-      like = λ f. ap (λ o. forks (view_at o)) (slice_end old x) ∙ ap forks e ∙ like.fork (h.turns f);
+      like = λ f. ap (λ o. is_fork (view_at o)) (slice_end old x) ∙ ap is_fork e ∙ like.fork (h.turns f);
     }
 
 -- one node, whatever its view
@@ -197,12 +197,12 @@ then_made R S n0 n1 n2 i m k s r = record {
   );
   keeps = later_trans 0 0 n0 n1 n2 (omega arith) s.keeps r.keeps;
   leads = λ below.
-      let second : CameOut (length n0) n1 m = s.leads below in
-      let first : CameOut (length n1) n2 i = r.leads (second.inside, tt) in
+      let second : IsEmittedNode (length n0) n1 m = s.leads below in
+      let first : IsEmittedNode (length n1) n2 i = r.leads (second.inside, tt) in
       record { inside = first.inside; back = back_both (length n0) n1 n2 second.back r.keeps first.back };
   stands = λ p j l same like h.
-      let second : Stood p (length n0) n1 m h.0 = s.stands p h.0 l same like h.2 in
-      let first : Stood p (length n1) n2 i j = r.stands p j h.0 tt (second.like, tt) h.1 in
+      let second : PartStands p (length n0) n1 m h.0 = s.stands p h.0 l same like h.2 in
+      let first : PartStands p (length n1) n2 i j = r.stands p j h.0 tt (second.like, tt) h.1 in
       record { all = both_stand p (length n0) n1 n2 second.all r.keeps first.all; like = first.like };
 }
 
@@ -222,7 +222,7 @@ pub carried : {K L : Type 0} → {f : K → List ℕ} → {g : L → List ℕ} �
     ((p : Allowance) (n : List Node) (j : ℕ) (m : L) → SameL l m → AllLike p n (g l) (g m) → S (Allowed p) j m → (q : K) × SameK k q × AllLike p n (f k) (f q) × R (Allowed p) j q) →
     (old new : List Node) (i : ℕ) → MadeTo f SameK R old new i k → MadeTo g SameL S old new i l
 carried R S k l into ends back old new i made = record {
-  does = λ fin later. into (standing fin) i (made.does fin later);
+  does = λ fin later. into (graph_of_nodes fin) i (made.does fin later);
   keeps = made.keeps;
   leads = λ below. made.leads (ends (length old) below);
   stands = λ p j m same like h. let b = back p old j m same like h in made.stands p j b.0 b.1 b.2 b.3;
@@ -274,12 +274,12 @@ joined_made {h = h} R S first second n0 n1 n2 i m t below_second below_first lik
   );
   keeps = later_trans 0 0 n0 n1 n2 (omega arith) s.keeps r.keeps;
   leads = λ below.
-      let last : CameOut (length n0) n1 m = s.leads (below_second (length n0) below) in
-      let start : CameOut (length n1) n2 i = r.leads (below_first (length n1) (below_more (length n0) (length n1) (h t) s.keeps.longer below) last.inside) in
+      let last : IsEmittedNode (length n0) n1 m = s.leads (below_second (length n0) below) in
+      let start : IsEmittedNode (length n1) n2 i = r.leads (below_first (length n1) (below_more (length n0) (length n1) (h t) s.keeps.longer below) last.inside) in
       record { inside = start.inside; back = back_both (length n0) n1 n2 last.back r.keeps start.back };
   stands = λ p j u same like done.
-      let last : Stood p (length n0) n1 m done.0 = s.stands p done.0 (second u) tt (like_second p n0 u like) done.2 in
-      let start : Stood p (length n1) n2 i j =
+      let last : PartStands p (length n0) n1 m done.0 = s.stands p done.0 (second u) tt (like_second p n0 u like) done.2 in
+      let start : PartStands p (length n1) n2 i j =
       r.stands p j (first done.0 u) tt (like_first p n1 u done.0 (likes_more p n0 n1 (h t) (h u) s.keeps like) last.like) done.1 in
       record { all = both_stand p (length n0) n1 n2 last.all r.keeps start.all; like = start.like };
 }
@@ -301,17 +301,17 @@ either_made {ends = ends} D R S n0 n1 n2 n3 i yes_at no_at k s r d = record {
       );
   keeps = later_trans 0 0 n0 n2 n3 (omega arith) (later_trans 0 0 n0 n1 n2 (omega arith) s.keeps r.keeps) d.keeps;
   leads = λ below.
-      let third : CameOut (length n0) n1 no_at = s.leads below in
-      let second : CameOut (length n1) n2 yes_at = r.leads (below_more (length n0) (length n1) (ends k) s.keeps.longer below) in
-      let first : CameOut (length n2) n3 i = d.leads (second.inside, (omega (arith, third.inside, r.keeps.longer), tt)) in
+      let third : IsEmittedNode (length n0) n1 no_at = s.leads below in
+      let second : IsEmittedNode (length n1) n2 yes_at = r.leads (below_more (length n0) (length n1) (ends k) s.keeps.longer below) in
+      let first : IsEmittedNode (length n2) n3 i = d.leads (second.inside, (omega (arith, third.inside, r.keeps.longer), tt)) in
       record {
         inside = first.inside;
         back = back_both (length n0) n2 n3 (back_both (length n0) n1 n2 third.back r.keeps second.back) d.keeps first.back;
       };
   stands = λ p j l same like h.
-      let third : Stood p (length n0) n1 no_at h.1 = s.stands p h.1 l same like h.4 in
-      let second : Stood p (length n1) n2 yes_at h.0 = r.stands p h.0 l same (likes_more p n0 n1 (ends k) (ends l) s.keeps like) h.3 in
-      let first : Stood p (length n2) n3 i j =
+      let third : PartStands p (length n0) n1 no_at h.1 = s.stands p h.1 l same like h.4 in
+      let second : PartStands p (length n1) n2 yes_at h.0 = r.stands p h.0 l same (likes_more p n0 n1 (ends k) (ends l) s.keeps like) h.3 in
+      let first : PartStands p (length n2) n3 i j =
       d.stands p j (record { yes_to = h.0; no_to = h.1 }) tt (second.like, (like_more p n1 n2 no_at h.1 r.keeps third.like, tt)) h.2 in
       record { all = both_stand p (length n0) n2 n3 (both_stand p (length n0) n1 n2 third.all r.keeps second.all) d.keeps first.all; like = first.like };
 }

@@ -7,7 +7,7 @@ use Rattle.flow.specs.declared.node.Node.TheVariants as node
 use Rattle.c_meaning.specs.declared.operation.Operation.{Operation}
 use Rattle.c_meaning.specs.declared.value_type.ValueType.{ValueType}
 use Rattle.c_meaning.specs.Words.{conversion, Facts, Sites, type_given, one_kind, step_operation}
-use Rattle.lower_relation.specs.Operators.{Assigned, Changed, Operates, Stepped, SteppedBehind, Updates}
+use Rattle.lower_relation.specs.Operators.{Assigned, CompoundAssigned, Operates, Stepped, SteppedBehind, Updates}
 use Rattle.lower_relation.specs.Values.{Converts, LoadAt}
 use Rattle.lower_nodes.specs.Made.{Made}
 use Rattle.lower_nodes.specs.Replacing.{StoresResult}
@@ -22,7 +22,7 @@ module _ (facts : Facts) (sites : Sites) (token : ℕ) (of : Option ValueType) w
 
   pub change_made : (o : Operation) (n0 n1 n2 n3 n4 : List Node) (updates swap load i k : ℕ) → Made (λ G. Updates G facts sites token of o) n0 n1 updates k →
       swap ≡ length n1 → n2 ≡ n1 ++ node.Swap updates ∷ [] → Made (λ G. LoadAt G of) n2 n3 load swap →
-      i ≡ length n3 → n4 ≡ n3 ++ node.Over load ∷ [] → Made (λ G. Changed G facts sites token of o) n0 n4 i k
+      i ≡ length n3 → n4 ≡ n3 ++ node.Over load ∷ [] → Made (λ G. CompoundAssigned G facts sites token of o) n0 n4 i k
   change_made o n0 n1 n2 n3 n4 updates swap load i k updated at is loaded at' is' =
       row (node.Over 0) _ at' is' refl and_then loaded and_then row (node.Swap 0) _ at is refl and_then updated
 

@@ -8,14 +8,14 @@ use Rattle.flow.specs.declared.node.Node.{Node}
 use Rattle.flow.specs.declared.node.View.{View}
 use Rattle.flow.specs.declared.node.View.TheVariants as view
 use Rattle.flow.specs.Words.{is_again, leads_rightly, led_to, view as view_of}
-use Rattle.lower_relation.specs.Stands.{renamed}
+use Rattle.lower_relation.specs.Stands.{renumbered_view}
 use Rattle.lower_nodes.specs.Ends.{AllBelow}
 use Rattle.lower_nodes.specs.Finished.{Finished, turned_number}
 use Rattle.lower_nodes.specs.Made.{LeadBack, LeadsBack}
-use Rattle.lower_nodes.specs.Reach.{LeadOn, among}
+use Rattle.lower_nodes.specs.Reach.{LeadOn, bounds_of_nodes}
 
 -- a renamed node leads to the renamed ones
-renamed_leads : (ren : ℕ → ℕ) (v : View) → led_to (renamed ren v) ≡ map ren (led_to v)
+renamed_leads : (ren : ℕ → ℕ) (v : View) → led_to (renumbered_view ren v) ≡ map ren (led_to v)
 renamed_leads ren (view.Row op k) = refl
 renamed_leads ren (view.Halts op) = refl
 renamed_leads ren (view.Forks a b) = refl
@@ -31,7 +31,7 @@ renamed_leads ren (view.Imports k) = refl
 renamed_leads ren (view.Exports k) = refl
 renamed_leads ren view.Nowhere = refl
 
-renamed_again : (ren : ℕ → ℕ) (v : View) → is_again (renamed ren v) ≡ is_again v
+renamed_again : (ren : ℕ → ℕ) (v : View) → is_again (renumbered_view ren v) ≡ is_again v
 renamed_again ren (view.Row op k) = refl
 renamed_again ren (view.Halts op) = refl
 renamed_again ren (view.Forks a b) = refl
@@ -64,10 +64,10 @@ all_on count place i again (x ∷ xs) e inside below =
     (one_on count place i again x e inside below.0) (all_on count place i again xs e inside below.1)
 
 leads_turned : (count place i : ℕ) (v : View) → place ≡ turned_number (count - 1) i → i < count → LeadsBack i count v →
-    IsTrue (leads_rightly (among count) place (renamed (turned_number (count - 1)) v))
+    IsTrue (leads_rightly (bounds_of_nodes count) place (renumbered_view (turned_number (count - 1)) v))
 unfolding leads_rightly
 leads_turned count place i v e inside back =
-    subst (λ l. IsTrue (list_all (leads_to count place (is_again (renamed (turned_number (count - 1)) v))) l)) (sym (renamed_leads (turned_number (count - 1)) v))
+    subst (λ l. IsTrue (list_all (leads_to count place (is_again (renumbered_view (turned_number (count - 1)) v))) l)) (sym (renamed_leads (turned_number (count - 1)) v))
     (subst (λ b. IsTrue (list_all (leads_to count place b) (map (turned_number (count - 1)) (led_to v)))) (sym (renamed_again (turned_number (count - 1)) v))
     (all_on count place i (is_again v) (led_to v) e inside back))
 
@@ -78,12 +78,12 @@ leads_on old new long finished back = record {
       let low : length old - 1 - place < length old = omega (arith, inside, long) in
       let here : turned_number (length old - 1) (length old - 1 - place) ≡ place = omega (arith, inside, long) in
       let was : slice_get old (length old - 1 - place) ≡ Some (get_or old (length old - 1 - place) n) = slice_get-get_or old (length old - 1 - place) n low in
-      let found : option_map view_of (Some n) ≡ Some (renamed (turned_number (length old - 1)) (view_of (get_or old (length old - 1 - place) n))) =
+      let found : option_map view_of (Some n) ≡ Some (renumbered_view (turned_number (length old - 1)) (view_of (get_or old (length old - 1 - place) n))) =
       ap (option_map view_of) (sym at) ∙ ap (λ p. option_map view_of (slice_get new p)) (sym here)
       ∙ finished.each (length old - 1 - place) (get_or old (length old - 1 - place) n) was in
-      let same : view_of n ≡ renamed (turned_number (length old - 1)) (view_of (get_or old (length old - 1 - place) n)) = cc in
-      subst (λ c. IsTrue (leads_rightly (among c) place (view_of n))) (sym long)
-      (subst (λ v. IsTrue (leads_rightly (among (length old)) place v)) (sym same)
+      let same : view_of n ≡ renumbered_view (turned_number (length old - 1)) (view_of (get_or old (length old - 1 - place) n)) = cc in
+      subst (λ c. IsTrue (leads_rightly (bounds_of_nodes c) place (view_of n))) (sym long)
+      (subst (λ v. IsTrue (leads_rightly (bounds_of_nodes (length old)) place v)) (sym same)
       (leads_turned (length old) place (length old - 1 - place) (view_of (get_or old (length old - 1 - place) n)) (sym here) low
       (back.each (length old - 1 - place) (get_or old (length old - 1 - place) n) (omega arith) was)));
 }

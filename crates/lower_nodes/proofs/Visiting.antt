@@ -3,11 +3,11 @@ use Rattle.std.proofs.Common.{◌≡◌, ℕ, ◌+◌, ◌<◌, refl, subst, Lis
 use Rattle.flow.specs.declared.node.Node.{Node}
 use Rattle.flow.specs.declared.node.Node.TheVariants as node
 use Rattle.flow.specs.declared.node.View.TheVariants as view
-use Rattle.c_meaning.specs.Words.{Facts, Sites, listed}
-use Rattle.lower_relation.specs.Operators.{Assigned, Decided}
+use Rattle.c_meaning.specs.Words.{Facts, Sites, site_list}
+use Rattle.lower_relation.specs.Operators.{Assigned, VisitedFork}
 use Rattle.lower_relation.specs.Paths.{Does, ForkTo, MarksAll, Nothing}
 use Rattle.lower_nodes.specs.Made.{Made, MadeWays}
-use Rattle.lower_nodes.specs.Purposes.{ways}
+use Rattle.lower_nodes.specs.Purposes.{condition_ways}
 use Rattle.lower_nodes.proofs.Building.{nothing_made, one_made, then_made, view_made, visit_resembles}
 use Rattle.lower_nodes.proofs.Lists.{list_step}
 use Rattle.lower_nodes.proofs.Taking.{fork_made}
@@ -31,12 +31,12 @@ mark_made site n0 n1 i k at is =
 
 -- the fork of a condition, with the mark before it
 pub decided_made : (facts : Facts) (sites : Sites) (token : ℕ) (site : Option ℕ) (n0 n1 n2 : List Node) (f i yes_at no_at : ℕ) → site ≡ sites.branch_at token →
-    f ≡ length n0 → n1 ≡ n0 ++ node.Fork yes_at no_at ∷ [] → Made (λ G. MarksAll G (listed site)) n1 n2 i f →
-    MadeWays (λ G. Decided G facts sites token) n0 n2 i (ways yes_at no_at)
+    f ≡ length n0 → n1 ≡ n0 ++ node.Fork yes_at no_at ∷ [] → Made (λ G. MarksAll G (site_list site)) n1 n2 i f →
+    MadeWays (λ G. VisitedFork G facts sites token) n0 n2 i (condition_ways yes_at no_at)
 decided_made facts sites token site n0 n1 n2 f i yes_at no_at e at is marks =
-    then_made (λ G. MarksAll G (listed (sites.branch_at token))) (λ G. ForkTo G) n0 n1 n2 i f (ways yes_at no_at)
+    then_made (λ G. MarksAll G (site_list (sites.branch_at token))) (λ G. ForkTo G) n0 n1 n2 i f (condition_ways yes_at no_at)
     (fork_made n0 n1 f yes_at no_at at is)
-    (subst (λ s. Made (λ G. MarksAll G (listed s)) n1 n2 i f) e marks)
+    (subst (λ s. Made (λ G. MarksAll G (site_list s)) n1 n2 i f) e marks)
 
 -- a store, with the marks behind it
 pub assigned_made : (facts : Facts) (sites : Sites) (token : ℕ) (pairs : List ℕ) (n0 n1 n2 : List Node) (m i k : ℕ) → pairs ≡ sites.pairs_at token →

@@ -4,7 +4,7 @@ use Rattle.flow.specs.declared.node.Node.{Node}
 use Rattle.lower_relation.specs.Paths.{Graph, Ways}
 use Rattle.lower_nodes.specs.Ends.{Any, WantedAlike, purpose_ends, two_ends}
 use Rattle.lower_nodes.specs.Made.{GraphPath, Made, MadeFor, MadeWays}
-use Rattle.lower_nodes.specs.Purposes.{ways}
+use Rattle.lower_nodes.specs.Purposes.{condition_ways}
 use Rattle.lower_nodes.specs.Standing.{AllLike, Allowed, Allowance}
 use Rattle.lower_nodes.specs.declared.purpose.Purpose.{Purpose}
 use Rattle.lower_nodes.specs.declared.purpose.Purpose.TheVariants as purpose
@@ -29,7 +29,7 @@ truth_back : (R : GraphPath Ways) (S : GraphPath Purpose) → ((p : Allowance) (
     (q : Ways) × Any w q × AllLike p n (two_ends w) (two_ends q) × R (Allowed p) j q
 truth_back R S out p n j w (purpose.Value to) same like h = absurd same
 truth_back R S out p n j w (purpose.Effect to) same like h = absurd same
-truth_back R S out p n j w (purpose.Truth yes_at no_at) same like h = (ways yes_at no_at, tt, like, out p j (ways yes_at no_at) h)
+truth_back R S out p n j w (purpose.Truth yes_at no_at) same like h = (condition_ways yes_at no_at, tt, like, out p j (condition_ways yes_at no_at) h)
 
 -- a part that goes on at one node, or at one of two, as what a value is wanted for
 pub as_value : (R : GraphPath ℕ) (S : GraphPath Purpose) → ((G : Graph) (i k : ℕ) → R G i k → S G i (purpose.Value k)) →
@@ -46,10 +46,10 @@ as_effect R S into out n0 n1 i next made =
 
 pub as_truth : (R : GraphPath Ways) (S : GraphPath Purpose) → ((G : Graph) (i : ℕ) (w : Ways) → R G i w → S G i (purpose.Truth w.yes_to w.no_to)) →
     ((p : Allowance) (i : ℕ) (w : Ways) → S (Allowed p) i (purpose.Truth w.yes_to w.no_to) → R (Allowed p) i w) →
-    (n0 n1 : List Node) (i yes_at no_at : ℕ) → MadeWays R n0 n1 i (ways yes_at no_at) → MadeFor S n0 n1 i (purpose.Truth yes_at no_at)
+    (n0 n1 : List Node) (i yes_at no_at : ℕ) → MadeWays R n0 n1 i (condition_ways yes_at no_at) → MadeFor S n0 n1 i (purpose.Truth yes_at no_at)
 as_truth R S into out n0 n1 i yes_at no_at made =
-    carried R S (ways yes_at no_at) (purpose.Truth yes_at no_at) (λ G i h. into G i (ways yes_at no_at) h) (λ n b. b)
-    (λ p n j m same like h. truth_back R S out p n j (ways yes_at no_at) m same like h) n0 n1 i made
+    carried R S (condition_ways yes_at no_at) (purpose.Truth yes_at no_at) (λ G i h. into G i (condition_ways yes_at no_at) h) (λ n b. b)
+    (λ p n j m same like h. truth_back R S out p n j (condition_ways yes_at no_at) m same like h) n0 n1 i made
 
 -- and the other way round
 pub value_of : (S : GraphPath Purpose) (R : GraphPath ℕ) → ((G : Graph) (i k : ℕ) → S G i (purpose.Value k) → R G i k) →
@@ -66,9 +66,9 @@ effect_of S R into out n0 n1 i next made =
 
 pub truth_of : (S : GraphPath Purpose) (R : GraphPath Ways) → ((G : Graph) (i : ℕ) (w : Ways) → S G i (purpose.Truth w.yes_to w.no_to) → R G i w) →
     ((p : Allowance) (i : ℕ) (w : Ways) → R (Allowed p) i w → S (Allowed p) i (purpose.Truth w.yes_to w.no_to)) →
-    (n0 n1 : List Node) (i yes_at no_at : ℕ) → MadeFor S n0 n1 i (purpose.Truth yes_at no_at) → MadeWays R n0 n1 i (ways yes_at no_at)
+    (n0 n1 : List Node) (i yes_at no_at : ℕ) → MadeFor S n0 n1 i (purpose.Truth yes_at no_at) → MadeWays R n0 n1 i (condition_ways yes_at no_at)
 truth_of S R into out n0 n1 i yes_at no_at made =
-    carried S R (purpose.Truth yes_at no_at) (ways yes_at no_at) (λ G i h. into G i (ways yes_at no_at) h) (λ n b. b)
+    carried S R (purpose.Truth yes_at no_at) (condition_ways yes_at no_at) (λ G i h. into G i (condition_ways yes_at no_at) h) (λ n b. b)
     (λ p n j m same like h. (purpose.Truth m.yes_to m.no_to, tt, like, out p j m h)) n0 n1 i made
 
 -- one part in place of another that is the same for this purpose

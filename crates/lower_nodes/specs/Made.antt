@@ -3,10 +3,10 @@ use Rattle.std.specs.Prelude.{◌≡◌, ℕ, ◌≤◌, ◌<◌, if◌then◌el
 use Rattle.flow.specs.declared.node.Node.{Node}
 use Rattle.flow.specs.declared.node.View.{View}
 use Rattle.flow.specs.Words.{is_again, led_to, view}
-use Rattle.lower_relation.specs.Functions.{standing}
+use Rattle.lower_relation.specs.Functions.{graph_of_nodes}
 use Rattle.lower_relation.specs.Paths.{Exits, Graph, Path, Ways}
 use Rattle.lower_nodes.specs.Ends.{AllBelow, Any, WantedAlike, all_ends, no_ends, one_end, purpose_ends, two_ends}
-use Rattle.lower_nodes.specs.Standing.{AllLike, Allowed, Allowance, Stood}
+use Rattle.lower_nodes.specs.Standing.{AllLike, Allowed, Allowance, PartStands}
 use Rattle.lower_nodes.specs.declared.purpose.Purpose.{Purpose}
 
 -- a later list has what is now at the places from `low` on
@@ -23,7 +23,7 @@ pub record LeadBack (low : ℕ) (nodes : List Node) : Type 0 where
   pub each : (i : ℕ) (x : Node) → low ≤ i → slice_get nodes i ≡ Some x → LeadsBack i (length nodes) (view x)
 
 -- the node that came out is one of them, and the nodes that were put lead back
-pub record CameOut (low : ℕ) (nodes : List Node) (i : ℕ) : Type 0 where
+pub record IsEmittedNode (low : ℕ) (nodes : List Node) (i : ℕ) : Type 0 where
   pub inside : i < length nodes
   pub back : LeadBack low nodes
 
@@ -34,10 +34,10 @@ GraphPath K = Graph → Path K
 -- The nodes that were put make this part, from node i to k. Where it goes on at nodes that were there before, each of them leads back. And where
 -- nodes that may be in a function do the part, from j to what is of the same form as k, those that were put may be there too.
 pub record MadeTo {K : Type 0} (ends : K → List ℕ) (SameForm : K → K → Type 0) (R : GraphPath K) (old new : List Node) (i : ℕ) (k : K) : Type 0 where
-  pub does : (fin : List Node) → Later (length old) new fin → R (standing fin) i k
+  pub does : (fin : List Node) → Later (length old) new fin → R (graph_of_nodes fin) i k
   pub keeps : Later 0 old new
-  pub leads : AllBelow (length old) (ends k) → CameOut (length old) new i
-  pub stands : (s : Allowance) (j : ℕ) (l : K) → SameForm k l → AllLike s old (ends k) (ends l) → R (Allowed s) j l → Stood s (length old) new i j
+  pub leads : AllBelow (length old) (ends k) → IsEmittedNode (length old) new i
+  pub stands : (s : Allowance) (j : ℕ) (l : K) → SameForm k l → AllLike s old (ends k) (ends l) → R (Allowed s) j l → PartStands s (length old) new i j
 
 -- a part that goes on at one node
 abbrev pub Made : GraphPath ℕ → List Node → List Node → ℕ → ℕ → Type 0

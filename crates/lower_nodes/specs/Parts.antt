@@ -2,7 +2,7 @@
 use Rattle.std.specs.Prelude.{ℕ}
 use Rattle.c_syntax.specs.ExprTree.{ExprTree}
 use Rattle.c_meaning.specs.Facts.{Facts, Sites}
-use Rattle.lower_relation.specs.Expressions.{emitted}
+use Rattle.lower_relation.specs.Expressions.{emitted_expression}
 use Rattle.lower_relation.specs.Paths.{Ways}
 use Rattle.lower_nodes.specs.declared.purpose.Purpose.{Purpose}
 use Rattle.lower_nodes.specs.Made.{GraphPath}
@@ -10,17 +10,17 @@ use Rattle.lower_nodes.specs.Purposes.{Serves}
 
 module _ (facts : Facts) (sites : Sites) (x : ExprTree) where
   -- the expression, for what its value is wanted for
-  abbrev pub serving : GraphPath Purpose
-  serving G = Serves (emitted G facts sites x)
+  abbrev pub purpose_part : GraphPath Purpose
+  purpose_part G = Serves (emitted_expression G facts sites x)
 
   abbrev pub value_part : GraphPath ℕ
-  value_part G = (emitted G facts sites x).value
+  value_part G = (emitted_expression G facts sites x).value
 
   abbrev pub place_part : GraphPath ℕ
-  place_part G = (emitted G facts sites x).place
+  place_part G = (emitted_expression G facts sites x).place
 
   abbrev pub effect_part : GraphPath ℕ
-  effect_part G = (emitted G facts sites x).effect
+  effect_part G = (emitted_expression G facts sites x).effect
 
   abbrev pub truth_part : GraphPath Ways
-  truth_part G = (emitted G facts sites x).truth
+  truth_part G = (emitted_expression G facts sites x).truth

@@ -4,9 +4,9 @@ use Rattle.flow.specs.declared.node.Node.{Node}
 use Rattle.flow.specs.declared.scope.Bounds.{Bounds}
 use Rattle.flow.specs.Words.{leads_rightly, view}
 
-abbrev pub among : ℕ → Bounds
-among count = record { function = 0; locals = 0; nodes = count }
+abbrev pub bounds_of_nodes : ℕ → Bounds
+bounds_of_nodes count = record { function = 0; locals = 0; nodes = count }
 
 -- the nodes of a function in the order of a program
 pub record LeadOn (nodes : List Node) : Type 0 where
-  pub each : (place : ℕ) (n : Node) → slice_get nodes place ≡ Some n → IsTrue (leads_rightly (among (length nodes)) place (view n))
+  pub each : (place : ℕ) (n : Node) → slice_get nodes place ≡ Some n → IsTrue (leads_rightly (bounds_of_nodes (length nodes)) place (view n))

@@ -5,19 +5,19 @@ use Rattle.flow.specs.declared.node.Node.{Node}
 use Rattle.flow.specs.declared.node.View.{View}
 use Rattle.flow.specs.declared.node.View.TheVariants.{Forks, Marks}
 use Rattle.flow.specs.Words.{view_at, view}
-use Rattle.lower_relation.specs.Stands.{renamed}
+use Rattle.lower_relation.specs.Stands.{renumbered_view}
 
-abbrev pub forks : View → Bool
-forks (Forks when_true when_false) = true
-forks other = false
+abbrev pub is_fork : View → Bool
+is_fork (Forks when_true when_false) = true
+is_fork other = false
 
 -- whether the node with this number is a fork
 abbrev pub fork_at : List Node → ℕ → Bool
-fork_at nodes n = forks (view_at (slice_get nodes n))
+fork_at nodes n = is_fork (view_at (slice_get nodes n))
 
 -- a view without the numbers of its successors
-abbrev pub bare : View → View
-bare v = renamed (λ _. 0) v
+abbrev pub view_without_successors : View → View
+view_without_successors v = renumbered_view (λ _. 0) v
 
 -- What the nodes of a function may be, wherever they lead, and which sites are those of no condition. In a graph of such nodes forks alone stand at
 -- some numbers, so that a visit may stand before them.
@@ -34,13 +34,13 @@ may_visit frees forks_at other = true
 
 -- a graph of all nodes that may be
 pub record Allowed (s : Allowance) (at : ℕ) (v : View) : Type 0 where
-  pub fits : IsTrue (s.fits (bare v))
+  pub fits : IsTrue (s.fits (view_without_successors v))
   pub visits : IsTrue (may_visit s.frees s.forks_at v)
-  pub turns : s.forks_at at ≡ true → forks v ≡ true
+  pub turns : s.forks_at at ≡ true → is_fork v ≡ true
 
 -- a node with this view stands rightly among these
 pub record StandsRightly (s : Allowance) (nodes : List Node) (v : View) : Type 0 where
-  pub fits : IsTrue (s.fits (bare v))
+  pub fits : IsTrue (s.fits (view_without_successors v))
   pub visits : IsTrue (may_visit s.frees (fork_at nodes) v)
 
 -- all from one on do
@@ -57,6 +57,6 @@ AllLike s nodes (i ∷ is) (j ∷ js) = Like s nodes i j × AllLike s nodes is j
 AllLike s nodes is js = ⊥
 
 -- the nodes from one on stand rightly, and the node that came out is like the one at this number
-pub record Stood (s : Allowance) (low : ℕ) (nodes : List Node) (i j : ℕ) : Type 0 where
+pub record PartStands (s : Allowance) (low : ℕ) (nodes : List Node) (i j : ℕ) : Type 0 where
   pub all : AllStand s low nodes
   pub like : Like s nodes i j

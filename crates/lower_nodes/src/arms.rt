@@ -1,7 +1,7 @@
 ghost use Rattle.flow.specs.Limits.{node_limit};
 ghost use Rattle.std.specs.Prelude.{◌≡◌, IfOk, length, ◌≤◌, ◌+◌};
 ghost use Rattle.c_meaning.specs.Words.{as_used, is_other_pointer};
-ghost use Rattle.lower_relation.specs.Operators.{Flagged};
+ghost use Rattle.lower_relation.specs.Operators.{TruthAsInt};
 ghost use Rattle.lower_relation.specs.Values.{ArmAs};
 ghost use Rattle.lower_nodes.specs.Made.{Made};
 
@@ -48,7 +48,7 @@ pub fn put_arm(
 #[tactic(auto, using(crate::proofs::Building::parts_made))]
 pub fn put_flagged(graph: &mut Graph, next: u32) -> Result<u32, Memory>
     requires room { length graph.old + 2 ≤ node_limit }
-    ensures made { IfOk result (λ i. Made (λ G. Flagged G) graph.old graph.new i next) }
+    ensures made { IfOk result (λ i. Made (λ G. TruthAsInt G) graph.old graph.new i next) }
     ensures few { IfOk result (λ i. length graph.new ≤ length graph.old + 2) }
 {
     let second = graph.put(Node::Sole {

@@ -2,9 +2,9 @@ ghost use Rattle.flow.specs.Limits.{node_limit};
 ghost use Rattle.std.specs.Prelude.{◌≡◌, IfOk, length, ◌≤◌, ◌+◌};
 ghost use Rattle.cbi_base.specs.Arithmetic.{kind_given};
 ghost use Rattle.c_meaning.specs.Words.{conversion, type_given, step_operation};
-ghost use Rattle.lower_relation.specs.Operators.{Changed, Operates, Stepped, SteppedAs, SteppedBehind, Updates};
+ghost use Rattle.lower_relation.specs.Operators.{CompoundAssigned, Stepped, SteppedAs, SteppedBehind, Updates};
 ghost use Rattle.lower_relation.specs.Values.{Converts};
-ghost use Rattle.lower_relation.specs.Room.{pairs};
+ghost use Rattle.lower_relation.specs.Room.{pair_visits};
 ghost use Rattle.lower_nodes.specs.Made.{Made};
 ghost use Rattle.lower_nodes.specs.Replacing.{StoresResult};
 ghost use Rattle.lower_facts.specs.Facts.{facts_in, sites_in};
@@ -77,9 +77,9 @@ fn put_updates(
     operation: Operation,
     next: u32,
 ) -> Result<u32, Memory>
-    requires room { length graph.old + (9 + pairs (sites_in facts.now) token) ≤ node_limit }
+    requires room { length graph.old + (9 + pair_visits (sites_in facts.now) token) ≤ node_limit }
     ensures made { IfOk result (λ i. Made (λ G. Updates G (facts_in facts.now) (sites_in facts.now) token of operation) graph.old graph.new i next) }
-    ensures few { IfOk result (λ i. length graph.new ≤ length graph.old + (9 + pairs (sites_in facts.now) token)) }
+    ensures few { IfOk result (λ i. length graph.new ≤ length graph.old + (9 + pair_visits (sites_in facts.now) token)) }
 {
     let stored = put_assigned(graph, facts, token, next)?;
     let converted = put_converted(graph, type_given(operation, of), of, stored)?;
@@ -96,9 +96,9 @@ pub fn put_changed(
     operation: Operation,
     next: u32,
 ) -> Result<u32, Memory>
-    requires room { length graph.old + (13 + pairs (sites_in facts.now) token) ≤ node_limit }
-    ensures made { IfOk result (λ i. Made (λ G. Changed G (facts_in facts.now) (sites_in facts.now) token of operation) graph.old graph.new i next) }
-    ensures few { IfOk result (λ i. length graph.new ≤ length graph.old + (13 + pairs (sites_in facts.now) token)) }
+    requires room { length graph.old + (13 + pair_visits (sites_in facts.now) token) ≤ node_limit }
+    ensures made { IfOk result (λ i. Made (λ G. CompoundAssigned G (facts_in facts.now) (sites_in facts.now) token of operation) graph.old graph.new i next) }
+    ensures few { IfOk result (λ i. length graph.new ≤ length graph.old + (13 + pair_visits (sites_in facts.now) token)) }
 {
     let updates = put_updates(graph, facts, token, of, operation, next)?;
     let swap = graph.put(Node::Swap { next: updates })?;
@@ -116,9 +116,9 @@ pub fn put_stepped(
     of: Option<ValueType>,
     next: u32,
 ) -> Result<u32, Memory>
-    requires room { length graph.old + (13 + pairs (sites_in facts.now) token) ≤ node_limit }
+    requires room { length graph.old + (13 + pair_visits (sites_in facts.now) token) ≤ node_limit }
     ensures made { IfOk result (λ i. Made (λ G. Stepped G (facts_in facts.now) (sites_in facts.now) up token of) graph.old graph.new i next) }
-    ensures few { IfOk result (λ i. length graph.new ≤ length graph.old + (13 + pairs (sites_in facts.now) token)) }
+    ensures few { IfOk result (λ i. length graph.new ≤ length graph.old + (13 + pair_visits (sites_in facts.now) token)) }
 {
     let updates = put_updates(graph, facts, token, of, step(up, of), next)?;
     let one = graph.put(Node::Push {
@@ -140,9 +140,9 @@ fn put_replaced(
     operation: Operation,
     next: u32,
 ) -> Result<u32, Memory>
-    requires room { length graph.old + (10 + pairs (sites_in facts.now) token) ≤ node_limit }
+    requires room { length graph.old + (10 + pair_visits (sites_in facts.now) token) ≤ node_limit }
     ensures made { IfOk result (λ i. Made (λ G. StoresResult G (facts_in facts.now) (sites_in facts.now) token of operation) graph.old graph.new i next) }
-    ensures few { IfOk result (λ i. length graph.new ≤ length graph.old + (10 + pairs (sites_in facts.now) token)) }
+    ensures few { IfOk result (λ i. length graph.new ≤ length graph.old + (10 + pair_visits (sites_in facts.now) token)) }
 {
     let drop = graph.put(Node::Drop { next })?;
     let stored = put_assigned(graph, facts, token, drop)?;
@@ -160,9 +160,9 @@ fn put_stepped_behind(
     of: Option<ValueType>,
     next: u32,
 ) -> Result<u32, Memory>
-    requires room { length graph.old + (16 + pairs (sites_in facts.now) token) ≤ node_limit }
+    requires room { length graph.old + (16 + pair_visits (sites_in facts.now) token) ≤ node_limit }
     ensures made { IfOk result (λ i. Made (λ G. SteppedBehind G (facts_in facts.now) (sites_in facts.now) up token of) graph.old graph.new i next) }
-    ensures few { IfOk result (λ i. length graph.new ≤ length graph.old + (16 + pairs (sites_in facts.now) token)) }
+    ensures few { IfOk result (λ i. length graph.new ≤ length graph.old + (16 + pair_visits (sites_in facts.now) token)) }
 {
     let replaced = put_replaced(graph, facts, token, of, step(up, of), next)?;
     let one = graph.put(Node::Push {
@@ -187,9 +187,9 @@ pub fn put_stepped_as(
     of: Option<ValueType>,
     next: u32,
 ) -> Result<u32, Memory>
-    requires room { length graph.old + (16 + pairs (sites_in facts.now) token) ≤ node_limit }
+    requires room { length graph.old + (16 + pair_visits (sites_in facts.now) token) ≤ node_limit }
     ensures made { IfOk result (λ i. Made (λ G. SteppedAs G (facts_in facts.now) (sites_in facts.now) taken up token of) graph.old graph.new i next) }
-    ensures few { IfOk result (λ i. length graph.new ≤ length graph.old + (16 + pairs (sites_in facts.now) token)) }
+    ensures few { IfOk result (λ i. length graph.new ≤ length graph.old + (16 + pair_visits (sites_in facts.now) token)) }
 {
     if taken {
         let i = put_stepped_behind(graph, facts, up, token, of, next)?;

@@ -4,7 +4,7 @@ ghost use Rattle.flow.specs.declared.node.Node.TheVariants as node;
 ghost use Rattle.lower_relation.specs.Expressions.{TextPlace};
 ghost use Rattle.lower_relation.specs.Operators.{SizeValue, Variable};
 ghost use Rattle.lower_relation.specs.Paths.{Does};
-ghost use Rattle.lower_relation.specs.Values.{Placed, Valued};
+ghost use Rattle.lower_relation.specs.Values.{EmittedPlace, EmittedValue};
 ghost use Rattle.lower_nodes.specs.Made.{MadeFor};
 ghost use Rattle.lower_nodes.specs.Purposes.{Serves};
 
@@ -25,7 +25,7 @@ pub fn put_constant(
     purpose: Purpose,
 ) -> Result<u32, Memory>
     requires room { length graph.old + 2 ≤ node_limit }
-    ensures made { IfOk result (λ i. MadeFor (λ G. Serves (Valued G (Does G (node.Push kind value 0)))) graph.old graph.new i purpose) }
+    ensures made { IfOk result (λ i. MadeFor (λ G. Serves (EmittedValue G (Does G (node.Push kind value 0)))) graph.old graph.new i purpose) }
     ensures few { IfOk result (λ i. length graph.new ≤ length graph.old + 2) }
 {
     let next = put_taken(graph, purpose)?;
@@ -37,7 +37,7 @@ pub fn put_constant(
 #[tactic(auto, using(crate::proofs::Serving::leaves_made))]
 pub fn put_null(graph: &mut Graph, purpose: Purpose) -> Result<u32, Memory>
     requires room { length graph.old + 2 ≤ node_limit }
-    ensures made { IfOk result (λ i. MadeFor (λ G. Serves (Valued G (Does G (node.Null 0)))) graph.old graph.new i purpose) }
+    ensures made { IfOk result (λ i. MadeFor (λ G. Serves (EmittedValue G (Does G (node.Null 0)))) graph.old graph.new i purpose) }
     ensures few { IfOk result (λ i. length graph.new ≤ length graph.old + 2) }
 {
     let next = put_taken(graph, purpose)?;
@@ -48,7 +48,7 @@ pub fn put_null(graph: &mut Graph, purpose: Purpose) -> Result<u32, Memory>
 /// The object of the string with this number.
 pub fn put_text(graph: &mut Graph, number: Option<u32>, purpose: Purpose) -> Result<u32, Memory>
     requires room { length graph.old + 3 ≤ node_limit }
-    ensures made { IfOk result (λ i. MadeFor (λ G. Serves (Valued G (TextPlace G number))) graph.old graph.new i purpose) }
+    ensures made { IfOk result (λ i. MadeFor (λ G. Serves (EmittedValue G (TextPlace G number))) graph.old graph.new i purpose) }
     ensures few { IfOk result (λ i. length graph.new ≤ length graph.old + 3) }
 {
     let next = put_taken(graph, purpose)?;
@@ -99,7 +99,7 @@ pub fn put_name(
     purpose: Purpose,
 ) -> Result<u32, Memory>
     requires room { length graph.old + 5 ≤ node_limit }
-    ensures made { IfOk result (λ i. MadeFor (λ G. Serves (Placed G of (Variable G slot))) graph.old graph.new i purpose) }
+    ensures made { IfOk result (λ i. MadeFor (λ G. Serves (EmittedPlace G of (Variable G slot))) graph.old graph.new i purpose) }
     ensures few { IfOk result (λ i. length graph.new ≤ length graph.old + 5) }
 {
     let next = put_taken_place(graph, of, purpose)?;

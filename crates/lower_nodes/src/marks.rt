@@ -1,11 +1,11 @@
 ghost use Rattle.flow.specs.Limits.{node_limit};
 ghost use Rattle.std.specs.Prelude.{IfOk, length, ◌≤◌, ◌+◌};
-ghost use Rattle.c_meaning.specs.Visits.{listed};
-ghost use Rattle.lower_relation.specs.Operators.{Assigned, Decided};
+ghost use Rattle.c_meaning.specs.Visits.{site_list};
+ghost use Rattle.lower_relation.specs.Operators.{Assigned, VisitedFork};
 ghost use Rattle.lower_relation.specs.Paths.{MarksAll};
-ghost use Rattle.lower_relation.specs.Room.{branches, pairs};
+ghost use Rattle.lower_relation.specs.Room.{branch_visits, pair_visits};
 ghost use Rattle.lower_nodes.specs.Made.{Made, MadeWays};
-ghost use Rattle.lower_nodes.specs.Purposes.{ways};
+ghost use Rattle.lower_nodes.specs.Purposes.{condition_ways};
 ghost use Rattle.lower_facts.specs.Facts.{facts_in, sites_in};
 
 use crate::graph::Graph;
@@ -32,9 +32,9 @@ pub fn put_marks(graph: &mut Graph, sites: &[u32], next: u32) -> Result<u32, Mem
 /// The visit of the site, where there is one.
 #[tactic(auto, using(crate::proofs::Visiting::marks_made))]
 pub fn put_mark(graph: &mut Graph, site: Option<u32>, next: u32) -> Result<u32, Memory>
-    requires room { length graph.old + length (listed site) ≤ node_limit }
-    ensures made { IfOk result (λ i. Made (λ G. MarksAll G (listed site)) graph.old graph.new i next) }
-    ensures few { IfOk result (λ i. length graph.new ≤ length graph.old + length (listed site)) }
+    requires room { length graph.old + length (site_list site) ≤ node_limit }
+    ensures made { IfOk result (λ i. Made (λ G. MarksAll G (site_list site)) graph.old graph.new i next) }
+    ensures few { IfOk result (λ i. length graph.new ≤ length graph.old + length (site_list site)) }
 {
     match site {
         None => Ok(next),
@@ -53,9 +53,10 @@ pub fn put_decided(
     yes: u32,
     no: u32,
 ) -> Result<u32, Memory>
-    requires room { length graph.old + (1 + branches (sites_in facts.now) token) ≤ node_limit }
-    ensures made { IfOk result (λ i. MadeWays (λ G. Decided G (facts_in facts.now) (sites_in facts.now) token) graph.old graph.new i (ways yes no)) }
-    ensures few { IfOk result (λ i. length graph.new ≤ length graph.old + (1 + branches (sites_in facts.now) token)) }
+    requires room { length graph.old + (1 + branch_visits (sites_in facts.now) token) ≤ node_limit }
+    ensures made { IfOk result (λ i. MadeWays (λ G. VisitedFork G (facts_in facts.now) (sites_in facts.now) token) graph.old graph.new i
+        (condition_ways yes no)) }
+    ensures few { IfOk result (λ i. length graph.new ≤ length graph.old + (1 + branch_visits (sites_in facts.now) token)) }
 {
     let fork = graph.put(Node::Fork { yes, no })?;
     let i = put_mark(graph, facts.branch_at(token), fork)?;
@@ -69,9 +70,9 @@ pub fn put_assigned(
     token: u32,
     next: u32,
 ) -> Result<u32, Memory>
-    requires room { length graph.old + (1 + pairs (sites_in facts.now) token) ≤ node_limit }
+    requires room { length graph.old + (1 + pair_visits (sites_in facts.now) token) ≤ node_limit }
     ensures made { IfOk result (λ i. Made (λ G. Assigned G (facts_in facts.now) (sites_in facts.now) token) graph.old graph.new i next) }
-    ensures few { IfOk result (λ i. length graph.new ≤ length graph.old + (1 + pairs (sites_in facts.now) token)) }
+    ensures few { IfOk result (λ i. length graph.new ≤ length graph.old + (1 + pair_visits (sites_in facts.now) token)) }
 {
     let marks = put_marks(graph, facts.pairs_at(token), next)?;
     let i = graph.put(Node::Store { next: marks })?;
@@ -85,9 +86,9 @@ pub fn put_assigned_behind(
     token: u32,
     next: u32,
 ) -> Result<u32, Memory>
-    requires room { length graph.old + (1 + pairs (sites_in facts.now) (token + 1)) ≤ node_limit }
+    requires room { length graph.old + (1 + pair_visits (sites_in facts.now) (token + 1)) ≤ node_limit }
     ensures made { IfOk result (λ i. Made (λ G. Assigned G (facts_in facts.now) (sites_in facts.now) (token + 1)) graph.old graph.new i next) }
-    ensures few { IfOk result (λ i. length graph.new ≤ length graph.old + (1 + pairs (sites_in facts.now) (token + 1))) }
+    ensures few { IfOk result (λ i. length graph.new ≤ length graph.old + (1 + pair_visits (sites_in facts.now) (token + 1))) }
 {
     let marks = put_marks(graph, facts.pairs_behind(token), next)?;
     let stored = graph.put(Node::Store { next: marks })?;

@@ -1,6 +1,6 @@
 ghost use Rattle.std.specs.Prelude.{◌≡◌, ◌≤◌, ◌-◌, IfOk, length};
 ghost use Rattle.flow.specs.Words.{node_limit, view};
-ghost use Rattle.lower_relation.specs.Stands.{renamed};
+ghost use Rattle.lower_relation.specs.Stands.{renumbered_view};
 ghost use Rattle.lower_nodes.specs.Finished.{Finished, turned_number};
 ghost use Rattle.lower_nodes.specs.Made.{LeadBack};
 ghost use Rattle.lower_nodes.specs.Reach.{LeadOn};
@@ -12,7 +12,7 @@ use std::alloc::Global;
 
 /// The node with the other numbers of its successors: they are counted from the last one down.
 fn renumbered(node: Node, last: u32) -> Node
-    ensures { view result ≡ renamed (turned_number last) (view node) }
+    ensures { view result ≡ renumbered_view (turned_number last) (view node) }
 {
     match node {
         Node::Fork { yes, no } => Node::Fork {

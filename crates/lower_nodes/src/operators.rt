@@ -1,6 +1,6 @@
 ghost use Rattle.flow.specs.Limits.{node_limit};
 ghost use Rattle.std.specs.Prelude.{IfOk, length, ◌≤◌, ◌+◌};
-ghost use Rattle.lower_relation.specs.Operators.{Member, Operates, Pointed, Variable};
+ghost use Rattle.lower_relation.specs.Operators.{Member, Operates, Variable};
 ghost use Rattle.c_meaning.specs.declared.operation.Operation.TheVariants.{Numbers};
 ghost use Rattle.lower_nodes.specs.Made.{Made};
 

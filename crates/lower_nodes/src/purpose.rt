@@ -1,8 +1,8 @@
 ghost use Rattle.flow.specs.Limits.{node_limit};
 ghost use Rattle.std.specs.Prelude.{◌≡◌, IfOk, length, ◌≤◌, ◌+◌};
 ghost use Rattle.lower_nodes.specs.Purposes.{PurposeTakes, TakesPlace, TakesThrough, is_single};
-ghost use Rattle.lower_relation.specs.Operators.{LoadThrough, Pointed};
-ghost use Rattle.lower_relation.specs.Values.{Discarded};
+ghost use Rattle.lower_relation.specs.Operators.{LoadThrough, PointerPlace};
+ghost use Rattle.lower_relation.specs.Values.{DiscardedPlace};
 ghost use Rattle.c_meaning.specs.Expressions.{is_struct_value};
 ghost use Rattle.lower_nodes.specs.Made.{Made, MadeFor};
 
@@ -54,7 +54,7 @@ fn is_struct(of: Option<ValueType>) -> bool
 #[tactic(auto, using(crate::proofs::Building::parts_made))]
 fn put_discarded(graph: &mut Graph, of: Option<ValueType>, next: u32) -> Result<u32, Memory>
     requires room { length graph.old + 3 ≤ node_limit }
-    ensures made { IfOk result (λ i. Made (λ G. Discarded G (is_struct_value of) of) graph.old graph.new i next) }
+    ensures made { IfOk result (λ i. Made (λ G. DiscardedPlace G (is_struct_value of) of) graph.old graph.new i next) }
     ensures few { IfOk result (λ i. length graph.new ≤ length graph.old + 3) }
 {
     let drop = graph.put(Node::Drop { next })?;
@@ -97,7 +97,7 @@ pub fn put_taken_place(
 #[tactic(auto, using(crate::proofs::Taking::pointers_made))]
 pub fn put_pointed(graph: &mut Graph, next: u32) -> Result<u32, Memory>
     requires room { length graph.old + 3 ≤ node_limit }
-    ensures made { IfOk result (λ i. Made (λ G. Pointed G) graph.old graph.new i next) }
+    ensures made { IfOk result (λ i. Made (λ G. PointerPlace G) graph.old graph.new i next) }
     ensures few { IfOk result (λ i. length graph.new ≤ length graph.old + 3) }
 {
     let trap = graph.put(Node::Load {

@@ -1,7 +1,7 @@
 ghost use Rattle.flow.specs.Limits.{node_limit};
 ghost use Rattle.std.specs.Prelude.{IfOk, length, ◌≤◌, ◌+◌};
 ghost use Rattle.lower_relation.specs.Paths.{Stuck};
-ghost use Rattle.lower_relation.specs.Values.{Converts, ConvertsBelow, Handed, LoadAt};
+ghost use Rattle.lower_relation.specs.Values.{Converts, ConvertsBelow, HandedOverAs, LoadAt};
 ghost use Rattle.lower_nodes.specs.Made.{Made, MadeAlone};
 
 use crate::graph::Graph;
@@ -75,7 +75,7 @@ pub fn put_conversion_below(
 #[tactic(auto, using(crate::proofs::Building::parts_made))]
 pub fn put_handed(graph: &mut Graph, want: Option<ValueType>, next: u32) -> Result<u32, Memory>
     requires room { length graph.old + 3 ≤ node_limit }
-    ensures made { IfOk result (λ i. Made (λ G. Handed G want) graph.old graph.new i next) }
+    ensures made { IfOk result (λ i. Made (λ G. HandedOverAs G want) graph.old graph.new i next) }
     ensures few { IfOk result (λ i. length graph.new ≤ length graph.old + 3) }
 {
     match want {

@@ -9,18 +9,18 @@ use Rattle.flow.specs.declared.node.Node.TheVariants as node
 use Rattle.flow.specs.declared.node.View.TheVariants as view
 use Rattle.flow.specs.View.{view as view_of}
 use Rattle.c_meaning.specs.declared.value_type.Called.TheVariants as called
-use Rattle.c_meaning.specs.Words.{Facts, count}
+use Rattle.c_meaning.specs.Words.{Facts, expression_count}
 use Rattle.lower_nodes.specs.Made.{Made}
 use Rattle.lower_nodes.proofs.Building.{nothing_made, one_made, view_made}
-use Rattle.lower_operators.specs.Passing.{Acts, Formats, LibraryActs, library_node, number_of_first, others}
+use Rattle.lower_operators.specs.Passing.{Acts, Formats, LibraryActs, library_node, number_of_first, arguments_after_first}
 
 -- how many expressions there are
-pub counted : (xs : List Expr) → count (plain_exprs xs) ≡ length xs
+pub counted : (xs : List Expr) → expression_count (plain_exprs xs) ≡ length xs
 counted [] = refl
 counted (x ∷ xs) = ap suc (counted xs)
 
 -- those behind the first one are no more
-pub others_fewer : (xs : List Expr) → count (others (plain_exprs xs)) ≤ length xs
+pub others_fewer : (xs : List Expr) → expression_count (arguments_after_first (plain_exprs xs)) ≤ length xs
 others_fewer [] = omega arith
 others_fewer (x ∷ xs) = omega (arith, counted xs)
 
@@ -53,9 +53,9 @@ module _ (facts : Facts) (xs : ExprList) where
       view_made (λ k. view.Calls number k) (node.Call number k) n0 n1 i k refl at is (λ all b. b) (λ s l same like. record { same = refl; visits = λ h. h; fork = λ f. f })
 
   pub call_acted : (f : Library) (number : Option ℕ) (ys : ExprList) (m : ℕ) (n0 n1 : List Node) (i k : ℕ) → number ≡ number_of_first facts xs →
-      ys ≡ others xs → m ≡ count ys → Made (λ G. LibraryActs G f number m) n0 n1 i k → Made (λ G. Acts G facts (called.Library f) xs) n0 n1 i k
+      ys ≡ arguments_after_first xs → m ≡ expression_count ys → Made (λ G. LibraryActs G f number m) n0 n1 i k → Made (λ G. Acts G facts (called.Library f) xs) n0 n1 i k
   call_acted f number ys m n0 n1 i k is are counts made =
-      subst (λ q. Made (λ G. LibraryActs G f (number_of_first facts xs) q) n0 n1 i k) (counts ∙ ap count are)
+      subst (λ q. Made (λ G. LibraryActs G f (number_of_first facts xs) q) n0 n1 i k) (counts ∙ ap expression_count are)
       (subst (λ o. Made (λ G. LibraryActs G f o m) n0 n1 i k) is made)
 
   pub unknown_acted : (n : List Node) (k : ℕ) → Made (λ G. Acts G facts called.Unknown xs) n n k k

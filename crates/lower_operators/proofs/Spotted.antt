@@ -8,14 +8,14 @@ use Rattle.c_syntax.proofs.PlainExprs.{plain_arrow_before, plain_decrement_befor
 use Rattle.c_meaning.specs.declared.value_type.ValueType.{ValueType}
 use Rattle.c_meaning.specs.Facts.{Facts, Sites}
 use Rattle.lower_relation.specs.Expressions.{has_more}
-use Rattle.lower_operators.specs.Spots.{others, place_after, place_before, token_after, type_behind}
+use Rattle.lower_operators.specs.Spots.{operators_after_first, place_after, place_before, token_after, type_behind}
 
-pub others_plain : (x : PostfixOperator) (rest : PostfixList) → others (plain_postfix x rest) ≡ rest
-others_plain (postfix.Index token i) rest = ap others (plain_index_before token i rest)
-others_plain (postfix.Member token name) rest = ap others (plain_member_before token name rest)
-others_plain (postfix.Arrow token name) rest = ap others (plain_arrow_before token name rest)
-others_plain (postfix.Increment token) rest = ap others (plain_increment_before token rest)
-others_plain (postfix.Decrement token) rest = ap others (plain_decrement_before token rest)
+pub others_plain : (x : PostfixOperator) (rest : PostfixList) → operators_after_first (plain_postfix x rest) ≡ rest
+others_plain (postfix.Index token i) rest = ap operators_after_first (plain_index_before token i rest)
+others_plain (postfix.Member token name) rest = ap operators_after_first (plain_member_before token name rest)
+others_plain (postfix.Arrow token name) rest = ap operators_after_first (plain_arrow_before token name rest)
+others_plain (postfix.Increment token) rest = ap operators_after_first (plain_increment_before token rest)
+others_plain (postfix.Decrement token) rest = ap operators_after_first (plain_decrement_before token rest)
 
 -- what an operator is doesn't rest on what follows
 pub place_alone : (x : PostfixOperator) (rest : PostfixList) → place_after (plain_postfix x rest) ≡ place_after (plain_postfix x e.no_postfix)

@@ -14,7 +14,7 @@ use Rattle.c_meaning.specs.declared.value_type.Called.{Called}
 use Rattle.c_meaning.specs.declared.value_type.Called.TheVariants as called
 use Rattle.c_meaning.specs.declared.value_type.ValueType.{ValueType}
 use Rattle.c_meaning.specs.declared.value_type.ValueType.TheVariants as type
-use Rattle.c_meaning.specs.Words.{types_taken, as_used, Facts, Signature, text_of_string, count, type_of}
+use Rattle.c_meaning.specs.Words.{types_taken, as_used, Facts, Signature, text_of_string, expression_count, type_of}
 use Rattle.lower_relation.specs.Expressions.{number_of_text}
 use Rattle.lower_relation.specs.Paths.{Graph, Path, Does, HaltsAt, Nothing}
 
@@ -32,9 +32,9 @@ types_of_params None = []
 types_of_params (Some f) = f.params
 
 -- a type, where it is known
-abbrev pub known : Option ValueType → List ValueType
-known None = []
-known (Some of) = of ∷ []
+abbrev pub type_if_known : Option ValueType → List ValueType
+type_if_known None = []
+type_if_known (Some of) = of ∷ []
 
 -- the type of the first argument, the string that it is, and the number of that
 abbrev pub type_of_first : Facts → ExprList → Option ValueType
@@ -50,9 +50,9 @@ number_of_first facts e.no_exprs = None
 number_of_first facts (e.more_exprs x rest) = number_of_text facts x
 
 -- the arguments behind the first one
-abbrev pub others : ExprList → ExprList
-others e.no_exprs = e.no_exprs
-others (e.more_exprs x rest) = rest
+abbrev pub arguments_after_first : ExprList → ExprList
+arguments_after_first e.no_exprs = e.no_exprs
+arguments_after_first (e.more_exprs x rest) = rest
 
 -- the types that the arguments of a function of the library become
 abbrev pub library_types : Facts → Library → ExprList → List ValueType
@@ -63,7 +63,7 @@ library_types facts library.Malloc xs = type.Number Unsigned ∷ []
 library_types facts library.Free xs = type.Pointer 0 ∷ []
 library_types facts library.Exit xs = type.Number Int ∷ []
 library_types facts library.Abort xs = []
-library_types facts library.Assert xs = known (as_used (type_of_first facts xs))
+library_types facts library.Assert xs = type_if_known (as_used (type_of_first facts xs))
 library_types facts library.Printf xs = types_of_text (text_of_first facts xs)
 
 -- the types that the arguments of a call become
@@ -73,9 +73,9 @@ types_passed facts (called.Library f) xs = library_types facts f xs
 types_passed facts called.Unknown xs = []
 
 -- the arguments that are passed as values: the format of `printf` is none of them
-abbrev pub passed : Called → ExprList → ExprList
-passed (called.Library library.Printf) xs = others xs
-passed c xs = xs
+abbrev pub arguments_passed : Called → ExprList → ExprList
+arguments_passed (called.Library library.Printf) xs = arguments_after_first xs
+arguments_passed c xs = xs
 
 -- whether a function with this signature takes so many arguments
 abbrev pub takes_arguments : Option Signature → ℕ → Bool
@@ -83,21 +83,21 @@ takes_arguments None n = false
 takes_arguments (Some f) n = n == length f.params
 
 -- whether a format has so many conversions
-abbrev pub prints : Option Text → ℕ → Bool
-prints None n = false
-prints (Some format) n = n == length (format_types format.bytes)
+abbrev pub has_conversions : Option Text → ℕ → Bool
+has_conversions None n = false
+has_conversions (Some format) n = n == length (format_types format.bytes)
 
 abbrev pub library_fits : Facts → Library → ExprList → Bool
-library_fits facts library.Getchar xs = count xs == 0
-library_fits facts library.Abort xs = count xs == 0
-library_fits facts library.Printf xs = prints (text_of_first facts xs) (count (others xs))
-library_fits facts f xs = count xs == 1
+library_fits facts library.Getchar xs = expression_count xs == 0
+library_fits facts library.Abort xs = expression_count xs == 0
+library_fits facts library.Printf xs = has_conversions (text_of_first facts xs) (expression_count (arguments_after_first xs))
+library_fits facts f xs = expression_count xs == 1
 
 -- whether a call has the arguments that it takes
-abbrev pub fits : Facts → Called → ExprList → Bool
-fits facts (called.Function number) xs = takes_arguments (facts.signature number) (count xs)
-fits facts (called.Library f) xs = library_fits facts f xs
-fits facts called.Unknown xs = false
+abbrev pub has_fitting_arguments : Facts → Called → ExprList → Bool
+has_fitting_arguments facts (called.Function number) xs = takes_arguments (facts.signature number) (expression_count xs)
+has_fitting_arguments facts (called.Library f) xs = library_fits facts f xs
+has_fitting_arguments facts called.Unknown xs = false
 
 -- whether it is a function of the library that takes one argument
 abbrev pub takes_one : Called → Bool
@@ -140,14 +140,14 @@ module _ (G : Graph) where
   -- what a call does behind its arguments
   abbrev pub Acts : Facts → Called → ExprList → Path ℕ
   Acts facts (called.Function number) xs i k = G i (view.Calls number k)
-  Acts facts (called.Library f) xs i k = LibraryActs f (number_of_first facts xs) (count (others xs)) i k
+  Acts facts (called.Library f) xs i k = LibraryActs f (number_of_first facts xs) (expression_count (arguments_after_first xs)) i k
   Acts facts called.Unknown xs i k = Nothing i k
 
   -- a path, where this is known to hold
-  abbrev pub Where : Bool → Path ℕ → Path ℕ
-  Where true R = R
-  Where false R = Nothing
+  abbrev pub PathOrNothing : Bool → Path ℕ → Path ℕ
+  PathOrNothing true R = R
+  PathOrNothing false R = Nothing
 
   -- What is left of a call whose arguments aren't those that it takes: no run of a checked text comes there.
   abbrev pub Unfit : Facts → Called → ExprList → Path ℕ
-  Unfit facts c xs = Where (takes_one c) (Acts facts c xs)
+  Unfit facts c xs = PathOrNothing (takes_one c) (Acts facts c xs)

@@ -1,5 +1,5 @@
 ghost use Rattle.std.specs.Prelude.{◌≡◌};
-ghost use Rattle.c_meaning.specs.Trees.{joint};
+ghost use Rattle.c_meaning.specs.Trees.{joint_of_sign};
 ghost use Rattle.lower_operators.specs.Forking.{forks_at, is_short, no_before, yes_before};
 ghost use Rattle.lower_facts.specs.Facts.{sites_in};
 
@@ -9,7 +9,7 @@ use lower_trees::{Joint, joint_by};
 
 /// Whether the operator needs no value of its left side: it is `&&` or `||`, without a site.
 pub fn forks_at(facts: &TreeFacts, link: &Link) -> bool
-    ensures { result ≡ forks_at ((sites_in facts.now).branch_at link.now.token) (joint link.now.sign) }
+    ensures { result ≡ forks_at ((sites_in facts.now).branch_at link.now.token) (joint_of_sign link.now.sign) }
 {
     if facts.branch_at(link.token).is_some() {
         return false;
@@ -19,7 +19,7 @@ pub fn forks_at(facts: &TreeFacts, link: &Link) -> bool
 
 /// Whether the operator is `&&` or `||`.
 pub fn is_short(sign: Sign) -> bool
-    ensures { result ≡ is_short (joint sign) }
+    ensures { result ≡ is_short (joint_of_sign sign) }
 {
     match joint_by(sign) {
         Joint::Both | Joint::Either => true,
@@ -29,7 +29,7 @@ pub fn is_short(sign: Sign) -> bool
 
 /// Where a left side that is true goes on.
 pub fn yes_before(sign: Sign, right: u32, next: u32) -> u32
-    ensures { result ≡ yes_before (joint sign) right next }
+    ensures { result ≡ yes_before (joint_of_sign sign) right next }
 {
     match joint_by(sign) {
         Joint::Both => right,
@@ -39,7 +39,7 @@ pub fn yes_before(sign: Sign, right: u32, next: u32) -> u32
 
 /// Where one that is false goes on.
 pub fn no_before(sign: Sign, right: u32, next: u32) -> u32
-    ensures { result ≡ no_before (joint sign) right next }
+    ensures { result ≡ no_before (joint_of_sign sign) right next }
 {
     match joint_by(sign) {
         Joint::Both => next,

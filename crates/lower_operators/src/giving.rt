@@ -1,6 +1,6 @@
 ghost use Rattle.flow.specs.Limits.{node_limit};
 ghost use Rattle.std.specs.Prelude.{◌≡◌, IfOk, length, ◌≤◌, ◌+◌};
-ghost use Rattle.lower_relation.specs.Room.{returns};
+ghost use Rattle.lower_relation.specs.Room.{return_visits};
 ghost use Rattle.lower_nodes.specs.Made.{MadeFor};
 ghost use Rattle.lower_operators.specs.Giving.{GivenTakes, giving_of, is_refused, library_gives};
 ghost use Rattle.lower_facts.specs.Facts.{facts_in, sites_in};
@@ -74,9 +74,9 @@ pub fn put_given(
     giving: Giving,
     purpose: Purpose,
 ) -> Result<u32, Memory>
-    requires room { length graph.old + (2 + returns (sites_in facts.now) token) ≤ node_limit }
+    requires room { length graph.old + (2 + return_visits (sites_in facts.now) token) ≤ node_limit }
     ensures made { IfOk result (λ i. MadeFor (λ G. GivenTakes G (facts_in facts.now) (sites_in facts.now) token giving) graph.old graph.new i purpose) }
-    ensures few { IfOk result (λ i. length graph.new ≤ length graph.old + (2 + returns (sites_in facts.now) token)) }
+    ensures few { IfOk result (λ i. length graph.new ≤ length graph.old + (2 + return_visits (sites_in facts.now) token)) }
 {
     match giving {
         Giving::Value => {

@@ -1,12 +1,13 @@
 ghost use Rattle.flow.specs.Limits.{node_limit};
-ghost use Rattle.std.specs.Prelude.{◌≡◌, IfOk, option_map, length, ◌≤◌, ◌+◌};
+ghost use Rattle.std.specs.Prelude.{◌≡◌, IfOk, length, ◌≤◌, ◌+◌};
 ghost use Rattle.std.specs.Option.{option_copied};
-ghost use Rattle.c_meaning.specs.Trees.{count};
+ghost use Rattle.c_meaning.specs.Trees.{expression_count};
 ghost use Rattle.c_syntax.specs.Plain.{plain_expr, plain_exprs};
 ghost use Rattle.lower_relation.specs.Expressions.{number_of_text};
 ghost use Rattle.lower_nodes.specs.Made.{Made};
-ghost use Rattle.lower_operators.specs.Passing.{Acts, Formats, LibraryActs, Unfit, number_of_first, text_of_first, type_of_first, fits, library_fits};
-ghost use Rattle.lower_operators.specs.Passing.{library_node, library_types, others, passed, takes_arguments, takes_one, types_passed};
+ghost use Rattle.lower_operators.specs.Passing.{Acts, Formats, LibraryActs, Unfit, number_of_first, text_of_first, type_of_first, has_fitting_arguments};
+ghost use Rattle.lower_operators.specs.Passing.{library_fits};
+ghost use Rattle.lower_operators.specs.Passing.{library_node, library_types, arguments_after_first, arguments_passed, takes_one, types_passed};
 ghost use Rattle.lower_operators.specs.Taken.{wanted_types};
 ghost use Rattle.lower_facts.specs.Facts.{facts_in};
 
@@ -61,7 +62,7 @@ fn text_of_first<'a>(facts: &'a TreeFacts<'_>, arguments: &[Expr]) -> Option<&'a
 
 /// The arguments behind the first one.
 fn others(arguments: &[Expr]) -> &[Expr]
-    ensures { plain_exprs result.now ≡ others (plain_exprs arguments.now) }
+    ensures { plain_exprs result.now ≡ arguments_after_first (plain_exprs arguments.now) }
 {
     match arguments {
         [] => arguments,
@@ -72,14 +73,14 @@ fn others(arguments: &[Expr]) -> &[Expr]
 /// How many arguments there are.
 #[tactic(auto, using(crate::proofs::Acting::counted))]
 fn count(arguments: &[Expr]) -> usize
-    ensures { result ≡ count (plain_exprs arguments.now) }
+    ensures { result ≡ expression_count (plain_exprs arguments.now) }
 {
     arguments.len()
 }
 
 /// The arguments that are passed as values: the format of `printf` is none of them.
 pub fn passed(called: Called, arguments: &[Expr]) -> &[Expr]
-    ensures { plain_exprs result.now ≡ passed called (plain_exprs arguments.now) }
+    ensures { plain_exprs result.now ≡ arguments_passed called (plain_exprs arguments.now) }
 {
     match called {
         Called::Library {
@@ -154,7 +155,7 @@ fn library_fits(facts: &TreeFacts, function: Library, arguments: &[Expr]) -> boo
 
 /// Whether a call has the arguments that it takes.
 pub fn fits(facts: &TreeFacts, called: Called, arguments: &[Expr]) -> bool
-    ensures { result ≡ fits (facts_in facts.now) called (plain_exprs arguments.now) }
+    ensures { result ≡ has_fitting_arguments (facts_in facts.now) called (plain_exprs arguments.now) }
 {
     match called {
         Called::Function { number } => match facts.signature(number) {

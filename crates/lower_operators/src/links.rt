@@ -2,10 +2,10 @@ ghost use Rattle.flow.specs.Limits.{node_limit};
 ghost use Rattle.std.specs.Prelude.{◌≡◌, ◌<◌, IfOk, length, ◌≤◌, ◌+◌};
 ghost use Rattle.c_syntax.specs.Plain.{plain_expr, plain_links};
 ghost use Rattle.c_meaning.specs.Trees.{begins_null};
-ghost use Rattle.lower_relation.specs.Room.{branches};
+ghost use Rattle.lower_relation.specs.Room.{branch_visits};
 ghost use Rattle.lower_nodes.specs.Ends.{Any};
 ghost use Rattle.lower_nodes.specs.Made.{MadeTo};
-ghost use Rattle.lower_operators.specs.Linking.{Shortcut, side_ends, sides, type_before};
+ghost use Rattle.lower_operators.specs.Linking.{Shortcut, side_ends, shortcut_sides, type_before};
 ghost use Rattle.lower_facts.specs.Facts.{facts_in, sites_in};
 
 use c_meaning::ValueType;
@@ -56,10 +56,10 @@ pub fn put_shortcut(
     right: u32,
     next: u32,
 ) -> Result<u32, Memory>
-    requires room { length graph.old + (2 + branches (sites_in facts.now) token) ≤ node_limit }
+    requires room { length graph.old + (2 + branch_visits (sites_in facts.now) token) ≤ node_limit }
     ensures made { IfOk result (λ i. MadeTo side_ends Any (λ G. Shortcut G (facts_in facts.now) (sites_in facts.now) is_both token)
-        graph.old graph.new i (sides right next)) }
-    ensures few { IfOk result (λ i. length graph.new ≤ length graph.old + (2 + branches (sites_in facts.now) token)) }
+        graph.old graph.new i (shortcut_sides right next)) }
+    ensures few { IfOk result (λ i. length graph.new ≤ length graph.old + (2 + branch_visits (sites_in facts.now) token)) }
 {
     if is_both {
         let zero = graph.put(Node::Push {

@@ -3,9 +3,9 @@ ghost use Rattle.std.specs.Prelude.{◌≡◌, ◌<◌, ◌+◌, ◌||◌, IfOk,
 ghost use Rattle.c_syntax.specs.ExprTree as e;
 ghost use Rattle.c_syntax.specs.Plain.{plain_operators, plain_postfix};
 ghost use Rattle.lower_relation.specs.Expressions.{has_more};
-ghost use Rattle.lower_relation.specs.Operators.{Settled, SteppedAs};
-ghost use Rattle.lower_relation.specs.Paths.{Only};
-ghost use Rattle.lower_relation.specs.Room.{pairs};
+ghost use Rattle.lower_relation.specs.Operators.{OperandValue, SteppedAs};
+ghost use Rattle.lower_relation.specs.Paths.{PathOrStuck};
+ghost use Rattle.lower_relation.specs.Room.{pair_visits};
 ghost use Rattle.lower_nodes.specs.Made.{Made};
 ghost use Rattle.lower_operators.specs.Spots.{place_after, place_before, token_after, type_behind};
 ghost use Rattle.lower_facts.specs.Facts.{facts_in, sites_in};
@@ -25,7 +25,7 @@ pub fn put_settled(
     next: u32,
 ) -> Result<u32, Memory>
     requires room { length graph.old + 2 ≤ node_limit }
-    ensures made { IfOk result (λ i. Made (λ G. Settled G known of) graph.old graph.new i next) }
+    ensures made { IfOk result (λ i. Made (λ G. OperandValue G known of) graph.old graph.new i next) }
     ensures few { IfOk result (λ i. length graph.new ≤ length graph.old + 2) }
 {
     if known {
@@ -47,10 +47,10 @@ pub fn put_stepped_place(
     of: Option<ValueType>,
     next: u32,
 ) -> Result<u32, Memory>
-    requires room { length graph.old + (16 + pairs (sites_in facts.now) token) ≤ node_limit }
-    ensures made { IfOk result (λ i. Made (λ G. Only G known (SteppedAs G (facts_in facts.now) (sites_in facts.now) taken up token of))
+    requires room { length graph.old + (16 + pair_visits (sites_in facts.now) token) ≤ node_limit }
+    ensures made { IfOk result (λ i. Made (λ G. PathOrStuck G known (SteppedAs G (facts_in facts.now) (sites_in facts.now) taken up token of))
         graph.old graph.new i next) }
-    ensures few { IfOk result (λ i. length graph.new ≤ length graph.old + (16 + pairs (sites_in facts.now) token)) }
+    ensures few { IfOk result (λ i. length graph.new ≤ length graph.old + (16 + pair_visits (sites_in facts.now) token)) }
 {
     if known {
         let i = put_stepped_as(graph, facts, taken, up, token, of, next)?;

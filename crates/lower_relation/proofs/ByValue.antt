@@ -10,16 +10,16 @@ use Rattle.c_meaning.specs.declared.value_type.Called.{Called}
 use Rattle.c_meaning.specs.declared.value_type.Called.TheVariants as called
 use Rattle.c_meaning.specs.declared.value_type.ValueType.{ValueType}
 use Rattle.c_meaning.specs.declared.value_type.ValueType.TheVariants as type
-use Rattle.c_meaning.specs.Words.{is_null_as, Facts, Signature, Sites, called_as, count, ends_as_place, has_value, is_place, token_of, type_of, listed}
+use Rattle.c_meaning.specs.Words.{is_null_as, Facts, Signature, Sites, called_as, expression_count, ends_as_place, has_value, is_place, token_of, type_of, site_list}
 use Rattle.lower_relation.specs.Calls.{ArgumentPath, ArgumentsPath, CallDoes, CallFunction, CallLibrary, WithResult}
-use Rattle.lower_relation.specs.Expressions.{LastDoes, emitted}
+use Rattle.lower_relation.specs.Expressions.{CommaDoes, emitted_expression}
 use Rattle.lower_relation.specs.Operators.{Cast, Comma, DecidesAt, Postfixed, Prefixed, SizeValue}
-use Rattle.lower_relation.specs.Paths.{Emitted, Graph, MarksAll, Path, ◌then◌, Tests, ForkTo, Ways}
+use Rattle.lower_relation.specs.Paths.{Emitted, Graph, MarksAll, Path, ◌then◌, ValueTruth, ForkTo, Ways}
 
 module _ (G : Graph) where
   -- an expression's truth may be that of its value
   abbrev pub ByValue : Emitted → Type 0
-  ByValue m = (i : ℕ) (k : Ways) → Tests G m.value i k → m.truth i k
+  ByValue m = (i : ℕ) (k : Ways) → ValueTruth G m.value i k → m.truth i k
 
   cast_by : (is_null : Bool) (want : Option ValueType) (m : Emitted) → ByValue (Cast G is_null want m)
   cast_by is_null (Some type.Void) m i k h = h.1
@@ -65,25 +65,25 @@ module _ (G : Graph) where
     comma_by (suc n) m rest a i k h = inl h
 
     mutual
-      pub by_value : (x : ExprTree) → ByValue (emitted G facts sites x)
+      pub by_value : (x : ExprTree) → ByValue (emitted_expression G facts sites x)
       by_value (e.Comma token operands) i k h = last_by_value operands i k h
       by_value (e.Chain level first links) i k h = inl h
       by_value (e.Cast token base stars operand) i k h =
-          cast_by (is_null_as (facts.type_at token) operand) (facts.type_at token) (emitted G facts sites operand) i k h
+          cast_by (is_null_as (facts.type_at token) operand) (facts.type_at token) (emitted_expression G facts sites operand) i k h
       by_value (e.Prefix token operator operand) i k h =
-          prefixed_by token operator (type_of facts operand) (facts.cells_at (token_of operand)) (emitted G facts sites operand) i k h
+          prefixed_by token operator (type_of facts operand) (facts.cells_at (token_of operand)) (emitted_expression G facts sites operand) i k h
       by_value (e.SizeOfType token base stars) i k h = size_by (facts.named_cells base stars) i k h
       by_value (e.Postfix primary operators) i k h =
           postfixed_by (ends_as_place (is_place primary) operators) (type_of facts (e.Postfix primary operators)) _ _ i k h
-      by_value (e.Call token name arguments) i k h = call_by token (called_as (facts.function_at token) name) (count arguments) _ _ _ i k h
+      by_value (e.Call token name arguments) i k h = call_by token (called_as (facts.function_at token) name) (expression_count arguments) _ _ _ i k h
       by_value (e.Paren token inner) i k h = by_value inner i k h
       by_value x i k h = h
 
-      last_by_value : (x : ExprList) → ByValue (LastDoes G facts sites x)
+      last_by_value : (x : ExprList) → ByValue (CommaDoes G facts sites x)
       last_by_value e.no_exprs i k h = h
-      last_by_value (e.more_exprs x rest) i k h = comma_by (count rest) (emitted G facts sites x) (LastDoes G facts sites rest) (by_value x) i k h
+      last_by_value (e.more_exprs x rest) i k h = comma_by (expression_count rest) (emitted_expression G facts sites x) (CommaDoes G facts sites rest) (by_value x) i k h
 
-    decides_by : (o : Option ℕ) (R : Path ℕ) (T : Path Ways) → ((i : ℕ) (k : Ways) → Tests G R i k → T i k)
-        → (i : ℕ) (k : Ways) → (R then MarksAll G (listed o) then ForkTo G) i k → DecidesAt G facts sites o R T i k
+    decides_by : (o : Option ℕ) (R : Path ℕ) (T : Path Ways) → ((i : ℕ) (k : Ways) → ValueTruth G R i k → T i k)
+        → (i : ℕ) (k : Ways) → (R then MarksAll G (site_list o) then ForkTo G) i k → DecidesAt G facts sites o R T i k
     decides_by None R T a i k h = a i k (h.2.0, subst (λ j. R i j) h.2.1 h.1, h.2.2)
     decides_by (Some site) R T a i k h = h

@@ -1,8 +1,8 @@
 -- Each call does what it means.
-use Rattle.std.proofs.Common.{◌≡◌, ℕ, refl, ap, sym, ◌∙◌, List, ◌∷◌, ◌++◌, Option, Some, None, Ok, Err, Bool, true, false, length, true-eqb}
+use Rattle.std.proofs.Common.{◌≡◌, ℕ, refl, ap, ◌∙◌, List, ◌∷◌, ◌++◌, Option, Some, None, Ok, Err, Bool, true, false, length}
 use Rattle.std.specs.Prelude.{◌==◌, Result, slice_get}
 use Rattle.std.specs.Option.{option_and_then}
-use Rattle.cbi_base.specs.Words.{pieces_of, released, truth_of}
+use Rattle.cbi_base.specs.Words.{pieces_of, object_released, truth_of}
 use Rattle.base_lists.proofs.Numbers.{same_number}
 use Rattle.cbi_base.specs.declared.scalar.Kind.TheVariants.{Char, Int, Unsigned}
 use Rattle.cbi_base.specs.declared.scalar.Scalar.{Scalar}
@@ -13,7 +13,7 @@ use Rattle.c_types_rules.specs.declared.library.Library.TheVariants as library
 use Rattle.flow.specs.declared.node.Node.TheVariants as node
 use Rattle.flow.specs.declared.node.View.TheVariants as view
 use Rattle.flow.specs.declared.program.Text.{Text}
-use Rattle.flow.specs.Words.{go_on, step, with_answer, act}
+use Rattle.flow.specs.Words.{go_on, step, with_answer, row_effect}
 use Rattle.flow.specs.Rows as machine
 use Rattle.flow.proofs.Endings.{ends_over, leads_one}
 use Rattle.c_meaning.specs.declared.value_type.Called.{Called}
@@ -21,8 +21,8 @@ use Rattle.c_meaning.specs.declared.value_type.Called.TheVariants as called
 use Rattle.c_meaning.specs.declared.value_type.ValueType.{ValueType}
 use Rattle.c_meaning.specs.declared.value_type.ValueType.TheVariants as type
 use Rattle.c_meaning.specs.Calls as mean
-use Rattle.c_meaning.specs.Words.{Argument, Arguments, as_type, types_taken, as_used, Facts, Setting, Signature, Sites, has_value, listed, truth, World, Out}
-use Rattle.c_meaning.specs.Words.{Caller, OutDone, answered, bind}
+use Rattle.c_meaning.specs.Words.{Argument, Arguments, as_type, types_taken, as_used, Facts, Setting, Signature, Sites, has_value, site_list, truth_value, World, Out}
+use Rattle.c_meaning.specs.Words.{Caller, OutDone, answer_or_trap, bind}
 use Rattle.lower_relation.specs.Calls as way
 use Rattle.lower_relation.specs.Paths.{Path, Does, HaltsAt}
 use Rattle.lower_relation.specs.Stands.{Agrees}
@@ -33,8 +33,8 @@ use Rattle.lower_relation.proofs.OperatorSounds.{marks_ok}
 use Rattle.lower_relation.proofs.PrintSounds.{format_ok, get_ok, put_ok, puts_ok}
 
 module _ (z : Standing) where
-  alloc_ok : (v : Scalar) → Sound z (plus v) (mean.allocate v) (Does z.graph (node.Alloc 0)) to plus
-  unfolding act
+  alloc_ok : (v : Scalar) → Sound z (plus v) (mean.space_allocated v) (Does z.graph (node.Alloc 0)) to plus
+  unfolding row_effect
   alloc_ok Undefined = record { runs = λ i k xs w le h. ends_over z.code _ _ (row z (node.Alloc 0) i k (Undefined ∷ xs) w h) }
   alloc_ok Null = record { runs = λ i k xs w le h. ends_over z.code _ _ (row z (node.Alloc 0) i k (Null ∷ xs) w h) }
   alloc_ok (Place o a) = record { runs = λ i k xs w le h. ends_over z.code _ _ (row z (node.Alloc 0) i k (Place o a ∷ xs) w h) }
@@ -45,12 +45,12 @@ module _ (z : Standing) where
         (leads_one z.code _ _ (row z (node.Alloc 0) i k (Number Unsigned v ∷ xs) w h), le_self w.turns);
   }
 
-  free_ok : (p : Scalar) → Sound z (plus p) (mean.release p) (Does z.graph (node.Free 0)) to none
-  unfolding act
-  free_ok p = changes z (node.Free 0) (plus p) tt none (λ w. released p w.objects) (λ xs w. refl)
+  free_ok : (p : Scalar) → Sound z (plus p) (mean.space_released p) (Does z.graph (node.Free 0)) to none
+  unfolding row_effect
+  free_ok p = changes z (node.Free 0) (plus p) tt none (λ w. object_released p w.objects) (λ xs w. refl)
 
   exit_ok : (v : Scalar) → Sound z (plus v) (mean.exit v) (HaltsAt z.graph {K = ℕ} node.Exit) to none
-  unfolding act
+  unfolding row_effect
   exit_ok Undefined = record { runs = λ i k xs w le h. ends_over z.code _ _ (halts z node.Exit i (Undefined ∷ xs) w h) }
   exit_ok Null = record { runs = λ i k xs w le h. ends_over z.code _ _ (halts z node.Exit i (Null ∷ xs) w h) }
   exit_ok (Place o a) = record { runs = λ i k xs w le h. ends_over z.code _ _ (halts z node.Exit i (Place o a ∷ xs) w h) }
@@ -59,18 +59,18 @@ module _ (z : Standing) where
   exit_ok (Number Unsigned v) = record { runs = λ i k xs w le h. ends_over z.code _ _ (halts z node.Exit i (Number Unsigned v ∷ xs) w h) }
 
   abort_ok : Sound z bare mean.abort (HaltsAt z.graph {K = ℕ} node.Abort) to none
-  unfolding act
+  unfolding row_effect
   abort_ok = record { runs = λ i k xs w le h. ends_over z.code _ _ (halts z node.Abort i xs w h) }
 
   checked : (i k : ℕ) (v : Scalar) (xs : Stack) (w : World) (r : Result Bool Trap)
       → step z.code (state z i (v ∷ xs) w) ≡ go_on (z.ren k) (state z i (v ∷ xs) w) (with_answer r (now z xs w) (λ holds. machine.assert_then holds (now z xs w)))
-      → Reach z.code z.watch (state z i (v ∷ xs) w) w.turns (bind (answered r w) mean.assert) (λ a u. state z k xs u)
+      → Reach z.code z.watch (state z i (v ∷ xs) w) w.turns (bind (answer_or_trap r w) mean.assert) (λ a u. state z k xs u)
   checked i k v xs w (Ok true) e = (leads_one z.code _ _ e, le_self w.turns)
   checked i k v xs w (Ok false) e = ends_over z.code _ _ e
   checked i k v xs w (Err t) e = ends_over z.code _ _ e
 
-  check_ok : (v : Scalar) → Sound z (plus v) (λ u. bind (truth v u) mean.assert) (Does z.graph (node.Check 0)) to none
-  unfolding act
+  check_ok : (v : Scalar) → Sound z (plus v) (λ u. bind (truth_value v u) mean.assert) (Does z.graph (node.Check 0)) to none
+  unfolding row_effect
   check_ok v = record { runs = λ i k xs w le h. checked i k v xs w (truth_of v) (row z (node.Check 0) i k (v ∷ xs) w h) }
 
   -- arguments of any types do what they mean, and are so many
@@ -100,8 +100,8 @@ module _ (z : Standing) where
     print_ok (Some number) n a = printed_ok number (slice_get facts.statics.texts number) n refl a
 
     returned_ok : (token : ℕ) {m : World → Out Scalar} {R : Path ℕ} → Sound z bare m R to plus
-        → SenseSound z (mean.returned s token m) (way.Returned z.graph facts sites token R)
-    returned_ok token a = valued_ok z (seq z a (λ v. marks_ok z facts sites agrees call (listed (sites.return_at token)) v))
+        → SenseSound z (mean.call_result_visited s token m) (way.Returned z.graph facts sites token R)
+    returned_ok token a = valued_ok z (seq z a (λ v. marks_ok z facts sites agrees call (site_list (sites.return_at token)) v))
 
     with_result_ok : (token : ℕ) (b : Bool) {m : World → Out Scalar} {R : Path ℕ}
         → Sound z bare m R to (result_on b) → SenseSound z (mean.with_result s token b m) (way.WithResult z.graph facts sites token b R)

@@ -8,7 +8,7 @@ use Rattle.cbi_base.specs.declared.observation.Seen.{Seen}
 use Rattle.cbi_base.specs.declared.observation.Seen.TheVariants.{First, Second}
 use Rattle.cbi_base.specs.declared.outcome.Outcome.TheVariants.{Ended}
 use Rattle.cbi_base.specs.declared.scalar.Kind.TheVariants.{Char, Int}
-use Rattle.cbi_base.specs.Scalars.{applied, applied_to_one, converted}
+use Rattle.cbi_base.specs.Scalars.{operator_applied, applied_to_one, converted_number}
 use Rattle.c_syntax.specs.declared.token.Sign.TheVariants as sign
 use Rattle.c_syntax.specs.ExprTree as e
 use Rattle.c_syntax.specs.Words.{ExprTree, EntryList, StatementTree}
@@ -24,13 +24,13 @@ use Rattle.flow.specs.declared.site.BranchWord.{BranchWord}
 use Rattle.flow.specs.declared.site.BranchWord.TheVariants as word
 use Rattle.flow.specs.declared.site.Site.{Site}
 use Rattle.flow.specs.declared.site.SiteKind.TheVariants.{Branch}
-use Rattle.flow.specs.Words.{code_of, view_at, MachineEnds, no_work, looked}
+use Rattle.flow.specs.Words.{code_of, view_at, MachineEnds, no_work, seen_at_site}
 use Rattle.flow.specs.View as flow_view
 use Rattle.c_meaning.specs.declared.value_type.ValueType.TheVariants as type
-use Rattle.c_meaning.specs.Words.{Facts, Signature, operate, Behaviour, Source, meaning}
-use Rattle.lower_relation.specs.Functions.{Stays, BodyIn, IsGraphOf, callee_with, ending_of, standing}
+use Rattle.c_meaning.specs.Words.{Facts, Signature, operation_result, Behaviour, Source, meaning}
+use Rattle.lower_relation.specs.Functions.{Stays, BodyIn, IsGraphOf, callee_with, ending_of, graph_of_nodes}
 use Rattle.lower_relation.specs.Paths.{Exits}
-use Rattle.lower_relation.specs.Stands.{Stands, renamed}
+use Rattle.lower_relation.specs.Stands.{Stands, renumbered_view}
 use Rattle.lower_relation.proofs.WholeRuns.{run_ok}
 
 abbrev main : Signature
@@ -93,7 +93,7 @@ told = record {
 }
 
 means : meaning text (codes "BCA") 2 ≡ told
-unfolding meaning converted applied applied_to_one operate looked
+unfolding meaning converted_number operator_applied applied_to_one operation_result seen_at_site
 means = refl
 
 abbrev nodes : List Node
@@ -116,7 +116,7 @@ program = record {
 abbrev same : ℕ → ℕ
 same i = i
 
-renamed_same : (v : View) → renamed same v ≡ v
+renamed_same : (v : View) → renumbered_view same v ≡ v
 renamed_same (view.Row op next) = refl
 renamed_same (view.Halts op) = refl
 renamed_same (view.Forks when_true when_false) = refl
@@ -136,7 +136,7 @@ seen_as : (o : Option Node) (v : View) → option_map flow_view.view o ≡ Some 
 seen_as None v h = cc
 seen_as (Some n) v h = cc
 
-stands : (bank : ℕ → ℕ) → Stands (code_of program bank) 0 (standing nodes) same
+stands : (bank : ℕ → ℕ) → Stands (code_of program bank) 0 (graph_of_nodes nodes) same
 stands bank = record { at = λ i v h. seen_as (slice_get nodes i) v h ∙ sym (renamed_same v) }
 
 abbrev exits : Exits

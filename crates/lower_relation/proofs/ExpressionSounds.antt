@@ -10,19 +10,19 @@ use Rattle.c_syntax.specs.ExprTree as e
 use Rattle.c_syntax.specs.ExprTree.{ExprTree, ExprList, LinkList, PostfixList}
 use Rattle.c_types_expressions.specs.ExprWalk.{binary_of}
 use Rattle.flow.specs.declared.node.Node.TheVariants as node
-use Rattle.flow.specs.Rows.{act}
+use Rattle.flow.specs.Rows.{row_effect}
 use Rattle.c_meaning.specs.declared.value_type.ValueType.{ValueType}
 use Rattle.c_meaning.specs.Words.{print_by, is_null_as, Facts, Setting, Sites, text_of_string, operation, stepped_behind, token_of, type_of, ends_as_place}
-use Rattle.c_meaning.specs.Words.{is_place, count, assignment, joint, is_null_beside, begins_null, operand_type, called_as, first_type, other_types, truth}
-use Rattle.c_meaning.specs.Words.{World, Go, Out, Caller, bind, choose, done, stuck}
+use Rattle.c_meaning.specs.Words.{is_place, expression_count, assignment_of_sign, joint_of_sign, is_null_beside, begins_null, operand_type, called_as, first_type, other_types, truth_value}
+use Rattle.c_meaning.specs.Words.{World, Go, Out, Caller, bind, chosen_part, value_discarded, stuck_run}
 use Rattle.c_meaning.specs.Expressions as mean_of
 use Rattle.c_meaning.specs.Meaning as mean
 use Rattle.lower_relation.specs.Calls.{PrintPath}
 use Rattle.lower_relation.specs.Expressions as way_of
 use Rattle.lower_relation.specs.Expressions.{has_more, number_of_text}
 use Rattle.lower_relation.specs.Operators.{Stepped, SteppedAs, SteppedBehind}
-use Rattle.lower_relation.specs.Paths.{Path, ◌then◌, Nothing, OneOf, Only, Tests, Ways}
-use Rattle.lower_relation.specs.Values.{Dropped, Valued}
+use Rattle.lower_relation.specs.Paths.{Path, ◌then◌, Nothing, OneOf, PathOrStuck, ValueTruth, Ways}
+use Rattle.lower_relation.specs.Values.{DroppedValue, EmittedValue}
 use Rattle.lower_relation.specs.Stands.{Agrees}
 use Rattle.lower_relation.proofs.Reach.{Holds, Stack, bind_bind, bind_go, holds_bind}
 use Rattle.lower_relation.proofs.Sounds.{CallsSound, Standing, Sound, SenseSound, bare, joined, kept, none, one_of_ok, grouped, only_ok, plus, pushes, same_meaning, seq, seq_done, setting, stuck_ok, to, unchanged, under, way}
@@ -57,16 +57,16 @@ module _ (z : Standing) (facts : Facts) (sites : Sites) (agrees : Agrees z.code 
   V x = mean.expr s x
 
   text_place_ok : (o : Option ℕ) → Sound z bare (mean.text_place facts o) (way_of.TextPlace z.graph o) to plus
-  unfolding act
+  unfolding row_effect
   text_place_ok None = stuck_ok z bare to plus
   text_place_ok (Some number) =
       rw (sym agrees.statics) (pushes z (node.Text number 0) (Place (z.code.statics.globals + number) 0) (λ xs w. refl))
 
-  chain_ok : {m : World → Out Scalar} {R : Path ℕ} {T : Path Ways} → Sound z bare m R to plus → Sound z bare (λ w. bind (m w) truth) T way none
-      → SenseSound z (mean_of.valued m) (record (Valued z.graph R) { truth = OneOf (Tests z.graph R) T })
+  chain_ok : {m : World → Out Scalar} {R : Path ℕ} {T : Path Ways} → Sound z bare m R to plus → Sound z bare (λ w. bind (m w) truth_value) T way none
+      → SenseSound z (mean_of.sense_of_value m) (record (EmittedValue z.graph R) { truth = OneOf (ValueTruth z.graph R) T })
   chain_ok a b = record { value = a; place = stuck_ok z bare to plus; effect = done_ok z a; truth = one_of_ok z (tests_ok z a) b }
 
-  many : (types : List ValueType) (x : ExprList) (args : Stack) (total : ℕ) → length args + count x ≡ total → (w : World)
+  many : (types : List ValueType) (x : ExprList) (args : Stack) (total : ℕ) → length args + expression_count x ≡ total → (w : World)
       → Holds (λ found. length found ≡ total) (mean.arguments_value s types x args w)
   many types e.no_exprs args total l w = omega (arith, l)
   many types (e.more_exprs x rest) args total l w =
@@ -76,49 +76,49 @@ module _ (z : Standing) (facts : Facts) (sites : Sites) (agrees : Agrees z.code 
   -- each operand of a chain does what it means
   abbrev OperandsSound : LinkList → Type 0
   OperandsSound e.no_links = Unit {0}
-  OperandsSound (e.more_links token sign operand rest) = SenseSound z (V operand) (way_of.emitted z.graph facts sites operand) × OperandsSound rest
+  OperandsSound (e.more_links token sign operand rest) = SenseSound z (V operand) (way_of.emitted_expression z.graph facts sites operand) × OperandsSound rest
 
   links_hold_ok : (left : Option ValueType) (x : LinkList) → OperandsSound x → {m : World → Out Scalar} {R : Path ℕ} {T : Path Ways}
-      → Sound z bare m R to plus → Sound z bare (λ w. bind (m w) truth) T way none
-      → Sound z bare (λ w. bind (bind (m w) (mean.links_value s left x)) truth) (way_of.LinksHold z.graph facts sites left R T x) way none
-  links_hold_ok left e.no_links all {m = m} a b = same_meaning z (λ w. ap (λ o. bind o truth) (sym (bind_go (m w)))) b
+      → Sound z bare m R to plus → Sound z bare (λ w. bind (m w) truth_value) T way none
+      → Sound z bare (λ w. bind (bind (m w) (mean.links_value s left x)) truth_value) (way_of.LinksHold z.graph facts sites left R T x) way none
+  links_hold_ok left e.no_links all {m = m} a b = same_meaning z (λ w. ap (λ o. bind o truth_value) (sym (bind_go (m w)))) b
   links_hold_ok left (e.more_links token sign operand rest) all {m = m} a b =
-      same_meaning z (λ w. ap (λ o. bind o truth) (bind_bind (m w) _ _)) (links_hold_ok (facts.type_at token) rest all.1
-      (seq z a (λ v. linked_ok z facts sites agrees call (joint sign) token left
+      same_meaning z (λ w. ap (λ o. bind o truth_value) (bind_bind (m w) _ _)) (links_hold_ok (facts.type_at token) rest all.1
+      (seq z a (λ v. linked_ok z facts sites agrees call (joint_of_sign sign) token left
       (operand_type (is_null_beside (binary_of sign) left operand) (type_of facts operand)) v
       (null_or_ok z (is_null_beside (binary_of sign) left operand) all.0)))
-      (linked_truth_ok z facts sites agrees call (joint sign) token left
+      (linked_truth_ok z facts sites agrees call (joint_of_sign sign) token left
       (operand_type (is_null_beside (binary_of sign) left operand) (type_of facts operand)) a b
       (null_or_ok z (is_null_beside (binary_of sign) left operand) all.0) (null_truth_ok z (is_null_beside (binary_of sign) left operand) all.0)))
 
   -- the last one of several operators behind an operand leaves the old value or the new one, where nothing takes it
   last_step_ok : (known is_up : Bool) (token : ℕ) (of : Option ValueType) (v : Scalar)
-      → Sound z (plus v) (λ w. done (bind (choose known (stepped_behind s is_up token of v) stuck w) (λ x. Go x)))
-      (Dropped z.graph (Only z.graph known (Stepped z.graph facts sites is_up token of) then Nothing)) to none
+      → Sound z (plus v) (λ w. value_discarded (bind (chosen_part known (stepped_behind s is_up token of v) stuck_run w) (λ x. Go x)))
+      (DroppedValue z.graph (PathOrStuck z.graph known (Stepped z.graph facts sites is_up token of) then Nothing)) to none
   last_step_ok true is_up token of v =
-      same_meaning z (λ w. ap (λ o. done o) (sym (bind_go (stepped_behind s is_up token of v w))))
+      same_meaning z (λ w. ap (λ o. value_discarded o) (sym (bind_go (stepped_behind s is_up token of v w))))
       (grouped z (joined z (dropped_step_ok z facts sites agrees call is_up token of v)))
   last_step_ok false is_up token of v = record { runs = λ i k xs w le h. (stuck_ok z {A = Unit {0}} {K = ℕ} (plus v) to none).runs i k xs w le h.1.1 }
 
   step_ok : (known is_up : Bool) (token : ℕ) (of : Option ValueType) (v : Scalar)
-      → Sound z (plus v) (choose known (stepped_behind s is_up token of v) stuck)
-      (Only z.graph known (SteppedBehind z.graph facts sites is_up token of)) to plus
+      → Sound z (plus v) (chosen_part known (stepped_behind s is_up token of v) stuck_run)
+      (PathOrStuck z.graph known (SteppedBehind z.graph facts sites is_up token of)) to plus
   step_ok known is_up token of v = only_ok z known (λ _. stepped_behind_ok z facts sites agrees call is_up token of v)
 
   untaken_step_ok : (known is_up : Bool) (token : ℕ) (of : Option ValueType) (rest : PostfixList) (v : Scalar)
-      → ((x : Scalar) → Sound z (plus x) (λ w. done (mean.onward s false (facts.type_at token) rest x w))
-      (Dropped z.graph (way_of.Behind z.graph facts sites false false (facts.type_at token) rest)) to none)
-      → Sound z (plus v) (λ w. done (bind (choose known (stepped_behind s is_up token of v) stuck w) (mean.onward s false (facts.type_at token) rest)))
-      (Dropped z.graph (Only z.graph known (SteppedAs z.graph facts sites (has_more rest) is_up token of)
-      then way_of.Behind z.graph facts sites false false (facts.type_at token) rest)) to none
+      → ((x : Scalar) → Sound z (plus x) (λ w. value_discarded (mean.value_after_postfix s false (facts.type_at token) rest x w))
+      (DroppedValue z.graph (way_of.PostfixOperatorsDo z.graph facts sites false false (facts.type_at token) rest)) to none)
+      → Sound z (plus v) (λ w. value_discarded (bind (chosen_part known (stepped_behind s is_up token of v) stuck_run w) (mean.value_after_postfix s false (facts.type_at token) rest)))
+      (DroppedValue z.graph (PathOrStuck z.graph known (SteppedAs z.graph facts sites (has_more rest) is_up token of)
+      then way_of.PostfixOperatorsDo z.graph facts sites false false (facts.type_at token) rest)) to none
   untaken_step_ok known is_up token of e.no_postfix v a = last_step_ok known is_up token of v
   untaken_step_ok known is_up token of rest v a = seq_done z _ (step_ok known is_up token of v) a
 
   mutual
-    pub expr_ok : (x : ExprTree) → SenseSound z (mean.expr s x) (way_of.emitted z.graph facts sites x)
+    pub expr_ok : (x : ExprTree) → SenseSound z (mean.expr s x) (way_of.emitted_expression z.graph facts sites x)
     expr_ok (e.Comma token operands) = last_ok operands
     expr_ok (e.Assign token sign target value) = valued_ok z
-        (assign_ok z facts sites agrees call token (assignment sign) (is_null_as (type_of facts target) value) (type_of facts target) (type_of facts value)
+        (assign_ok z facts sites agrees call token (assignment_of_sign sign) (is_null_as (type_of facts target) value) (type_of facts target) (type_of facts value)
         (expr_ok target) (expr_ok value))
     expr_ok (e.Conditional token condition first second) = conditional_ok z facts sites agrees call token (expr_ok condition)
         (arm_ok z (is_null_as (facts.type_at token) first) (type_of facts first) (facts.type_at token) (expr_ok first))
@@ -139,8 +139,8 @@ module _ (z : Standing) (facts : Facts) (sites : Sites) (agrees : Agrees z.code 
         (seq z (spot_ok z (is_place primary) (expr_ok primary)) (λ v. behind_ok (is_place primary) (type_of facts primary) operators v))
         (seq_done z _ (spot_ok z (is_place primary) (expr_ok primary)) (λ v. untaken_ok (is_place primary) (type_of facts primary) operators v))
     expr_ok (e.Name token name) = placed_ok z (facts.type_at token) (variable_ok z facts sites agrees call (facts.slot_at token))
-    expr_ok (e.Call token name arguments) = call_sense_ok z facts sites agrees call calls token (called_as (facts.function_at token) name) (count arguments)
-        (record { sound = λ types. arguments_ok types arguments []; many = λ types w. many types arguments [] (count arguments) (omega arith) w })
+    expr_ok (e.Call token name arguments) = call_sense_ok z facts sites agrees call calls token (called_as (facts.function_at token) name) (expression_count arguments)
+        (record { sound = λ types. arguments_ok types arguments []; many = λ types w. many types arguments [] (expression_count arguments) (omega arith) w })
         (record { sound = λ want. lone_ok want arguments }) (formatted_ok arguments)
     expr_ok (e.Constant token kind value) = valued_ok z (push_ok z kind value)
     expr_ok (e.Strings token parts) = valued_ok z (text_place_ok (facts.text_at token))
@@ -149,7 +149,7 @@ module _ (z : Standing) (facts : Facts) (sites : Sites) (agrees : Agrees z.code 
     expr_ok (e.EndOfFile token) = valued_ok z (push_ok z Int (negsuc 0))
 
     pub behind_ok : (known : Bool) (of : Option ValueType) (x : PostfixList) (v : Scalar)
-        → Sound z (plus v) (mean.onward s known of x v) (way_of.Behind z.graph facts sites true known of x) to plus
+        → Sound z (plus v) (mean.value_after_postfix s known of x v) (way_of.PostfixOperatorsDo z.graph facts sites true known of x) to plus
     behind_ok known of e.no_postfix v = unchanged z v
     behind_ok known of (e.index token i rest) v =
         seq z (settled_ok z known of v) (λ p. seq z (under z (plus p) (expr_ok i).value) (λ x.
@@ -164,7 +164,7 @@ module _ (z : Standing) (facts : Facts) (sites : Sites) (agrees : Agrees z.code 
 
     -- where nothing takes their value
     untaken_ok : (known : Bool) (of : Option ValueType) (x : PostfixList) (v : Scalar)
-        → Sound z (plus v) (λ w. done (mean.onward s known of x v w)) (Dropped z.graph (way_of.Behind z.graph facts sites false known of x)) to none
+        → Sound z (plus v) (λ w. value_discarded (mean.value_after_postfix s known of x v w)) (DroppedValue z.graph (way_of.PostfixOperatorsDo z.graph facts sites false known of x)) to none
     untaken_ok known of e.no_postfix v = done_ok z (unchanged z v)
     untaken_ok known of (e.index token i rest) v =
         seq_done z _ (settled_ok z known of v) (λ p. seq_done z _ (under z (plus p) (expr_ok i).value) (λ x.
@@ -179,7 +179,7 @@ module _ (z : Standing) (facts : Facts) (sites : Sites) (agrees : Agrees z.code 
         → Sound z (plus v) (mean.links_value s left x v) (way_of.LinksDo z.graph facts sites left x) to plus
     links_ok left e.no_links v = unchanged z v
     links_ok left (e.more_links token sign operand rest) v =
-        seq z (linked_ok z facts sites agrees call (joint sign) token left
+        seq z (linked_ok z facts sites agrees call (joint_of_sign sign) token left
         (operand_type (is_null_beside (binary_of sign) left operand) (type_of facts operand)) v
         (null_or_ok z (is_null_beside (binary_of sign) left operand) (expr_ok operand)))
         (λ x. links_ok (facts.type_at token) rest x)
@@ -188,9 +188,9 @@ module _ (z : Standing) (facts : Facts) (sites : Sites) (agrees : Agrees z.code 
     operands_ok e.no_links = tt
     operands_ok (e.more_links token sign operand rest) = (expr_ok operand, operands_ok rest)
 
-    pub last_ok : (x : ExprList) → SenseSound z (mean.last_sense s x) (way_of.LastDoes z.graph facts sites x)
+    pub last_ok : (x : ExprList) → SenseSound z (mean.last_sense s x) (way_of.CommaDoes z.graph facts sites x)
     last_ok e.no_exprs = valued_ok z (stuck_ok z bare to plus)
-    last_ok (e.more_exprs x rest) = comma_ok z (count rest) (expr_ok x) (last_ok rest)
+    last_ok (e.more_exprs x rest) = comma_ok z (expression_count rest) (expr_ok x) (last_ok rest)
 
     pub arguments_ok : (types : List ValueType) (x : ExprList) (args : Stack)
         → Sound z (λ xs. args ++ xs) (mean.arguments_value s types x args) (way_of.ArgumentsDo z.graph facts sites types x) to (λ found xs. found ++ xs)
@@ -200,19 +200,19 @@ module _ (z : Standing) (facts : Facts) (sites : Sites) (agrees : Agrees z.code 
         (λ v. arguments_ok (other_types types) rest (v ∷ args))
 
     pub lone_ok : (want : Option ValueType → Option ValueType) (x : ExprList)
-        → Sound z bare (mean.lone_value s want x) (way_of.LoneDoes z.graph facts sites want x) to plus
+        → Sound z bare (mean.lone_value s want x) (way_of.OneArgumentDoes z.graph facts sites want x) to plus
     lone_ok want e.no_exprs = stuck_ok z bare to plus
     lone_ok want (e.more_exprs x rest) =
-        only_ok z (count rest == 0) (λ _. handed_value_ok z (is_null_as (want (type_of facts x)) x) (want (type_of facts x)) (expr_ok x))
+        only_ok z (expression_count rest == 0) (λ _. handed_value_ok z (is_null_as (want (type_of facts x)) x) (want (type_of facts x)) (expr_ok x))
 
-    pub formatted_ok : (x : ExprList) → Sound z bare (mean.formatted s x) (way_of.FormatDoes z.graph facts sites x) to none
+    pub formatted_ok : (x : ExprList) → Sound z bare (mean.arguments_printed s x) (way_of.FormatDoes z.graph facts sites x) to none
     formatted_ok e.no_exprs = stuck_ok z bare to none
     formatted_ok (e.more_exprs x rest) =
-        subst (λ o. Sound z bare (print_by o (count rest) (λ types. mean.arguments_value s types rest []))
-        (PrintPath z.graph (number_of_text facts x) o (count rest) (λ types. way_of.ArgumentsDo z.graph facts sites types rest)) to none)
+        subst (λ o. Sound z bare (print_by o (expression_count rest) (λ types. mean.arguments_value s types rest []))
+        (PrintPath z.graph (number_of_text facts x) o (expression_count rest) (λ types. way_of.ArgumentsDo z.graph facts sites types rest)) to none)
         (sym (text_found facts x))
-        (print_ok z facts sites agrees call calls (number_of_text facts x) (count rest)
-        (record { sound = λ types. arguments_ok types rest []; many = λ types w. many types rest [] (count rest) (omega arith) w }))
+        (print_ok z facts sites agrees call calls (number_of_text facts x) (expression_count rest)
+        (record { sound = λ types. arguments_ok types rest []; many = λ types w. many types rest [] (expression_count rest) (omega arith) w }))
 
   pub condition_ok : (token : ℕ) (x : ExprTree) → Sound z bare (mean.condition s token x) (way_of.Condition z.graph facts sites token x) way none
   condition_ok token x = decides_ok z facts sites agrees call token (expr_ok x).value (expr_ok x).truth

@@ -4,7 +4,7 @@ use Rattle.std.specs.Prelude.{Option}
 use Rattle.cbi_base.specs.declared.scalar.Scalar.{Scalar}
 use Rattle.c_meaning.specs.Words.{after_entry, World, Out, Go, OutDone, Flow, Next, Broken, Continued, Returned, bind}
 use Rattle.lower_relation.specs.Paths.{Path, Exits}
-use Rattle.lower_relation.specs.Statements.{Before}
+use Rattle.lower_relation.specs.Statements.{StatementSequence}
 use Rattle.lower_relation.proofs.Reach.{Stack, Reach, here, le_self, reach_bind}
 use Rattle.lower_relation.proofs.Sounds.{Standing, Sound, bare, none, state, stay, to}
 
@@ -49,7 +49,7 @@ module _ (z : Standing) where
   returned_on (Some v) x y xs u g l = (stay z x.gives y.gives (v ∷ xs) u g, le_self u.turns)
 
   -- a statement, and the ones after it
-  pub entry_then : {m q : World → Out Flow} {R S : Path Exits} → Executes m R → Executes q S → Executes (λ w. bind (m w) (after_entry q)) (Before R S)
+  pub entry_then : {m q : World → Out Flow} {R S : Path Exits} → Executes m R → Executes q S → Executes (λ w. bind (m w) (after_entry q)) (StatementSequence R S)
   entry_then {m = m} {q = q} a b = record {
     runs = λ i x xs w le h.
         let inner : Exits = record x { next = h.0 } in

@@ -9,12 +9,12 @@ use Rattle.cbi_base.specs.declared.scalar.Scalar.{Scalar}
 use Rattle.cbi_base.specs.declared.trap.Trap.TheVariants as trap
 use Rattle.c_syntax.specs.StatementTree.{EntryList}
 use Rattle.flow.specs.declared.node.View.TheVariants as view
-use Rattle.flow.specs.Words.{call_with, entered, has_result, params_of, waiting, Code, next_of, step, Lacks, Takes, several, Frame, State, Watch, over}
+use Rattle.flow.specs.Words.{call_with, entered_with_locals, has_result, caller_waiting, Code, next_of, step, Lacks, Takes, operands_taken, Frame, State, Watch, run_ended}
 use Rattle.flow.specs.Calls as flow_calls
 use Rattle.flow.proofs.Endings.{ends_over, leads_one}
-use Rattle.c_meaning.specs.Words.{all_defined, Signature, Source, call_at, enter_function, enter_with, inside, left_function, locals_at, run_body, value_left}
-use Rattle.c_meaning.specs.Words.{locals_of, gives_value, has_value, World, Out, Go, Stop, Flow, bind, spend}
-use Rattle.lower_relation.specs.Functions.{BodyDoes, BodyIn, Lowered, callee_with, standing}
+use Rattle.c_meaning.specs.Words.{all_defined, Signature, Source, call_at, enter_function, enter_with, body_world, left_function, locals_at, run_body, value_left}
+use Rattle.c_meaning.specs.Words.{locals_of, gives_value, has_value, World, Out, Go, Stop, Flow, bind, one_turn_spent}
+use Rattle.lower_relation.specs.Functions.{BodyDoes, BodyIn, Lowered, callee_with, graph_of_nodes}
 use Rattle.lower_relation.proofs.Flows.{Executes, flow_at, flow_post}
 use Rattle.lower_relation.proofs.Leaving.{comes_ok, frame_of, leave_ok}
 use Rattle.lower_relation.proofs.Reach.{now_of, Stack, Reach, first, le_self, reach_bind, state_at}
@@ -32,7 +32,7 @@ module _ (code : Code) (watch : Watch) (src : Source) (lowered : Lowered code sr
   running number s b below locals turns = record {
     code = code;
     function = number;
-    graph = standing b.nodes;
+    graph = graph_of_nodes b.nodes;
     ren = b.ren;
     stands = b.stands;
     below = below;
@@ -45,7 +45,7 @@ module _ (code : Code) (watch : Watch) (src : Source) (lowered : Lowered code sr
     -- the graph does the body
     pub body_does : (number : ℕ) (s : Signature) (b : BodyIn code src number s) (below : List Frame) (w : World) (o : Option EntryList)
         → Executes (running number s b below (locals_at s w) n) (run_body src (call_at src n) n s (locals_at s w) o)
-        (BodyDoes (standing b.nodes) src.facts src.sites s.result o)
+        (BodyDoes (graph_of_nodes b.nodes) src.facts src.sites s.result o)
     body_does number s b below w None = stuck_ok (running number s b below (locals_at s w) n) bare flow_at flow_post
     body_does number s b below w (Some body) =
         let z : Standing = running number s b below (locals_at s w) n in
@@ -63,7 +63,7 @@ module _ (code : Code) (watch : Watch) (src : Source) (lowered : Lowered code sr
 
       -- the caller waits
       abbrev waits : ℕ → Stack → World → State
-      waits i ys w = waiting node (now_of locals operands w) (state_at watch f below locals i ys w)
+      waits i ys w = caller_waiting node (now_of locals operands w) (state_at watch f below locals i ys w)
 
       -- the body, and the end of the function
       body_ok : (w u : World) → u.turns ≤ n
@@ -86,14 +86,14 @@ module _ (code : Code) (watch : Watch) (src : Source) (lowered : Lowered code sr
       -- the function is entered, or there is no room for it
       entry_ok : (i m : ℕ) (ys : Stack) (w u : World) (allowed : Bool) (made : Option Objects) → u.turns ≤ n → u.turns ≤ m
           → step code (state_at watch f below locals i ys w)
-          ≡ (if allowed then entered number (callee_with s) (waits i ys u) made else over (Trapped trap.StackOverflow) (waits i ys u))
+          ≡ (if allowed then entered_with_locals number (callee_with s) (waits i ys u) made else run_ended (Trapped trap.StackOverflow) (waits i ys u))
           → Reach code watch (state_at watch f below locals i ys w) m
           (bind (if allowed then enter_with src (call_at src n) n number s u made else Stop (Trapped trap.StackOverflow) u) (leaves u)) caller
       entry_ok i m ys w u false made le lt e = ends_over code _ _ e
       entry_ok i m ys w u true None le lt e = ends_over code _ _ e
       entry_ok i m ys w u true (Some objects) le lt e =
-          first code watch _ _ _ _ (bind (run_body src (call_at src n) n s (locals_at s u) (src.body number) (inside objects u)) (leaves u)) caller
-          (leads_one code _ _ e) lt (body_ok u (inside objects u) le)
+          first code watch _ _ _ _ (bind (run_body src (call_at src n) n s (locals_at s u) (src.body number) (body_world objects u)) (leaves u)) caller
+          (leads_one code _ _ e) lt (body_ok u (body_world objects u) le)
 
       -- the arguments are taken, or one of them is undefined
       taken_ok : (i m : ℕ) (args : Stack) (w u : World) (defined : Bool) → u.turns ≤ n → u.turns ≤ m
@@ -117,12 +117,12 @@ module _ (code : Code) (watch : Watch) (src : Source) (lowered : Lowered code sr
           let st : State = state_at watch f below locals i (args ++ operands) (record u { turns = m }) in
           ap (λ v. next_of code v (state_at watch f below locals i (args ++ operands) (record u { turns = suc m }))) at
           ∙ ap (λ c. flow_calls.call c number node st) (callee_is number s sig)
-          ∙ ap (λ t. call_with (Some (callee_with s)) number node t st) (ap (λ c. several c st.now) (sym l) ∙ several_on locals args operands u)
+          ∙ ap (λ t. call_with (Some (callee_with s)) number node t st) (ap (λ c. operands_taken c st.now) (sym l) ∙ several_on locals args operands u)
 
       -- a turn is spent, or none is left
       turn_ok : (i : ℕ) (args : Stack) (w : World) (t : ℕ) → t ≤ suc n → code.at f i ≡ view.Calls number node → length args ≡ length s.params
           → Reach code watch (state_at watch f below locals i (args ++ operands) (record w { turns = t })) t
-          (spend t (record w { turns = t }) (λ u.
+          (one_turn_spent t (record w { turns = t }) (λ u.
           bind (all_defined args u) (λ vs _. bind (enter_function src (call_at src n) n number (Some s) vs u) (leaves u)))) caller
       unfolding next_of
       turn_ok i args w zero le at l =
@@ -148,7 +148,7 @@ module _ (code : Code) (watch : Watch) (src : Source) (lowered : Lowered code sr
   calls_ok (suc n) = record {
     by = λ f below locals number s i k args xs w le at sig l.
         subst (λ o. Reach code watch (state_at watch f below locals i (args ++ xs) w) w.turns
-        (spend w.turns w (λ u. bind (all_defined args u) (λ vs _. bind (enter_function src (call_at src n) n number o vs u) (λ flow y.
+        (one_turn_spent w.turns w (λ u. bind (all_defined args u) (λ vs _. bind (enter_function src (call_at src n) n number o vs u) (λ flow y.
         bind (value_left (number == src.main) (gives_value o) flow y) (left_function (locals_of o u))))))
         (λ v u. state_at watch f below locals k (result_on (has_value s.result) v xs) u))
         (sym sig) (turn_ok n (calls_ok n) f k xs locals below number s sig i args w w.turns le at l);

@@ -4,13 +4,13 @@ use Rattle.std.specs.Prelude.{pos}
 use Rattle.cbi_base.specs.Frames.{Locals}
 use Rattle.cbi_base.specs.declared.scalar.Kind.TheVariants.{Int}
 use Rattle.cbi_base.specs.declared.scalar.Scalar.{Scalar}
-use Rattle.cbi_base.specs.declared.scalar.Scalar.TheVariants.{Number, Place, Null, Undefined}
+use Rattle.cbi_base.specs.declared.scalar.Scalar.TheVariants.{Number, Undefined}
 use Rattle.flow.specs.declared.node.Node.TheVariants as node
 use Rattle.flow.specs.declared.node.View.TheVariants as view
-use Rattle.flow.specs.Words.{give, has_result, quit, RunLeads, next_of, step, Takes, act, Frame, State}
+use Rattle.flow.specs.Words.{left_with_value, has_result, left_without_value, RunLeads, next_of, step, Takes, row_effect, Frame, State}
 use Rattle.flow.proofs.Endings.{ends_over, leads_one}
-use Rattle.c_meaning.specs.Words.{left_function, value_left, World, Out, Go, Flow, Next, Broken, Continued, Returned, bind, stuck}
-use Rattle.lower_relation.specs.Functions.{ComesTo, Stays, Passes, EndsAt, GivesAt, Leaves}
+use Rattle.c_meaning.specs.Words.{left_function, value_left, World, Out, Go, Flow, Next, Broken, Continued, Returned, bind, stuck_run}
+use Rattle.lower_relation.specs.Functions.{ComesTo, Stays, Passes, EndsAt, GivesAt, FunctionExits}
 use Rattle.lower_relation.specs.Paths.{Does, Exits, Stuck}
 use Rattle.lower_relation.proofs.Flows.{flow_at, flow_post}
 use Rattle.lower_relation.proofs.Reach.{Stack, Reach, first, le_self, state_at}
@@ -18,23 +18,23 @@ use Rattle.lower_relation.proofs.Sounds.{Standing, now, result_on, row_goes, sta
 
 module _ (z : Standing) (has : Bool) (result : has_result (z.code.callee z.function) ≡ has) where
   pub gives_step : (i : ℕ) (v : Scalar) (u : World) → z.graph i view.Gives → step z.code (state z i (v ∷ []) u)
-      ≡ give has (Takes v (now z [] u)) (state z i (v ∷ []) u)
+      ≡ left_with_value has (Takes v (now z [] u)) (state z i (v ∷ []) u)
   unfolding next_of
   gives_step i v u g =
-      ap (λ x. next_of z.code x (state z i (v ∷ []) u)) (z.stands.at i _ g) ∙ ap (λ b. give b (Takes v (now z [] u)) (state z i (v ∷ []) u)) result
+      ap (λ x. next_of z.code x (state z i (v ∷ []) u)) (z.stands.at i _ g) ∙ ap (λ b. left_with_value b (Takes v (now z [] u)) (state z i (v ∷ []) u)) result
 
-  pub quits_step : (i : ℕ) (u : World) → z.graph i view.Quits → step z.code (state z i [] u) ≡ quit z.below has (state z i [] u)
+  pub quits_step : (i : ℕ) (u : World) → z.graph i view.Quits → step z.code (state z i [] u) ≡ left_without_value z.below has (state z i [] u)
   unfolding next_of
-  quits_step i u g = ap (λ x. next_of z.code x (state z i [] u)) (z.stands.at i _ g) ∙ ap (λ b. quit z.below b (state z i [] u)) result
+  quits_step i u g = ap (λ x. next_of z.code x (state z i [] u)) (z.stands.at i _ g) ∙ ap (λ b. left_without_value z.below b (state z i [] u)) result
 
   -- `main` ends with 0
   pub zero_pushed : (i k : ℕ) (u : World) → Does z.graph (node.Push Int (pos 0) 0) i k → RunLeads z.code (state z i [] u) (state z k (Number Int (pos 0) ∷ []) u)
-  unfolding act
+  unfolding row_effect
   zero_pushed i k u h = row_goes z (node.Push Int (pos 0) 0) i k [] (Number Int (pos 0) ∷ []) u u h refl refl refl refl
 
 -- control comes to the body
 pub comes_ok : (z : Standing) (i k : ℕ) (xs : Stack) (w : World) → ComesTo z.graph i k → RunLeads z.code (state z i xs w) (state z k xs w)
-unfolding act
+unfolding row_effect
 comes_ok z i k xs w (Stays e) = stay z i k xs w e
 comes_ok z i k xs w (Passes h) = row_goes z (node.Pass 0) i k xs xs w w h refl refl refl refl
 
@@ -54,16 +54,16 @@ module _ (below_it : Standing) (f node : ℕ) (operands : Stack) (locals : Local
   abbrev pub Returns : ℕ → Stack → World → Bool → Out Scalar → Type 0
   Returns i xs u has m = Reach z.code z.watch (state z i xs u) u.turns (bind m (left_function z.locals)) (back has)
 
-  given_ok : (i : ℕ) (v : Scalar) (u : World) → step z.code (state z i (v ∷ []) u) ≡ give true (Takes v (now z [] u)) (state z i (v ∷ []) u)
+  given_ok : (i : ℕ) (v : Scalar) (u : World) → step z.code (state z i (v ∷ []) u) ≡ left_with_value true (Takes v (now z [] u)) (state z i (v ∷ []) u)
       → (is_main : Bool) → Returns i (v ∷ []) u true (value_left is_main true (Returned (Some v)) u)
   given_ok i Undefined u e is_main = ends_over z.code _ _ e
   given_ok i v u e is_main = (leads_one z.code _ _ e, le_self u.turns)
 
-  left_ok : (i : ℕ) (u : World) (has : Bool) → step z.code (state z i [] u) ≡ quit z.below has (state z i [] u) → Returns i [] u has (Go Undefined u)
+  left_ok : (i : ℕ) (u : World) (has : Bool) → step z.code (state z i [] u) ≡ left_without_value z.below has (state z i [] u) → Returns i [] u has (Go Undefined u)
   left_ok i u true e = (leads_one z.code _ _ e, le_self u.turns)
   left_ok i u false e = (leads_one z.code _ _ e, le_self u.turns)
 
-  stuck_at : (i : ℕ) (xs : Stack) (u : World) (has : Bool) → u.turns ≤ z.turns → Stuck z.graph {K = ℕ} i 0 → Returns i xs u has (stuck u)
+  stuck_at : (i : ℕ) (xs : Stack) (u : World) (has : Bool) → u.turns ≤ z.turns → Stuck z.graph {K = ℕ} i 0 → Returns i xs u has (stuck_run u)
   stuck_at i xs u has le h = (stuck_ok z {A = Scalar} {K = ℕ} (λ ys. ys) to (result_on has)).runs i 0 xs u le h
 
   ended_ok : (x : Exits) (is_main has : Bool) → has_result (z.code.callee z.function) ≡ has → z.graph x.leaves view.Quits → GivesAt z.graph has x.gives
@@ -77,7 +77,7 @@ module _ (below_it : Standing) (f node : ℕ) (operands : Stack) (locals : Local
   ended_ok x false false result leaves gives ends u = rw ends (left_ok x.leaves u false (quits_step z false result x.leaves u leaves))
 
   -- however the body comes to its end
-  pub leave_ok : (x : Exits) (is_main has : Bool) → has_result (z.code.callee z.function) ≡ has → Leaves z.graph is_main has x → (flow : Flow) (u : World)
+  pub leave_ok : (x : Exits) (is_main has : Bool) → has_result (z.code.callee z.function) ≡ has → FunctionExits z.graph is_main has x → (flow : Flow) (u : World)
       → u.turns ≤ z.turns → Returns (flow_at flow x) (flow_post flow []) u has (value_left is_main has flow u)
   leave_ok x is_main has result h Next u le = ended_ok x is_main has result h.1 h.0 h.2 u
   leave_ok x is_main true result h (Returned (Some v)) u le = given_ok x.gives v u (gives_step z true result x.gives v u h.0) is_main

@@ -4,10 +4,10 @@ use Rattle.cbi_base.specs.declared.outcome.Outcome.TheVariants.{CutTurns}
 use Rattle.flow.specs.declared.node.View.TheVariants as view
 use Rattle.flow.specs.Words.{next_of, State}
 use Rattle.flow.proofs.Endings.{ends_over, leads_one}
-use Rattle.c_meaning.specs.Words.{after_body, do_round, for_round, rounds, while_round, World, Out, Go, Stop, OutDone, Flow, Next, Broken, Continued, Returned}
-use Rattle.c_meaning.specs.Words.{bind, choose, spend}
+use Rattle.c_meaning.specs.Words.{after_body, do_round, for_round, loop_rounds, while_round, World, Out, Go, Stop, OutDone, Flow, Next, Broken, Continued, Returned}
+use Rattle.c_meaning.specs.Words.{bind, chosen_part, one_turn_spent}
 use Rattle.lower_relation.specs.Paths.{Path, Exits, Ways}
-use Rattle.lower_relation.specs.Statements.{DoDo, ForLoop, WhileDo, within_loop}
+use Rattle.lower_relation.specs.Statements.{DoWhileLoop, ForLoop, WhileLoop, within_loop}
 use Rattle.lower_relation.proofs.Flows.{Executes, Flows, flow_at, flow_post, returned_on}
 use Rattle.lower_relation.proofs.Reach.{Stack, Reach, first, here, le_self, reach_bind}
 use Rattle.lower_relation.proofs.Sounds.{Standing, Sound, bare, none, state, stay, to, way}
@@ -26,7 +26,7 @@ module _ (z : Standing) where
   one_turn : (again head b : ℕ) (xs : Stack) (w : World) (k : Flow → World → State) (go : World → Out Flow) (t : ℕ) → t ≤ suc b
       → z.graph again (view.Turns head)
       → ((u : World) → u.turns ≤ b → Reach z.code z.watch (state z head xs u) u.turns (go u) k)
-      → Reach z.code z.watch (state z again xs (record w { turns = t })) t (spend t (record w { turns = t }) go) k
+      → Reach z.code z.watch (state z again xs (record w { turns = t })) t (one_turn_spent t (record w { turns = t }) go) k
   unfolding next_of
   one_turn again head b xs w k go zero le g h = ends_over z.code _ _
       (ap (λ v. next_of z.code v (state z again xs (record w { turns = 0 }))) (z.stands.at again _ g))
@@ -37,12 +37,12 @@ module _ (z : Standing) where
 
   rounds_ok : (round : (World → Out Flow) → World → Out Flow) (head again : ℕ) (x : Exits) (xs : Stack) → z.graph again (view.Turns head)
       → RoundSound round head again x xs
-      → (r : ℕ) → r ≤ z.turns → Flows z head xs x r (rounds r round)
+      → (r : ℕ) → r ≤ z.turns → Flows z head xs x r (loop_rounds r round)
   rounds_ok round head again x xs g sound zero le w l = sound 0 le (Stop CutTurns)
       (λ u l'. no_turn again head xs u (λ a y. state z (flow_at a x) (flow_post a xs) y) u.turns l' g) w l
   rounds_ok round head again x xs g sound (suc r) le w l =
-      sound (suc r) le (λ u. spend u.turns u (rounds r round))
-      (λ u l'. one_turn again head r xs u (λ a y. state z (flow_at a x) (flow_post a xs) y) (rounds r round) u.turns l' g
+      sound (suc r) le (λ u. one_turn_spent u.turns u (loop_rounds r round))
+      (λ u l'. one_turn again head r xs u (λ a y. state z (flow_at a x) (flow_post a xs) y) (loop_rounds r round) u.turns l' g
       (rounds_ok round head again x xs g sound r (omega (arith, le)))) w l
 
   -- what comes after the body of a loop
@@ -58,7 +58,7 @@ module _ (z : Standing) where
   chosen : (holds : Bool) (yes_at no_at : ℕ) (x : Exits) (m q : World → Out Flow) (t b : ℕ) (xs : Stack) → t ≤ b → Flows z yes_at xs x b m
       → Flows z no_at xs x b q
       → (u : World) → u.turns ≤ t
-      → Reach z.code z.watch (state z (way holds (record { yes_to = yes_at; no_to = no_at })) xs u) u.turns (choose holds m q u)
+      → Reach z.code z.watch (state z (way holds (record { yes_to = yes_at; no_to = no_at })) xs u) u.turns (chosen_part holds m q u)
       (λ a y. state z (flow_at a x) (flow_post a xs) y)
   chosen true yes_at no_at x m q t b xs lt p r u l = p u (omega (arith, l, lt))
   chosen false yes_at no_at x m q t b xs lt p r u l = r u (omega (arith, l, lt))
@@ -74,13 +74,13 @@ module _ (z : Standing) where
   -- a condition, and one of two ways
   test_then : (i yes_at : ℕ) (x : Exits) (c : World → Out Bool) (C : Path Ways) (m : World → Out Flow) (b : ℕ) (xs : Stack) → b ≤ z.turns
       → Sound z bare c C way none → C i (record { yes_to = yes_at; no_to = x.next }) → Flows z yes_at xs x b m
-      → Flows z i xs x b (λ w. bind (c w) (λ holds. choose holds m (Go Next)))
+      → Flows z i xs x b (λ w. bind (c w) (λ holds. chosen_part holds m (Go Next)))
   test_then i yes_at x c C m b xs le sound h goes w l =
       reach_bind z.code z.watch _ _ (c w) _ _ _ (sound.runs i _ xs w (omega (arith, l, le)) h)
       (λ holds y ly. chosen holds yes_at x.next x m (Go Next) w.turns b xs l goes (λ v lv. (here z.code z.watch _, le_self v.turns)) y ly)
 
   pub while_ok : {c : World → Out Bool} {C : Path Ways} {body : World → Out Flow} {B : Path Exits} → Sound z bare c C way none → Executes z body B
-      → Executes z (rounds z.turns (while_round c body)) (WhileDo z.graph C B)
+      → Executes z (loop_rounds z.turns (while_round c body)) (WhileLoop z.graph C B)
   while_ok {c = c} {C = C} {body = body} {B = B} cs bs = record {
     runs = λ i x xs w le h.
         rounds_ok (while_round c body) i h.1 x xs h.4 (λ b lb next goes.
@@ -89,18 +89,18 @@ module _ (z : Standing) where
   }
 
   pub do_ok : {c : World → Out Bool} {C : Path Ways} {body : World → Out Flow} {B : Path Exits} → Sound z bare c C way none → Executes z body B
-      → Executes z (rounds z.turns (do_round c body)) (DoDo z.graph C B)
+      → Executes z (loop_rounds z.turns (do_round c body)) (DoWhileLoop z.graph C B)
   do_ok {c = c} {C = C} {body = body} {B = B} cs bs = record {
     runs = λ i x xs w le h.
         rounds_ok (do_round c body) i h.1 x xs h.4 (λ b lb next goes.
-        let test : Flows z h.0 xs x b (λ v. bind (c v) (λ holds. choose holds next (Go Next))) = test_then h.0 h.1 x c C next b xs lb cs h.3 goes in
-        body_then i x (within_loop h.0 x.next x) B body (λ v. bind (c v) (λ holds. choose holds next (Go Next))) b xs lb refl refl refl bs h.2 test test)
+        let test : Flows z h.0 xs x b (λ v. bind (c v) (λ holds. chosen_part holds next (Go Next))) = test_then h.0 h.1 x c C next b xs lb cs h.3 goes in
+        body_then i x (within_loop h.0 x.next x) B body (λ v. bind (c v) (λ holds. chosen_part holds next (Go Next))) b xs lb refl refl refl bs h.2 test test)
         z.turns (le_self z.turns) w le;
   }
 
   pub for_ok : {c : World → Out Bool} {C : Path Ways} {step : World → OutDone} {S : Path ℕ} {body : World → Out Flow} {B : Path Exits}
       → Sound z bare c C way none → Sound z bare step S to none → Executes z body B
-      → Executes z (rounds z.turns (for_round c body step)) (ForLoop z.graph C S B)
+      → Executes z (loop_rounds z.turns (for_round c body step)) (ForLoop z.graph C S B)
   for_ok {c = c} {C = C} {step = step} {body = body} {B = B} cs ss bs = record {
     runs = λ i x xs w le h.
         rounds_ok (for_round c body step) i h.1 x xs h.6 (λ b lb next goes.

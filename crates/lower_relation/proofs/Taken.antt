@@ -4,7 +4,7 @@ use Rattle.std.specs.Prelude.{if◌then◌else◌, reverse}
 use Rattle.std.specs.List.{list_all}
 use Rattle.cbi_base.specs.Words.{is_defined_value, Locals}
 use Rattle.cbi_base.specs.declared.trap.Trap.TheVariants as trap
-use Rattle.flow.specs.Now.{Lacks, Takes, several}
+use Rattle.flow.specs.Now.{Lacks, Takes, operands_taken}
 use Rattle.c_meaning.specs.World.{World}
 use Rattle.lower_relation.proofs.Reach.{Stack, now_of}
 
@@ -20,5 +20,5 @@ enough : (vs xs : Stack) → nat_le (length vs) (length (vs ++ xs)) ≡ true
 enough vs xs = le-leb (length vs) (length (vs ++ xs)) (omega (arith, length-append vs xs))
 
 pub several_on : (locals : Locals) (vs xs : Stack) (w : World)
-    → several (length vs) (now_of locals (vs ++ xs) w) ≡ (if list_all is_defined_value vs then Takes (reverse vs) (now_of locals xs w) else Lacks trap.Undefined)
+    → operands_taken (length vs) (now_of locals (vs ++ xs) w) ≡ (if list_all is_defined_value vs then Takes (reverse vs) (now_of locals xs w) else Lacks trap.Undefined)
 several_on locals vs xs w = rw (enough vs xs, taken vs xs, dropped vs xs) refl

@@ -1,5 +1,5 @@
 -- Values are converted, handed over and read as they mean.
-use Rattle.std.proofs.Common.{◌≡◌, ℕ, refl, ap, List, ◌∷◌, Option, Some, None, Ok, Bool, true, false}
+use Rattle.std.proofs.Common.{◌≡◌, ℕ, refl, ap, List, ◌∷◌, Option, Some, Ok, Bool, true, false}
 use Rattle.std.specs.Prelude.{ℤ}
 use Rattle.cbi_base.specs.declared.scalar.Kind.{Kind}
 use Rattle.cbi_base.specs.declared.scalar.Scalar.{Scalar}
@@ -8,9 +8,9 @@ use Rattle.cbi_base.specs.declared.scalar.Want.{Want}
 use Rattle.cbi_base.specs.declared.scalar.Want.TheVariants as want
 use Rattle.cbi_base.specs.declared.operators.Unary.{Unary}
 use Rattle.cbi_base.specs.declared.operators.Unary.TheVariants as unary
-use Rattle.cbi_base.specs.Words.{loaded, applied_to_one, converted}
+use Rattle.cbi_base.specs.Words.{loaded_value, applied_to_one, converted_number}
 use Rattle.flow.specs.declared.node.Node.TheVariants as node
-use Rattle.flow.specs.Words.{Goes, with_answer, act}
+use Rattle.flow.specs.Words.{Goes, with_answer, row_effect}
 use Rattle.flow.proofs.Endings.{ends_over}
 use Rattle.c_meaning.specs.declared.conversion.Conversion.{Conversion}
 use Rattle.c_meaning.specs.declared.conversion.Conversion.TheVariants.{Keep, To, Misfit}
@@ -18,8 +18,8 @@ use Rattle.c_meaning.specs.declared.value_type.ValueType.{ValueType}
 use Rattle.c_meaning.specs.declared.value_type.ValueType.TheVariants as type
 use Rattle.c_meaning.specs.Conversions as mean
 use Rattle.c_meaning.specs.Expressions as mean_of
-use Rattle.c_meaning.specs.Words.{Sense, truth, World, Out, Go, OutDone, answered, bind, choose, done, nothing}
-use Rattle.lower_relation.specs.Paths.{Path, ◌then◌, Does, Emitted, Tests}
+use Rattle.c_meaning.specs.Words.{Sense, truth_value, World, Out, Go, OutDone, answer_or_trap, bind, chosen_part, value_discarded, no_effect}
+use Rattle.lower_relation.specs.Paths.{Path, ◌then◌, Does, Emitted, ValueTruth}
 use Rattle.lower_relation.specs.Values as way
 use Rattle.lower_relation.proofs.Reach.{bind_go}
 use Rattle.lower_relation.proofs.Sounds as sound
@@ -27,37 +27,37 @@ use Rattle.lower_relation.proofs.Sounds.{Standing, Sound, SenseSound, answers, b
 
 module _ (z : Standing) where
   pub push_ok : (kind : Kind) (v : ℤ) → Sound z bare (Go (Number kind v)) (Does z.graph (node.Push kind v 0)) to plus
-  unfolding act
+  unfolding row_effect
   push_ok kind v = pushes z (node.Push kind v 0) (Number kind v) (λ xs w. refl)
 
   pub null_ok : Sound z bare (Go Null) (Does z.graph (node.Null 0)) to plus
-  unfolding act
+  unfolding row_effect
   null_ok = pushes z (node.Null 0) Null (λ xs w. refl)
 
-  pub drop_ok : (v : Scalar) → Sound z (plus v) nothing (Does z.graph (node.Drop 0)) to none
-  unfolding act
+  pub drop_ok : (v : Scalar) → Sound z (plus v) no_effect (Does z.graph (node.Drop 0)) to none
+  unfolding row_effect
   drop_ok v = last_row z tt (plus v) none (node.Drop 0) (λ xs w. refl)
 
   -- the value below the top one stays
   pub dropped_ok : (v x : Scalar) → Sound z (λ xs. x ∷ v ∷ xs) (Go v) (Does z.graph (node.Drop 0)) to plus
-  unfolding act
+  unfolding row_effect
   dropped_ok v x = last_row z v (λ xs. x ∷ v ∷ xs) plus (node.Drop 0) (λ xs w. refl)
 
   pub done_ok : {pre : List Scalar → List Scalar} {m : World → Out Scalar} {R : Path ℕ}
-      → Sound z pre m R to plus → Sound z pre (λ w. done (m w)) (way.Dropped z.graph R) to none
+      → Sound z pre m R to plus → Sound z pre (λ w. value_discarded (m w)) (way.DroppedValue z.graph R) to none
   done_ok a = seq z a (λ v. drop_ok v)
 
-  pub convert_ok : (kind : Kind) (v : Scalar) → Sound z (plus v) (λ w. answered (converted kind v) w) (Does z.graph (node.Convert kind 0)) to plus
-  unfolding act
-  convert_ok kind v = answers z (node.Convert kind 0) (plus v) (λ w. converted kind v) (λ xs w. refl)
+  pub convert_ok : (kind : Kind) (v : Scalar) → Sound z (plus v) (λ w. answer_or_trap (converted_number kind v) w) (Does z.graph (node.Convert kind 0)) to plus
+  unfolding row_effect
+  convert_ok kind v = answers z (node.Convert kind 0) (plus v) (λ w. converted_number kind v) (λ xs w. refl)
 
-  pub sole_ok : (o : Unary) (x : Scalar) → Sound z (plus x) (λ w. answered (applied_to_one o x) w) (Does z.graph (node.Sole o 0)) to plus
-  unfolding act
+  pub sole_ok : (o : Unary) (x : Scalar) → Sound z (plus x) (λ w. answer_or_trap (applied_to_one o x) w) (Does z.graph (node.Sole o 0)) to plus
+  unfolding row_effect
   sole_ok o x = answers z (node.Sole o 0) (plus x) (λ w. applied_to_one o x) (λ xs w. refl)
 
-  pub load_row_ok : (wanted : Want) (p : Scalar) → Sound z (plus p) (λ w. answered (loaded wanted p w.objects) w) (Does z.graph (node.Load wanted 0)) to plus
-  unfolding act
-  load_row_ok wanted p = answers z (node.Load wanted 0) (plus p) (λ w. loaded wanted p w.objects) (λ xs w. refl)
+  pub load_row_ok : (wanted : Want) (p : Scalar) → Sound z (plus p) (λ w. answer_or_trap (loaded_value wanted p w.objects) w) (Does z.graph (node.Load wanted 0)) to plus
+  unfolding row_effect
+  load_row_ok wanted p = answers z (node.Load wanted 0) (plus p) (λ w. loaded_value wanted p w.objects) (λ xs w. refl)
 
   pub converts_ok : (c : Conversion) (v : Scalar) → Sound z (plus v) (mean.as_wanted c v) (way.Converts z.graph c) to plus
   converts_ok Keep v = unchanged z v
@@ -66,9 +66,9 @@ module _ (z : Standing) where
 
   pub converts_below_ok : (c : Conversion) (x y : Scalar)
       → Sound z (λ xs. y ∷ x ∷ xs) (mean.as_wanted c x) (way.ConvertsBelow z.graph c) to (λ v xs. y ∷ v ∷ xs)
-  unfolding act
+  unfolding row_effect
   converts_below_ok Keep x y = kept z x (λ v xs. y ∷ v ∷ xs)
-  converts_below_ok (To kind) x y = same_meaning z (λ w. bind_go (answered (converted kind x) w))
+  converts_below_ok (To kind) x y = same_meaning z (λ w. bind_go (answer_or_trap (converted_number kind x) w))
       (before z (node.Swap 0) (λ xs. y ∷ x ∷ xs) (λ xs w. refl) (seq z (under z (plus y) (convert_ok kind x))
       (λ a. last_row z a (λ xs. a ∷ y ∷ xs) (λ v xs. y ∷ v ∷ xs) (node.Swap 0) (λ xs w. refl))))
   converts_below_ok Misfit x y = stuck_ok z (λ xs. y ∷ x ∷ xs) to (λ v xs. y ∷ v ∷ xs)
@@ -82,16 +82,16 @@ module _ (z : Standing) where
   -- a copy of a defined value is looked at, and dropped
   looked_ok : (v x : Scalar) → applied_to_one unary.Not v ≡ Ok x
       → Sound z (plus v) (Go v) (Does z.graph (node.Dup 0) then Does z.graph (node.Sole unary.Not 0) then Does z.graph (node.Drop 0)) to plus
-  unfolding act
+  unfolding row_effect
   looked_ok v x e = before z (node.Dup 0) (plus v) (λ xs w. refl)
       (before z {mid = λ xs. x ∷ v ∷ xs} (node.Sole unary.Not 0) (λ xs. v ∷ v ∷ xs)
       (λ xs w. ap (λ r. with_answer r (now z (v ∷ xs) w) (λ y. Goes (now z (y ∷ v ∷ xs) w))) e)
       (dropped_ok v x))
 
   defined_ok : (v : Scalar)
-      → Sound z (plus v) (λ w. answered (mean.defined v) w)
+      → Sound z (plus v) (λ w. answer_or_trap (mean.defined_scalar v) w)
       (Does z.graph (node.Dup 0) then Does z.graph (node.Sole unary.Not 0) then Does z.graph (node.Drop 0)) to plus
-  unfolding act applied_to_one
+  unfolding row_effect applied_to_one
   defined_ok Undefined = before z (node.Dup 0) (plus Undefined) (λ xs w. refl) (record {
     runs = λ i k xs w le h.
         ends_over z.code _ _ (row z (node.Sole unary.Not 0) i h.0 (Undefined ∷ Undefined ∷ xs) w h.1);
@@ -100,24 +100,24 @@ module _ (z : Standing) where
   defined_ok (Place o a) = looked_ok (Place o a) _ refl
   defined_ok Null = looked_ok Null _ refl
 
-  pub handed_ok : (of : Option ValueType) (v : Scalar) → Sound z (plus v) (mean.handed of v) (way.Handed z.graph of) to plus
+  pub handed_ok : (of : Option ValueType) (v : Scalar) → Sound z (plus v) (mean.handed_scalar of v) (way.HandedOverAs z.graph of) to plus
   handed_ok (Some (type.Number kind)) v = convert_ok kind v
   handed_ok (Some (type.Pointer size)) v = defined_ok v
   handed_ok of v = stuck_ok z (plus v) to plus
 
-  pub tests_ok : {m : World → Out Scalar} {R : Path ℕ} → Sound z bare m R to plus → Sound z bare (λ w. bind (m w) truth) (Tests z.graph R) sound.way none
+  pub tests_ok : {m : World → Out Scalar} {R : Path ℕ} → Sound z bare m R to plus → Sound z bare (λ w. bind (m w) truth_value) (ValueTruth z.graph R) sound.way none
   tests_ok a = seq z a (λ v. fork_ok z v)
 
-  pub valued_ok : {m : World → Out Scalar} {R : Path ℕ} → Sound z bare m R to plus → SenseSound z (mean_of.valued m) (way.Valued z.graph R)
+  pub valued_ok : {m : World → Out Scalar} {R : Path ℕ} → Sound z bare m R to plus → SenseSound z (mean_of.sense_of_value m) (way.EmittedValue z.graph R)
   valued_ok a = record { value = a; place = stuck_ok z bare to plus; effect = done_ok a; truth = tests_ok a }
 
   discarded_ok : (b : Bool) (of : Option ValueType) (p : Scalar)
-      → Sound z (plus p) (choose b nothing (λ u. done (mean.load_at of p u))) (way.Discarded z.graph b of) to none
+      → Sound z (plus p) (chosen_part b no_effect (λ u. value_discarded (mean.load_at of p u))) (way.DiscardedPlace z.graph b of) to none
   discarded_ok true of p = drop_ok p
   discarded_ok false of p = done_ok (load_ok of p)
 
   pub placed_ok : {m : World → Out Scalar} {R : Path ℕ} (of : Option ValueType) → Sound z bare m R to plus
-      → SenseSound z (mean_of.placed of m) (way.Placed z.graph of R)
+      → SenseSound z (mean_of.sense_of_place of m) (way.EmittedPlace z.graph of R)
   placed_ok of a = record {
     value = seq z a (λ p. load_ok of p);
     place = a;
@@ -125,7 +125,7 @@ module _ (z : Standing) where
     truth = tests_ok (seq z a (λ p. load_ok of p));
   }
 
-  pub effected_ok : {m : World → OutDone} {R : Path ℕ} → Sound z bare m R to none → SenseSound z (mean_of.effected m) (way.Effected z.graph R)
+  pub effected_ok : {m : World → OutDone} {R : Path ℕ} → Sound z bare m R to none → SenseSound z (mean_of.sense_of_effect m) (way.EmittedEffect z.graph R)
   effected_ok a = record { value = stuck_ok z bare to plus; place = stuck_ok z bare to plus; effect = a; truth = stuck_ok z bare sound.way none }
 
   pub null_or_ok : (b : Bool) {m : Sense} {R : Emitted} → SenseSound z m R → Sound z bare (mean_of.null_or b m) (way.NullOr z.graph b R) to plus
@@ -133,7 +133,7 @@ module _ (z : Standing) where
   null_or_ok false a = a.value
 
   pub null_truth_ok : (b : Bool) {m : Sense} {R : Emitted}
-      → SenseSound z m R → Sound z bare (λ w. bind (mean_of.null_or b m w) truth) (way.NullTruth z.graph b R) sound.way none
+      → SenseSound z m R → Sound z bare (λ w. bind (mean_of.null_or b m w) truth_value) (way.NullTruth z.graph b R) sound.way none
   null_truth_ok true a = tests_ok null_ok
   null_truth_ok false a = a.truth
 

@@ -13,11 +13,11 @@ use Rattle.c_meaning.specs.declared.value_type.ValueType.{ValueType}
 use Rattle.c_meaning.specs.Words.{Facts, Signature, Sites, Behaviour, Source, meaning, has_value}
 use Rattle.lower_relation.specs.Paths.{Graph, Path, Exits, Does, Stuck}
 use Rattle.lower_relation.specs.Stands.{Stands, Agrees}
-use Rattle.lower_relation.specs.Statements.{RunsAll}
+use Rattle.lower_relation.specs.Statements.{EntriesDo}
 
 -- the graph of a list of nodes
-abbrev pub standing : List Node → ℕ → View → Type 0
-standing nodes i v = option_map view (slice_get nodes i) ≡ Some v
+abbrev pub graph_of_nodes : List Node → ℕ → View → Type 0
+graph_of_nodes nodes i v = option_map view (slice_get nodes i) ≡ Some v
 
 -- Control comes from one node to another: they are one node, or the first one only passes it on.
 pub data ComesTo (G : Graph) (i k : ℕ) : Type 0 where
@@ -40,27 +40,27 @@ module _ (G : Graph) where
   EndsAt is_main has_value x = x.next ≡ x.leaves
 
   -- no `break` and no `continue` stands outside a loop
-  abbrev pub Leaves : Bool → Bool → Exits → Type 0
-  Leaves is_main has_value x =
+  abbrev pub FunctionExits : Bool → Bool → Exits → Type 0
+  FunctionExits is_main has_value x =
       GivesAt has_value x.gives × G x.leaves Quits × EndsAt is_main has_value x × Stuck G {K = ℕ} x.breaks 0 × Stuck G {K = ℕ} x.continues 0
 
   module _ (facts : Facts) (sites : Sites) where
     abbrev pub BodyDoes : ValueType → Option EntryList → Path Exits
     BodyDoes result None i x = Stuck G i x
-    BodyDoes result (Some body) i x = RunsAll G facts sites result body i x
+    BodyDoes result (Some body) i x = EntriesDo G facts sites result body i x
 
 -- the graph of a function with this signature, under numbers of its own, does its body from its first node on
 pub record BodyIn (code : Code) (src : Source) (number : ℕ) (s : Signature) : Type 0 where
   pub nodes : List Node
   pub ren : ℕ → ℕ
-  pub stands : Stands code number (standing nodes) ren
+  pub stands : Stands code number (graph_of_nodes nodes) ren
   pub start : ℕ
   pub first_node : ren start ≡ 0
   pub entry : ℕ
-  pub begins : ComesTo (standing nodes) start entry
+  pub begins : ComesTo (graph_of_nodes nodes) start entry
   pub exits : Exits
-  pub runs : BodyDoes (standing nodes) src.facts src.sites s.result (src.body number) entry exits
-  pub leaves : Leaves (standing nodes) (number == src.main) (has_value s.result) exits
+  pub runs : BodyDoes (graph_of_nodes nodes) src.facts src.sites s.result (src.body number) entry exits
+  pub leaves : FunctionExits (graph_of_nodes nodes) (number == src.main) (has_value s.result) exits
 
 -- the code has what the text names, and does the bodies of its functions
 pub record Lowered (code : Code) (src : Source) : Type 0 where

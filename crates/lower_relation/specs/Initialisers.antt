@@ -11,10 +11,10 @@ use Rattle.flow.specs.declared.site.Slot.TheVariants as slot
 use Rattle.c_meaning.specs.declared.value_type.ValueType.{ValueType}
 use Rattle.c_meaning.specs.declared.value_type.ValueType.TheVariants as type
 use Rattle.c_meaning.specs.Words.{is_null_as, Facts, Sites, equals_token, want_of, text_of_string, type_of}
-use Rattle.lower_relation.specs.Expressions.{emitted, number_of_text}
+use Rattle.lower_relation.specs.Expressions.{emitted_expression, number_of_text}
 use Rattle.lower_relation.specs.Operators.{Assigned, Member, Variable}
 use Rattle.lower_relation.specs.Paths.{Graph, Path, ◌then◌, Does, Nothing, Stuck}
-use Rattle.lower_relation.specs.Values.{Dropped, WantedValue}
+use Rattle.lower_relation.specs.Values.{DroppedValue, WantedValue}
 
 module _ (G : Graph) where
   -- something is done to a local variable
@@ -40,15 +40,15 @@ module _ (G : Graph) where
     abbrev pub ScalarSet : ℕ → ExprTree → Path ℕ
     ScalarSet token value =
         Variable G (facts.slot_at token)
-        then WantedValue G (is_null_as (facts.declared_at token) value) (type_of facts value) (facts.declared_at token) (emitted G facts sites value)
-        then Dropped G (Assigned G facts sites (equals_token token))
+        then WantedValue G (is_null_as (facts.declared_at token) value) (type_of facts value) (facts.declared_at token) (emitted_expression G facts sites value)
+        then DroppedValue G (Assigned G facts sites (equals_token token))
 
     -- an element with this number is stored as by assignment
     abbrev pub ElementSet : ℕ → ℕ → ExprTree → Path ℕ
     ElementSet token index value =
         Variable G (facts.slot_at token) then Member G (Some index)
-        then WantedValue G (is_null_as (facts.element_at token) value) (type_of facts value) (facts.element_at token) (emitted G facts sites value)
-        then Dropped G (Does G (node.Store 0))
+        then WantedValue G (is_null_as (facts.element_at token) value) (type_of facts value) (facts.element_at token) (emitted_expression G facts sites value)
+        then DroppedValue G (Does G (node.Store 0))
 
     -- the items of a list, the first of them for the element with this number
     abbrev pub ElementsSet : ℕ → ℕ → ExprList → Path ℕ
@@ -70,12 +70,12 @@ module _ (G : Graph) where
     Initialised token (Some (tree.Braced at items comma)) = ArrayZeroed token then ElementsSet token 0 items
 
     -- a declaration makes its variable undefined, each time that it is reached, and then initialises it
-    abbrev pub Starts : StartTree → Path ℕ
-    Starts x = OnLocal (facts.slot_at x.declarator.name_token) Clears then Initialised x.declarator.name_token x.initial
+    abbrev pub VariableStarts : StartTree → Path ℕ
+    VariableStarts x = OnLocal (facts.slot_at x.declarator.name_token) Clears then Initialised x.declarator.name_token x.initial
 
-    abbrev pub AllStart : List StartTree → Path ℕ
-    AllStart [] = Nothing
-    AllStart (x ∷ xs) = Starts x then AllStart xs
+    abbrev pub VariablesStart : List StartTree → Path ℕ
+    VariablesStart [] = Nothing
+    VariablesStart (x ∷ xs) = VariableStarts x then VariablesStart xs
 
     abbrev pub DeclarationPath : DeclarationTree → Path ℕ
-    DeclarationPath d = AllStart d.starts
+    DeclarationPath d = VariablesStart d.starts

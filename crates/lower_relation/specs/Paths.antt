@@ -53,15 +53,15 @@ abbrev pub OneOf : {K : Type 0} → Path K → Path K → Path K
 OneOf R S i k = R i k ⊎ S i k
 
 -- what is true, and what is false
-abbrev pub Truly : Path Ways
-Truly i k = i ≡ k.yes_to
+abbrev pub AlwaysTrue : Path Ways
+AlwaysTrue i k = i ≡ k.yes_to
 
-abbrev pub Falsely : Path Ways
-Falsely i k = i ≡ k.no_to
+abbrev pub AlwaysFalse : Path Ways
+AlwaysFalse i k = i ≡ k.no_to
 
 -- a condition the other way round
-abbrev pub Turned : Path Ways → Path Ways
-Turned D i k = D i (record { yes_to = k.no_to; no_to = k.yes_to })
+abbrev pub SwappedWays : Path Ways → Path Ways
+SwappedWays D i k = D i (record { yes_to = k.no_to; no_to = k.yes_to })
 
 module _ (G : Graph) where
   -- a row's node
@@ -86,10 +86,10 @@ module _ (G : Graph) where
   ForkTo i k = G i (view.Forks k.yes_to k.no_to)
 
   -- control goes on where the truth of the value says
-  abbrev pub Tests : Path ℕ → Path Ways
-  Tests R = R then ForkTo
+  abbrev pub ValueTruth : Path ℕ → Path Ways
+  ValueTruth R = R then ForkTo
 
   -- the path, where this is known to hold
-  abbrev pub Only : {K : Type 0} → Bool → Path K → Path K
-  Only true R = R
-  Only false R = Stuck
+  abbrev pub PathOrStuck : {K : Type 0} → Bool → Path K → Path K
+  PathOrStuck true R = R
+  PathOrStuck false R = Stuck

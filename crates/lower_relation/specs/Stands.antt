@@ -7,25 +7,25 @@ use Rattle.c_meaning.specs.Facts.{Facts, Sites}
 use Rattle.lower_relation.specs.Paths.{Graph}
 
 -- a view of a graph with other numbers
-abbrev pub renamed : (ℕ → ℕ) → View → View
-renamed ren (view.Row op next) = view.Row op (ren next)
-renamed ren (view.Halts op) = view.Halts op
-renamed ren (view.Forks when_true when_false) = view.Forks (ren when_true) (ren when_false)
-renamed ren (view.Turns next) = view.Turns (ren next)
-renamed ren (view.Calls function next) = view.Calls function (ren next)
-renamed ren view.Gives = view.Gives
-renamed ren view.Quits = view.Quits
-renamed ren (view.Marks site next) = view.Marks site (ren next)
-renamed ren (view.Skips by next) = view.Skips by (ren next)
-renamed ren (view.Tests site next) = view.Tests site (ren next)
-renamed ren (view.Picks weight fast slow) = view.Picks weight (ren fast) (ren slow)
-renamed ren (view.Imports next) = view.Imports (ren next)
-renamed ren (view.Exports next) = view.Exports (ren next)
-renamed ren view.Nowhere = view.Nowhere
+abbrev pub renumbered_view : (ℕ → ℕ) → View → View
+renumbered_view ren (view.Row op next) = view.Row op (ren next)
+renumbered_view ren (view.Halts op) = view.Halts op
+renumbered_view ren (view.Forks when_true when_false) = view.Forks (ren when_true) (ren when_false)
+renumbered_view ren (view.Turns next) = view.Turns (ren next)
+renumbered_view ren (view.Calls function next) = view.Calls function (ren next)
+renumbered_view ren view.Gives = view.Gives
+renumbered_view ren view.Quits = view.Quits
+renumbered_view ren (view.Marks site next) = view.Marks site (ren next)
+renumbered_view ren (view.Skips by next) = view.Skips by (ren next)
+renumbered_view ren (view.Tests site next) = view.Tests site (ren next)
+renumbered_view ren (view.Picks weight fast slow) = view.Picks weight (ren fast) (ren slow)
+renumbered_view ren (view.Imports next) = view.Imports (ren next)
+renumbered_view ren (view.Exports next) = view.Exports (ren next)
+renumbered_view ren view.Nowhere = view.Nowhere
 
 -- the graph stands in the code as this function, under other numbers
 pub record Stands (code : Code) (function : ℕ) (graph : Graph) (ren : ℕ → ℕ) : Type 0 where
-  pub at : (i : ℕ) (v : View) → graph i v → code.at function (ren i) ≡ renamed ren v
+  pub at : (i : ℕ) (v : View) → graph i v → code.at function (ren i) ≡ renumbered_view ren v
 
 -- the code has the statics and the sites that the text's meaning rests on
 pub record Agrees (code : Code) (facts : Facts) (sites : Sites) : Type 0 where

@@ -9,7 +9,7 @@ use Rattle.c_meaning.specs.declared.conversion.Conversion.TheVariants.{Keep, To,
 use Rattle.c_meaning.specs.declared.value_type.ValueType.{ValueType}
 use Rattle.c_meaning.specs.declared.value_type.ValueType.TheVariants as type
 use Rattle.c_meaning.specs.Words.{conversion, as_used, is_other_pointer, is_struct_value}
-use Rattle.lower_relation.specs.Paths.{Graph, Path, ◌then◌, Does, Emitted, Nothing, Stuck, Tests, Ways}
+use Rattle.lower_relation.specs.Paths.{Graph, Path, ◌then◌, Does, Emitted, Nothing, Stuck, ValueTruth, Ways}
 
 module _ (G : Graph) where
   -- the value on top is converted
@@ -25,10 +25,10 @@ module _ (G : Graph) where
   ConvertsBelow Misfit = Stuck G
 
   -- a value is handed over as one of the type: an undefined one is met at once
-  abbrev pub Handed : Option ValueType → Path ℕ
-  Handed (Some (type.Number kind)) = Does G (node.Convert kind 0)
-  Handed (Some (type.Pointer size)) = Does G (node.Dup 0) then Does G (node.Sole unary.Not 0) then Does G (node.Drop 0)
-  Handed other = Stuck G
+  abbrev pub HandedOverAs : Option ValueType → Path ℕ
+  HandedOverAs (Some (type.Number kind)) = Does G (node.Convert kind 0)
+  HandedOverAs (Some (type.Pointer size)) = Does G (node.Dup 0) then Does G (node.Sole unary.Not 0) then Does G (node.Drop 0)
+  HandedOverAs other = Stuck G
 
   -- the value of a place
   abbrev pub LoadAt : Option ValueType → Path ℕ
@@ -38,33 +38,33 @@ module _ (G : Graph) where
   LoadAt other = Stuck G
 
   -- a path whose value isn't taken
-  abbrev pub Dropped : Path ℕ → Path ℕ
-  Dropped R = R then Does G (node.Drop 0)
+  abbrev pub DroppedValue : Path ℕ → Path ℕ
+  DroppedValue R = R then Does G (node.Drop 0)
 
   -- a place whose value isn't taken: of a struct nothing is read
-  abbrev pub Discarded : Bool → Option ValueType → Path ℕ
-  Discarded true of = Does G (node.Drop 0)
-  Discarded false of = Dropped (LoadAt of)
+  abbrev pub DiscardedPlace : Bool → Option ValueType → Path ℕ
+  DiscardedPlace true of = Does G (node.Drop 0)
+  DiscardedPlace false of = DroppedValue (LoadAt of)
 
   -- an expression that is no place
-  abbrev pub Valued : Path ℕ → Emitted
-  Valued R = record { value = R; place = Stuck G; effect = Dropped R; truth = Tests G R }
+  abbrev pub EmittedValue : Path ℕ → Emitted
+  EmittedValue R = record { value = R; place = Stuck G; effect = DroppedValue R; truth = ValueTruth G R }
 
   -- a place of the type
-  abbrev pub Placed : Option ValueType → Path ℕ → Emitted
-  Placed of P = record {
+  abbrev pub EmittedPlace : Option ValueType → Path ℕ → Emitted
+  EmittedPlace of P = record {
     value = P then LoadAt of;
     place = P;
-    effect = P then Discarded (is_struct_value of) of;
-    truth = Tests G (P then LoadAt of);
+    effect = P then DiscardedPlace (is_struct_value of) of;
+    truth = ValueTruth G (P then LoadAt of);
   }
 
   -- what is done for what it does alone
-  abbrev pub Effected : Path ℕ → Emitted
-  Effected R = record { value = Stuck G; place = Stuck G; effect = R; truth = Stuck G }
+  abbrev pub EmittedEffect : Path ℕ → Emitted
+  EmittedEffect R = record { value = Stuck G; place = Stuck G; effect = R; truth = Stuck G }
 
-  abbrev pub Pushed : Kind → ℕ → Emitted
-  Pushed kind n = Valued (Does G (node.Push kind (pos n) 0))
+  abbrev pub PushedConstant : Kind → ℕ → Emitted
+  PushedConstant kind n = EmittedValue (Does G (node.Push kind (pos n) 0))
 
   -- a null pointer in place of the value
   abbrev pub NullOr : Bool → Emitted → Path ℕ
@@ -73,7 +73,7 @@ module _ (G : Graph) where
 
   -- the truth of that
   abbrev pub NullTruth : Bool → Emitted → Path Ways
-  NullTruth true m = Tests G (Does G (node.Null 0))
+  NullTruth true m = ValueTruth G (Does G (node.Null 0))
   NullTruth false m = m.truth
 
   -- the value as one of the wanted type, as by assignment
@@ -82,7 +82,7 @@ module _ (G : Graph) where
   WantedValue false have want m = m.value then Converts (conversion have want)
 
   abbrev pub ArmAs : Bool → Option ValueType → Option ValueType → Path ℕ
-  ArmAs true have want = Handed want
+  ArmAs true have want = HandedOverAs want
   ArmAs false have want = Converts (conversion have want)
 
   -- an arm of `? :` as a value of its type
@@ -93,9 +93,9 @@ module _ (G : Graph) where
   -- the same where nothing takes the value of the whole
   abbrev pub ArmEffect : Bool → Option ValueType → Option ValueType → Emitted → Path ℕ
   ArmEffect is_null have (Some type.Void) m = m.effect
-  ArmEffect is_null have want m = Dropped (ArmValue is_null have want m)
+  ArmEffect is_null have want m = DroppedValue (ArmValue is_null have want m)
 
   -- the value as it is handed over
   abbrev pub HandedValue : Bool → Option ValueType → Emitted → Path ℕ
   HandedValue true want m = Does G (node.Null 0)
-  HandedValue false want m = m.value then Handed want
+  HandedValue false want m = m.value then HandedOverAs want

@@ -19,17 +19,17 @@ use Rattle.flow.specs.declared.node.View.TheVariants as view
 use Rattle.flow.specs.Words.{view_at, view as view_of}
 use Rattle.c_meaning.specs.declared.value_type.ValueType.{ValueType}
 use Rattle.c_meaning.specs.Words.{is_null_as, Facts, Sites, type_of}
-use Rattle.lower_relation.specs.Expressions.{Condition, emitted}
+use Rattle.lower_relation.specs.Expressions.{Condition, emitted_expression}
 use Rattle.lower_relation.specs.Initialisers.{DeclarationPath}
 use Rattle.lower_relation.specs.Paths.{Graph, Exits, Ways}
-use Rattle.lower_relation.specs.Statements.{DoDo, ForLoop, GoesOn, ReturnDo, Runs, RunsAll, WhileDo, within_loop}
+use Rattle.lower_relation.specs.Statements.{DoWhileLoop, ForLoop, GoesOn, ReturnPath, StatementDoes, EntriesDo, WhileLoop, within_loop}
 use Rattle.lower_relation.specs.Values.{WantedValue}
 use Rattle.lower_statements.specs.Exits.{SecondRuns}
-use Rattle.lower_relation.specs.Functions.{standing}
+use Rattle.lower_relation.specs.Functions.{graph_of_nodes}
 use Rattle.lower_nodes.specs.Ends.{AllBelow, Any, all_ends}
-use Rattle.lower_nodes.specs.Made.{Later, LeadBack, LeadsBack, Made, MadeExits, MadeTo, MadeWays, GraphPath, CameOut}
-use Rattle.lower_nodes.specs.Standing.{AllLike, AllStand, Allowed, Like, Allowance, StandsRightly, Stood, fork_at, forks}
-use Rattle.lower_nodes.specs.Purposes.{ways}
+use Rattle.lower_nodes.specs.Made.{Later, LeadBack, LeadsBack, Made, MadeExits, MadeTo, MadeWays, GraphPath, IsEmittedNode}
+use Rattle.lower_nodes.specs.Standing.{AllLike, AllStand, Allowed, Like, Allowance, StandsRightly, PartStands, fork_at, is_fork}
+use Rattle.lower_nodes.specs.Purposes.{condition_ways}
 use Rattle.lower_nodes.proofs.Building.{Joined, below_more, both_ways, either_made, joined_made, later_self, likes_more, slice_append, slice_end, stands_by, stays_put, stood_put}
 
 set_other : (xs : List Node) (a j : ℕ) (x : Node) → a ≢ j → slice_get (slice_set xs a x) j ≡ slice_get xs j
@@ -88,10 +88,10 @@ module _ (p : Allowance) (again head : ℕ) (n2 n3 : List Node) (was : slice_get
   fork_by : (n : ℕ) → fork_at n2 n ≡ true → (here : Bool) → nat_eq again n ≡ here → fork_at n3 n ≡ true
   fork_by n e true same =
       let place : n ≡ again = grind (arith, nat_tests) in
-      absurd (false≢true (sym (ap (λ y. forks (view_at y)) (ap (slice_get n2) place ∙ was)) ∙ e))
+      absurd (false≢true (sym (ap (λ y. is_fork (view_at y)) (ap (slice_get n2) place ∙ was)) ∙ e))
   fork_by n e false same =
       let other : again ≢ n = λ q. absurd (grind (arith, nat_tests, q)) in
-      rw set (ap (λ y. forks (view_at y)) (set_other n2 again n (node.Again head) other) ∙ e)
+      rw set (ap (λ y. is_fork (view_at y)) (set_other n2 again n (node.Again head) other) ∙ e)
 
   -- a fork stays one where an `again` is aimed
   fork_stays : (n : ℕ) → fork_at n2 n ≡ true → fork_at n3 n ≡ true
@@ -129,7 +129,7 @@ aimed_made R S n0 n1 n2 n3 again i x into out at is r set =
     let begun : Later 0 n0 n1 =
     record { longer = omega (arith, one); same = λ j from high. rw is (slice_append n0 (node.Again 0 ∷ []) j high) } in
     record {
-      does = λ fin l. into (standing fin)
+      does = λ fin l. into (graph_of_nodes fin)
           (r.does fin (later_set (length n0) (length n1) again n2 fin (node.Again i) (omega (arith, one)) (omega (arith, one, at)) (rw set at l)))
           (ap (option_map view_of) (l.same again (omega (arith, at)) (omega (arith, above, same)) ∙ aimed));
       keeps = record {
@@ -138,7 +138,7 @@ aimed_made R S n0 n1 n2 n3 again i x into out at is r set =
             ∙ r.keeps.same j from (omega (arith, high, one)) ∙ begun.same j from high;
       };
       leads = λ below.
-          let inner : CameOut (length n1) n2 i = r.leads (omega (arith, one, at), below_more (length n0) (length n1) (all_ends x) (omega (arith, one)) below) in
+          let inner : IsEmittedNode (length n1) n2 i = r.leads (omega (arith, one, at), below_more (length n0) (length n1) (all_ends x) (omega (arith, one)) below) in
           record {
             inside = omega (arith, inner.inside, same);
             back = subst (λ l. LeadBack (length n0) l) (sym set)
@@ -146,7 +146,7 @@ aimed_made R S n0 n1 n2 n3 again i x into out at is r set =
           };
       stands = λ p j y same like done.
           let o = out (Allowed p) j y done in
-          let inner : Stood p (length n1) n2 i j =
+          let inner : PartStands p (length n1) n2 i j =
           r.stands p j (loop o.0 y) tt ((λ e. absurd (false≢true (o.2.turns e))), likes_more p n0 n1 (all_ends x) (all_ends y) begun like) o.1 in
           let turns : StandsRightly p n3 (view.Turns i) = record { fits = o.2.fits; visits = refl } in
           record {
@@ -171,26 +171,26 @@ in_round next l = within_loop next l.exits.next l.exits
 
 -- the condition goes on at a node of the loop, or behind it
 abbrev into_loop : ℕ → Loop → Ways
-into_loop body l = ways body l.exits.next
+into_loop body l = condition_ways body l.exits.next
 
 abbrev out_of_loop : Loop → Ways
-out_of_loop l = ways l.again l.exits.next
+out_of_loop l = condition_ways l.again l.exits.next
 
 -- the condition, and then the body
 abbrev WhileParts : GraphPath Ways → GraphPath Exits → GraphPath Loop
 WhileParts C B = Joined C B into_loop in_loop
 
 pub while_parts : (C : GraphPath Ways) (B : GraphPath Exits) (n1 n2 n3 : List Node) (again body i : ℕ) (x : Exits) →
-    MadeExits B n1 n2 body (within_loop again x.next x) → MadeWays C n2 n3 i (ways body x.next) → MadeTo loop_ends Any (WhileParts C B) n1 n3 i (loop again x)
+    MadeExits B n1 n2 body (within_loop again x.next x) → MadeWays C n2 n3 i (condition_ways body x.next) → MadeTo loop_ends Any (WhileParts C B) n1 n3 i (loop again x)
 while_parts C B n1 n2 n3 again body i x inside test =
     joined_made C B into_loop in_loop n1 n2 n3 i body (loop again x) (λ n b. (b.0, (b.1.0, (b.0, b.1.1.1.1)))) (λ n b m. (m, (b.1.0, tt)))
     (λ s n u b. (b.0, (b.1.0, (b.0, b.1.1.1.1)))) (λ s n u k b m. (m, (b.1.0, tt))) inside test
 
 pub while_made : (C : GraphPath Ways) (B : GraphPath Exits) (n0 n1 n2 n3 n4 : List Node) (again body i : ℕ) (x : Exits) →
-    again ≡ length n0 → n1 ≡ n0 ++ node.Again 0 ∷ [] → MadeExits B n1 n2 body (within_loop again x.next x) → MadeWays C n2 n3 i (ways body x.next) →
-    n4 ≡ slice_set n3 again (node.Again i) → MadeExits (λ G. WhileDo G (C G) (B G)) n0 n4 i x
+    again ≡ length n0 → n1 ≡ n0 ++ node.Again 0 ∷ [] → MadeExits B n1 n2 body (within_loop again x.next x) → MadeWays C n2 n3 i (condition_ways body x.next) →
+    n4 ≡ slice_set n3 again (node.Again i) → MadeExits (λ G. WhileLoop G (C G) (B G)) n0 n4 i x
 while_made C B n0 n1 n2 n3 n4 again body i x at is inside test set =
-    aimed_made (WhileParts C B) (λ G. WhileDo G (C G) (B G)) n0 n1 n3 n4 again i x (λ G h turns. (h.0, again, h.1, h.2, turns)) (λ G j y h. (h.1, (h.0, h.2, h.3), h.4)) at is
+    aimed_made (WhileParts C B) (λ G. WhileLoop G (C G) (B G)) n0 n1 n3 n4 again i x (λ G h turns. (h.0, again, h.1, h.2, turns)) (λ G j y h. (h.1, (h.0, h.2, h.3), h.4)) at is
     (while_parts C B n1 n2 n3 again body i x inside test) set
 
 -- the body, and then the condition
@@ -198,16 +198,16 @@ abbrev DoParts : GraphPath Ways → GraphPath Exits → GraphPath Loop
 DoParts C B = Joined B C in_round out_of_loop
 
 pub do_parts : (C : GraphPath Ways) (B : GraphPath Exits) (n1 n2 n3 : List Node) (again test i : ℕ) (x : Exits) →
-    MadeWays C n1 n2 test (ways again x.next) → MadeExits B n2 n3 i (within_loop test x.next x) → MadeTo loop_ends Any (DoParts C B) n1 n3 i (loop again x)
+    MadeWays C n1 n2 test (condition_ways again x.next) → MadeExits B n2 n3 i (within_loop test x.next x) → MadeTo loop_ends Any (DoParts C B) n1 n3 i (loop again x)
 do_parts C B n1 n2 n3 again test i x tested inside =
     joined_made B C in_round out_of_loop n1 n2 n3 i test (loop again x) (λ n b. (b.0, (b.1.0, tt))) (λ n b t. (t, (b.1.0, (t, b.1.1.1.1))))
     (λ s n u b. (b.0, (b.1.0, tt))) (λ s n u k b t. (t, (b.1.0, (t, b.1.1.1.1)))) tested inside
 
 pub do_made : (C : GraphPath Ways) (B : GraphPath Exits) (n0 n1 n2 n3 n4 : List Node) (again test i : ℕ) (x : Exits) →
-    again ≡ length n0 → n1 ≡ n0 ++ node.Again 0 ∷ [] → MadeWays C n1 n2 test (ways again x.next) → MadeExits B n2 n3 i (within_loop test x.next x) →
-    n4 ≡ slice_set n3 again (node.Again i) → MadeExits (λ G. DoDo G (C G) (B G)) n0 n4 i x
+    again ≡ length n0 → n1 ≡ n0 ++ node.Again 0 ∷ [] → MadeWays C n1 n2 test (condition_ways again x.next) → MadeExits B n2 n3 i (within_loop test x.next x) →
+    n4 ≡ slice_set n3 again (node.Again i) → MadeExits (λ G. DoWhileLoop G (C G) (B G)) n0 n4 i x
 do_made C B n0 n1 n2 n3 n4 again test i x at is tested inside set =
-    aimed_made (DoParts C B) (λ G. DoDo G (C G) (B G)) n0 n1 n3 n4 again i x (λ G h turns. (h.0, again, h.1, h.2, turns)) (λ G j y h. (h.1, (h.0, h.2, h.3), h.4)) at is
+    aimed_made (DoParts C B) (λ G. DoWhileLoop G (C G) (B G)) n0 n1 n3 n4 again i x (λ G h turns. (h.0, again, h.1, h.2, turns)) (λ G j y h. (h.1, (h.0, h.2, h.3), h.4)) at is
     (do_parts C B n1 n2 n3 again test i x tested inside) set
 
 -- the body, and then the third part
@@ -219,7 +219,7 @@ abbrev ForParts : GraphPath Ways → GraphPath ℕ → GraphPath Exits → Graph
 ForParts C S B = Joined C (InnerParts S B) into_loop (λ l. l)
 
 pub for_parts : (C : GraphPath Ways) (S : GraphPath ℕ) (B : GraphPath Exits) (n1 n2 n3 n4 : List Node) (again step body i : ℕ) (x : Exits) →
-    Made S n1 n2 step again → MadeExits B n2 n3 body (within_loop step x.next x) → MadeWays C n3 n4 i (ways body x.next) →
+    Made S n1 n2 step again → MadeExits B n2 n3 body (within_loop step x.next x) → MadeWays C n3 n4 i (condition_ways body x.next) →
     MadeTo loop_ends Any (ForParts C S B) n1 n4 i (loop again x)
 for_parts C S B n1 n2 n3 n4 again step body i x stepped inside test =
     joined_made C (InnerParts S B) into_loop (λ l. l) n1 n3 n4 i body (loop again x) (λ n b. b) (λ n b m. (m, (b.1.0, tt))) (λ s n u b. b) (λ s n u k b m. (m, (b.1.0, tt)))
@@ -227,7 +227,7 @@ for_parts C S B n1 n2 n3 n4 again step body i x stepped inside test =
     (λ s n u b. (b.0, tt)) (λ s n u k b t. (t, (b.1.0, (t, b.1.1.1.1)))) stepped inside) test
 
 pub for_made : (C : GraphPath Ways) (S : GraphPath ℕ) (B : GraphPath Exits) (n0 n1 n2 n3 n4 n5 : List Node) (again step body i : ℕ) (x : Exits) →
-    again ≡ length n0 → n1 ≡ n0 ++ node.Again 0 ∷ [] → Made S n1 n2 step again → MadeExits B n2 n3 body (within_loop step x.next x) → MadeWays C n3 n4 i (ways body x.next) →
+    again ≡ length n0 → n1 ≡ n0 ++ node.Again 0 ∷ [] → Made S n1 n2 step again → MadeExits B n2 n3 body (within_loop step x.next x) → MadeWays C n3 n4 i (condition_ways body x.next) →
     n5 ≡ slice_set n4 again (node.Again i) → MadeExits (λ G. ForLoop G (C G) (S G) (B G)) n0 n5 i x
 for_made C S B n0 n1 n2 n3 n4 n5 again step body i x at is stepped inside test set =
     aimed_made (ForParts C S B) (λ G. ForLoop G (C G) (S G) (B G)) n0 n1 n4 n5 again i x
@@ -246,61 +246,61 @@ goes_made f n x below likes = record {
 
 module _ (facts : Facts) (sites : Sites) (gives : ValueType) where
   -- an entry stands before those after it
-  entry_before : (G : Graph) (d : Entry) (rest : EntryList) (i m : ℕ) (x : Exits) → RunsAll G facts sites gives (plain_entry d no_entries) i (record x { next = m }) →
-      RunsAll G facts sites gives rest m x → RunsAll G facts sites gives (plain_entry d rest) i x
+  entry_before : (G : Graph) (d : Entry) (rest : EntryList) (i m : ℕ) (x : Exits) → EntriesDo G facts sites gives (plain_entry d no_entries) i (record x { next = m }) →
+      EntriesDo G facts sites gives rest m x → EntriesDo G facts sites gives (plain_entry d rest) i x
   entry_before G (entry.Declaration d) rest i m x h r =
-      let one = subst (λ l. RunsAll G facts sites gives l i (record x { next = m })) (plain_declared_before d no_entries) h in
-      subst (λ l. RunsAll G facts sites gives l i x) (sym (plain_declared_before d rest)) (one.0, one.1, subst (λ q. RunsAll G facts sites gives rest q x) (sym one.2) r)
+      let one = subst (λ l. EntriesDo G facts sites gives l i (record x { next = m })) (plain_declared_before d no_entries) h in
+      subst (λ l. EntriesDo G facts sites gives l i x) (sym (plain_declared_before d rest)) (one.0, one.1, subst (λ q. EntriesDo G facts sites gives rest q x) (sym one.2) r)
   entry_before G (entry.Statement s) rest i m x h r =
-      let one = subst (λ l. RunsAll G facts sites gives l i (record x { next = m })) (plain_stated_before s no_entries) h in
-      subst (λ l. RunsAll G facts sites gives l i x) (sym (plain_stated_before s rest)) (one.0, one.1, subst (λ q. RunsAll G facts sites gives rest q x) (sym one.2) r)
+      let one = subst (λ l. EntriesDo G facts sites gives l i (record x { next = m })) (plain_stated_before s no_entries) h in
+      subst (λ l. EntriesDo G facts sites gives l i x) (sym (plain_stated_before s rest)) (one.0, one.1, subst (λ q. EntriesDo G facts sites gives rest q x) (sym one.2) r)
 
   -- and so it does in every graph where they stand
-  entry_behind : (G : Graph) (d : Entry) (rest : EntryList) (i : ℕ) (x : Exits) → RunsAll G facts sites gives (plain_entry d rest) i x →
-      (m : ℕ) × RunsAll G facts sites gives (plain_entry d no_entries) i (record x { next = m }) × RunsAll G facts sites gives rest m x
+  entry_behind : (G : Graph) (d : Entry) (rest : EntryList) (i : ℕ) (x : Exits) → EntriesDo G facts sites gives (plain_entry d rest) i x →
+      (m : ℕ) × EntriesDo G facts sites gives (plain_entry d no_entries) i (record x { next = m }) × EntriesDo G facts sites gives rest m x
   entry_behind G (entry.Declaration d) rest i x h =
-      let all = subst (λ l. RunsAll G facts sites gives l i x) (plain_declared_before d rest) h in
-      (all.0, subst (λ l. RunsAll G facts sites gives l i (record x { next = all.0 })) (sym (plain_declared_before d no_entries)) (all.0, all.1, refl), all.2)
+      let all = subst (λ l. EntriesDo G facts sites gives l i x) (plain_declared_before d rest) h in
+      (all.0, subst (λ l. EntriesDo G facts sites gives l i (record x { next = all.0 })) (sym (plain_declared_before d no_entries)) (all.0, all.1, refl), all.2)
   entry_behind G (entry.Statement s) rest i x h =
-      let all = subst (λ l. RunsAll G facts sites gives l i x) (plain_stated_before s rest) h in
-      (all.0, subst (λ l. RunsAll G facts sites gives l i (record x { next = all.0 })) (sym (plain_stated_before s no_entries)) (all.0, all.1, refl), all.2)
+      let all = subst (λ l. EntriesDo G facts sites gives l i x) (plain_stated_before s rest) h in
+      (all.0, subst (λ l. EntriesDo G facts sites gives l i (record x { next = all.0 })) (sym (plain_stated_before s no_entries)) (all.0, all.1, refl), all.2)
 
   -- statements without nodes of their own
-  pub empty_made : (token : ℕ) (n : List Node) (x : Exits) → MadeExits (λ G. Runs G facts sites gives (tree.Empty token)) n n x.next x
+  pub empty_made : (token : ℕ) (n : List Node) (x : Exits) → MadeExits (λ G. StatementDoes G facts sites gives (tree.Empty token)) n n x.next x
   empty_made token n x = goes_made (λ y. y.next) n x (λ m b. b.0) (λ s m y l. l.0)
 
-  pub break_made : (token : ℕ) (n : List Node) (x : Exits) → MadeExits (λ G. Runs G facts sites gives (tree.Break token)) n n x.breaks x
+  pub break_made : (token : ℕ) (n : List Node) (x : Exits) → MadeExits (λ G. StatementDoes G facts sites gives (tree.Break token)) n n x.breaks x
   break_made token n x = goes_made (λ y. y.breaks) n x (λ m b. b.1.0) (λ s m y l. l.1.0)
 
-  pub continue_made : (token : ℕ) (n : List Node) (x : Exits) → MadeExits (λ G. Runs G facts sites gives (tree.Continue token)) n n x.continues x
+  pub continue_made : (token : ℕ) (n : List Node) (x : Exits) → MadeExits (λ G. StatementDoes G facts sites gives (tree.Continue token)) n n x.continues x
   continue_made token n x = goes_made (λ y. y.continues) n x (λ m b. b.1.1.0) (λ s m y l. l.1.1.0)
 
   -- no entry is put yet
   pub entries_none : (entries : List Entry) (n : List Node) (x : Exits) →
-      MadeExits (λ G. RunsAll G facts sites gives (plain_entries (drop (length entries) entries))) n n x.next x
+      MadeExits (λ G. EntriesDo G facts sites gives (plain_entries (drop (length entries) entries))) n n x.next x
   entries_none entries n x =
-      subst (λ l. MadeExits (λ G. RunsAll G facts sites gives (plain_entries l)) n n x.next x) (sym (drop_all (length entries) entries (omega arith)))
+      subst (λ l. MadeExits (λ G. EntriesDo G facts sites gives (plain_entries l)) n n x.next x) (sym (drop_all (length entries) entries (omega arith)))
       (goes_made (λ y. y.next) n x (λ m b. b.0) (λ s m y l. l.0))
 
   -- one more entry before those that were put
   pub entries_step : (entries : List Entry) (m j : ℕ) (d : Entry) (n0 n1 n2 : List Node) (first i : ℕ) (x : Exits) → m ≡ j + 1 → j < length entries → d ≡ get_or entries j d →
-      MadeExits (λ G. RunsAll G facts sites gives (plain_entries (drop m entries))) n0 n1 first x →
-      MadeExits (λ G. RunsAll G facts sites gives (plain_entry d no_entries)) n1 n2 i (record x { next = first }) →
-      MadeExits (λ G. RunsAll G facts sites gives (plain_entries (drop j entries))) n0 n2 i x
+      MadeExits (λ G. EntriesDo G facts sites gives (plain_entries (drop m entries))) n0 n1 first x →
+      MadeExits (λ G. EntriesDo G facts sites gives (plain_entry d no_entries)) n1 n2 i (record x { next = first }) →
+      MadeExits (λ G. EntriesDo G facts sites gives (plain_entries (drop j entries))) n0 n2 i x
   entries_step entries m j d n0 n1 n2 first i x e low is rest made =
       let more : drop j entries ≡ d ∷ drop m entries =
       drop_more entries j d low ∙ ap (λ q. get_or entries j d ∷ drop q entries) (sym e) ∙ ap (λ y. y ∷ drop m entries) (sym is) in
-      let one : GraphPath Exits = λ G. RunsAll G facts sites gives (plain_entry d no_entries) in
-      let rest_part : GraphPath Exits = λ G. RunsAll G facts sites gives (plain_entries (drop m entries)) in
-      subst (λ l. MadeExits (λ G. RunsAll G facts sites gives (plain_entries l)) n0 n2 i x) (sym more)
-      (both_ways (Joined one rest_part (λ q y. record y { next = q }) (λ y. y)) (λ G. RunsAll G facts sites gives (plain_entry d (plain_entries (drop m entries)))) x
+      let one : GraphPath Exits = λ G. EntriesDo G facts sites gives (plain_entry d no_entries) in
+      let rest_part : GraphPath Exits = λ G. EntriesDo G facts sites gives (plain_entries (drop m entries)) in
+      subst (λ l. MadeExits (λ G. EntriesDo G facts sites gives (plain_entries l)) n0 n2 i x) (sym more)
+      (both_ways (Joined one rest_part (λ q y. record y { next = q }) (λ y. y)) (λ G. EntriesDo G facts sites gives (plain_entry d (plain_entries (drop m entries)))) x
       (λ G i y h. entry_before G d (plain_entries (drop m entries)) i h.0 y h.1 h.2) (λ p i y h. entry_behind (Allowed p) d (plain_entries (drop m entries)) i y h) n0 n2 i
       (joined_made one rest_part (λ q y. record y { next = q }) (λ y. y) n0 n1 n2 i first x (λ n b. b) (λ n b q. (q, b.1)) (λ s n u l. l) (λ s n u k l q. (q, l.1)) rest made))
 
   pub declared_made : (d : Declaration) (n0 n1 : List Node) (i : ℕ) (x : Exits) → Made (λ G. DeclarationPath G facts sites (plain_declaration d)) n0 n1 i x.next →
-      MadeExits (λ G. RunsAll G facts sites gives (plain_entry (entry.Declaration d) no_entries)) n0 n1 i x
+      MadeExits (λ G. EntriesDo G facts sites gives (plain_entry (entry.Declaration d) no_entries)) n0 n1 i x
   declared_made d n0 n1 i x made =
-      subst (λ l. MadeExits (λ G. RunsAll G facts sites gives l) n0 n1 i x) (sym (plain_declared_before d no_entries))
+      subst (λ l. MadeExits (λ G. EntriesDo G facts sites gives l) n0 n1 i x) (sym (plain_declared_before d no_entries))
       (record {
         does = λ fin l. (x.next, made.does fin l, refl);
         keeps = made.keeps;
@@ -308,10 +308,10 @@ module _ (facts : Facts) (sites : Sites) (gives : ValueType) where
         stands = λ p j y same like done. made.stands p j done.0 tt (subst (λ q. Like p n0 x.next q) (sym done.2) like.0, tt) done.1;
       })
 
-  pub stated_made : (s : Statement) (n0 n1 : List Node) (i : ℕ) (x : Exits) → MadeExits (λ G. Runs G facts sites gives (plain_statement s)) n0 n1 i x →
-      MadeExits (λ G. RunsAll G facts sites gives (plain_entry (entry.Statement s) no_entries)) n0 n1 i x
+  pub stated_made : (s : Statement) (n0 n1 : List Node) (i : ℕ) (x : Exits) → MadeExits (λ G. StatementDoes G facts sites gives (plain_statement s)) n0 n1 i x →
+      MadeExits (λ G. EntriesDo G facts sites gives (plain_entry (entry.Statement s) no_entries)) n0 n1 i x
   stated_made s n0 n1 i x made =
-      subst (λ l. MadeExits (λ G. RunsAll G facts sites gives l) n0 n1 i x) (sym (plain_stated_before s no_entries))
+      subst (λ l. MadeExits (λ G. EntriesDo G facts sites gives l) n0 n1 i x) (sym (plain_stated_before s no_entries))
       (record {
         does = λ fin l. (x.next, made.does fin l, refl);
         keeps = made.keeps;
@@ -321,8 +321,8 @@ module _ (facts : Facts) (sites : Sites) (gives : ValueType) where
 
   -- a returned value
   pub returned_made : (v : ExprTree) (n0 n1 : List Node) (i : ℕ) (x : Exits) →
-      Made (λ G. WantedValue G (is_null_as (Some gives) v) (type_of facts v) (Some gives) (emitted G facts sites v)) n0 n1 i x.gives →
-      MadeExits (λ G. ReturnDo G facts sites gives (Some v)) n0 n1 i x
+      Made (λ G. WantedValue G (is_null_as (Some gives) v) (type_of facts v) (Some gives) (emitted_expression G facts sites v)) n0 n1 i x.gives →
+      MadeExits (λ G. ReturnPath G facts sites gives (Some v)) n0 n1 i x
   returned_made v n0 n1 i x made = record {
     does = λ fin l. made.does fin l;
     keeps = made.keeps;
@@ -333,14 +333,14 @@ module _ (facts : Facts) (sites : Sites) (gives : ValueType) where
   -- a condition before the two ways
   pub branch_made : (token : ℕ) (condition : Expr) (first : Box Statement Global) (second : Option (Box Statement Global)) (n0 n1 n2 n3 : List Node) (i yes_at no_at : ℕ)
       (x : Exits) → MadeExits (λ G. SecondRuns G facts sites gives (plain_second second)) n0 n1 no_at x →
-      MadeExits (λ G. Runs G facts sites gives (plain_statement first.value)) n1 n2 yes_at x →
-      MadeWays (λ G. Condition G facts sites token (plain_expr condition)) n2 n3 i (ways yes_at no_at) →
-      MadeExits (λ G. Runs G facts sites gives (plain_statement (statement.If token condition first second))) n0 n3 i x
+      MadeExits (λ G. StatementDoes G facts sites gives (plain_statement first.value)) n1 n2 yes_at x →
+      MadeWays (λ G. Condition G facts sites token (plain_expr condition)) n2 n3 i (condition_ways yes_at no_at) →
+      MadeExits (λ G. StatementDoes G facts sites gives (plain_statement (statement.If token condition first second))) n0 n3 i x
   branch_made token condition first None n0 n1 n2 n3 i yes_at no_at x second_made first_made test =
-      subst (λ s. MadeExits (λ G. Runs G facts sites gives s) n0 n3 i x) (sym (plain_if token condition first))
-      (either_made (λ G. Condition G facts sites token (plain_expr condition)) (λ G. Runs G facts sites gives (plain_statement first.value)) (λ G. GoesOn)
+      subst (λ s. MadeExits (λ G. StatementDoes G facts sites gives s) n0 n3 i x) (sym (plain_if token condition first))
+      (either_made (λ G. Condition G facts sites token (plain_expr condition)) (λ G. StatementDoes G facts sites gives (plain_statement first.value)) (λ G. GoesOn)
       n0 n1 n2 n3 i yes_at no_at x second_made first_made test)
   branch_made token condition first (Some second) n0 n1 n2 n3 i yes_at no_at x second_made first_made test =
-      subst (λ s. MadeExits (λ G. Runs G facts sites gives s) n0 n3 i x) (sym (plain_if_else token condition first second))
-      (either_made (λ G. Condition G facts sites token (plain_expr condition)) (λ G. Runs G facts sites gives (plain_statement first.value))
-      (λ G. Runs G facts sites gives (plain_statement second.value)) n0 n1 n2 n3 i yes_at no_at x second_made first_made test)
+      subst (λ s. MadeExits (λ G. StatementDoes G facts sites gives s) n0 n3 i x) (sym (plain_if_else token condition first second))
+      (either_made (λ G. Condition G facts sites token (plain_expr condition)) (λ G. StatementDoes G facts sites gives (plain_statement first.value))
+      (λ G. StatementDoes G facts sites gives (plain_statement second.value)) n0 n1 n2 n3 i yes_at no_at x second_made first_made test)

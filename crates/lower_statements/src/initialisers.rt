@@ -4,9 +4,9 @@ ghost use Rattle.std.specs.List.{sum_by};
 ghost use Rattle.c_meaning.specs.Words.{equals_token, want_of, text_of_string};
 ghost use Rattle.c_syntax.specs.Plain.{plain_declaration, plain_expr, plain_exprs, plain_initial, plain_start};
 ghost use Rattle.lower_relation.specs.Expressions.{number_of_text};
-ghost use Rattle.lower_relation.specs.Initialisers.{AllStart, ArrayZeroed, Clears, DeclarationPath, ElementSet, ElementsSet, Initialised, OnLocal};
-ghost use Rattle.lower_relation.specs.Initialisers.{ScalarSet, Spells, Starts, ValueSet, Zeroes};
-ghost use Rattle.lower_relation.specs.Room.{declaration_room, expr_room, exprs_room, initial_room, pairs, start_room};
+ghost use Rattle.lower_relation.specs.Initialisers.{VariablesStart, Clears, DeclarationPath, ElementSet, ElementsSet, Initialised, OnLocal};
+ghost use Rattle.lower_relation.specs.Initialisers.{ScalarSet, Spells, VariableStarts, ValueSet, Zeroes};
+ghost use Rattle.lower_relation.specs.Room.{declaration_room, expr_room, exprs_room, initial_room, pair_visits, start_room};
 ghost use Rattle.lower_nodes.specs.Made.{Made};
 ghost use Rattle.lower_statements.specs.Locals.{local_of};
 ghost use Rattle.lower_statements.specs.Strings.{StringSet, is_array, known_text, text_with};
@@ -150,10 +150,11 @@ fn emit_scalar(
     x: &Expr,
     next: u32,
 ) -> Result<u32, Memory>
-    requires room { length graph.old + (6 + pairs (sites_in facts.now) (equals_token token) + expr_room (sites_in facts.now) (plain_expr x.now)) ≤ node_limit }
+    requires room { length graph.old + (6 + pair_visits (sites_in facts.now) (equals_token token) + expr_room (sites_in facts.now) (plain_expr x.now)) ≤
+        node_limit }
     ensures made { IfOk result (λ i. Made (λ G. ScalarSet G (facts_in facts.now) (sites_in facts.now) token (plain_expr x.now)) graph.old graph.new i next) }
     ensures few { IfOk result (λ i. length graph.new ≤ length graph.old
-        + (6 + pairs (sites_in facts.now) (equals_token token) + expr_room (sites_in facts.now) (plain_expr x.now))) }
+        + (6 + pair_visits (sites_in facts.now) (equals_token token) + expr_room (sites_in facts.now) (plain_expr x.now))) }
 {
     let drop = graph.put(Node::Drop { next })?;
     let assigned = put_assigned_behind(graph, facts, token, drop)?;
@@ -242,11 +243,12 @@ fn emit_single(
     x: &Expr,
     next: u32,
 ) -> Result<u32, Memory>
-    requires room { length graph.old + (6 + pairs (sites_in facts.now) (equals_token token) + expr_room (sites_in facts.now) (plain_expr x.now)) ≤ node_limit }
+    requires room { length graph.old + (6 + pair_visits (sites_in facts.now) (equals_token token) + expr_room (sites_in facts.now) (plain_expr x.now)) ≤
+        node_limit }
     ensures made { IfOk result (λ i. Made (λ G. ValueSet G (facts_in facts.now) (sites_in facts.now) token ((facts_in facts.now).declared_at token)
         (plain_expr x.now)) graph.old graph.new i next) }
     ensures few { IfOk result (λ i. length graph.new ≤ length graph.old
-        + (6 + pairs (sites_in facts.now) (equals_token token) + expr_room (sites_in facts.now) (plain_expr x.now))) }
+        + (6 + pair_visits (sites_in facts.now) (equals_token token) + expr_room (sites_in facts.now) (plain_expr x.now))) }
 {
     if is_array(facts.declared_at(token)) {
         let i = emit_string(graph, facts, token, x, next)?;
@@ -312,7 +314,8 @@ fn emit_optional_initial(
 /// A declared variable, with its initialiser.
 fn emit_start(graph: &mut Graph, facts: &TreeFacts, start: &Start, next: u32) -> Result<u32, Memory>
     requires room { length graph.old + start_room (sites_in facts.now) (plain_start start.now) ≤ node_limit }
-    ensures made { IfOk result (λ i. Made (λ G. Starts G (facts_in facts.now) (sites_in facts.now) (plain_start start.now)) graph.old graph.new i next) }
+    ensures made { IfOk result (λ i. Made (λ G. VariableStarts G (facts_in facts.now) (sites_in facts.now) (plain_start start.now))
+        graph.old graph.new i next) }
     ensures few { IfOk result (λ i. length graph.new ≤ length graph.old + start_room (sites_in facts.now) (plain_start start.now)) }
 {
     let token = start.declarator.name_token;
@@ -329,7 +332,8 @@ fn emit_starts(
     next: u32,
 ) -> Result<u32, Memory>
     requires room { length graph.old + sum_by (start_room (sites_in facts.now)) (map plain_start starts.now) ≤ node_limit }
-    ensures made { IfOk result (λ i. Made (λ G. AllStart G (facts_in facts.now) (sites_in facts.now) (map plain_start starts.now)) graph.old graph.new i next) }
+    ensures made { IfOk result (λ i. Made (λ G. VariablesStart G (facts_in facts.now) (sites_in facts.now) (map plain_start starts.now)) graph.old graph.new i
+        next) }
     ensures few { IfOk result (λ i. length graph.new ≤ length graph.old + sum_by (start_room (sites_in facts.now)) (map plain_start starts.now)) }
 {
     let mut first = next;

@@ -2,11 +2,12 @@ ghost use Rattle.flow.specs.Limits.{node_limit};
 ghost use Rattle.std.specs.Prelude.{IfOk, option_map, length, ◌≤◌, ◌+◌};
 ghost use Rattle.c_syntax.specs.Words.{plain_entries, plain_entry, plain_expr, plain_for_start, plain_second, plain_statement, no_entries};
 ghost use Rattle.lower_relation.specs.Expressions.{Condition};
-ghost use Rattle.lower_relation.specs.Statements.{DoDo, ForLoop, ForStarts, OptionalCondition, OptionalEffect, ReturnDo, Runs, RunsAll, WhileDo};
+ghost use Rattle.lower_relation.specs.Statements.{DoWhileLoop, ForLoop, ForStartPath, OptionalCondition, OptionalEffect, ReturnPath, StatementDoes, EntriesDo};
+ghost use Rattle.lower_relation.specs.Statements.{WhileLoop};
 ghost use Rattle.lower_statements.specs.Exits.{SecondRuns, exits_of};
-ghost use Rattle.lower_relation.specs.Room.{branches, entries_room, expr_room, for_start_room, part_room, second_room, statement_room};
+ghost use Rattle.lower_relation.specs.Room.{branch_visits, entries_room, expr_room, for_start_room, part_room, second_room, statement_room};
 ghost use Rattle.lower_nodes.specs.Made.{Made, MadeExits, MadeWays};
-ghost use Rattle.lower_nodes.specs.Purposes.{ways};
+ghost use Rattle.lower_nodes.specs.Purposes.{condition_ways};
 ghost use Rattle.lower_facts.specs.Facts.{facts_in, sites_in};
 
 use crate::exits::{Exits, next_at, within_loop};
@@ -49,11 +50,12 @@ fn emit_optional_condition(
     yes: u32,
     no: u32,
 ) -> Result<u32, Memory>
-    requires room { length graph.old + (1 + branches (sites_in facts.now) token + part_room (sites_in facts.now) (option_map plain_expr x.now)) ≤ node_limit }
+    requires room { length graph.old + (1 + branch_visits (sites_in facts.now) token + part_room (sites_in facts.now) (option_map plain_expr x.now)) ≤
+        node_limit }
     ensures made { IfOk result (λ i. MadeWays (λ G. OptionalCondition G (facts_in facts.now) (sites_in facts.now) token (option_map plain_expr x.now))
-        graph.old graph.new i (ways yes no)) }
+        graph.old graph.new i (condition_ways yes no)) }
     ensures few { IfOk result (λ i. length graph.new ≤ length graph.old
-        + (1 + branches (sites_in facts.now) token + part_room (sites_in facts.now) (option_map plain_expr x.now))) }
+        + (1 + branch_visits (sites_in facts.now) token + part_room (sites_in facts.now) (option_map plain_expr x.now))) }
 {
     match x {
         None => Ok(yes),
@@ -72,7 +74,8 @@ fn emit_for_start(
     next: u32,
 ) -> Result<u32, Memory>
     requires room { length graph.old + for_start_room (sites_in facts.now) (plain_for_start start.now) ≤ node_limit }
-    ensures made { IfOk result (λ i. Made (λ G. ForStarts G (facts_in facts.now) (sites_in facts.now) (plain_for_start start.now)) graph.old graph.new i next) }
+    ensures made { IfOk result (λ i. Made (λ G. ForStartPath G (facts_in facts.now) (sites_in facts.now) (plain_for_start start.now)) graph.old graph.new i
+        next) }
     ensures few { IfOk result (λ i. length graph.new ≤ length graph.old + for_start_room (sites_in facts.now) (plain_for_start start.now)) }
 {
     match start {
@@ -96,7 +99,7 @@ fn emit_return(
     exits: Exits,
 ) -> Result<u32, Memory>
     requires room { length graph.old + (2 + part_room (sites_in facts.now) (option_map plain_expr value.now)) ≤ node_limit }
-    ensures made { IfOk result (λ i. MadeExits (λ G. ReturnDo G (facts_in facts.now) (sites_in facts.now) gives (option_map plain_expr value.now))
+    ensures made { IfOk result (λ i. MadeExits (λ G. ReturnPath G (facts_in facts.now) (sites_in facts.now) gives (option_map plain_expr value.now))
         graph.old graph.new i (exits_of exits)) }
     ensures few { IfOk result (λ i. length graph.new ≤ length graph.old + (2 + part_room (sites_in facts.now) (option_map plain_expr value.now))) }
 {
@@ -120,13 +123,13 @@ fn emit_while(
     condition: &Expr,
     exits: Exits,
 ) -> Result<u32, Memory>
-    requires room { length graph.old + (2 + branches (sites_in facts.now) token + expr_room (sites_in facts.now) (plain_expr condition.now)
+    requires room { length graph.old + (2 + branch_visits (sites_in facts.now) token + expr_room (sites_in facts.now) (plain_expr condition.now)
         + statement_room (sites_in facts.now) (plain_statement body.now)) ≤ node_limit }
     ensures made { IfOk result (λ i. MadeExits
-        (λ G. WhileDo G (Condition G (facts_in facts.now) (sites_in facts.now) token (plain_expr condition.now))
-        (Runs G (facts_in facts.now) (sites_in facts.now) gives (plain_statement body.now))) graph.old graph.new i (exits_of exits)) }
+        (λ G. WhileLoop G (Condition G (facts_in facts.now) (sites_in facts.now) token (plain_expr condition.now))
+        (StatementDoes G (facts_in facts.now) (sites_in facts.now) gives (plain_statement body.now))) graph.old graph.new i (exits_of exits)) }
     ensures few { IfOk result (λ i. length graph.new ≤ length graph.old
-        + (2 + branches (sites_in facts.now) token + expr_room (sites_in facts.now) (plain_expr condition.now)
+        + (2 + branch_visits (sites_in facts.now) token + expr_room (sites_in facts.now) (plain_expr condition.now)
         + statement_room (sites_in facts.now) (plain_statement body.now))) }
 {
     let again = graph.put(Node::Again { next: 0 })?;
@@ -153,13 +156,13 @@ fn emit_do(
     condition: &Expr,
     exits: Exits,
 ) -> Result<u32, Memory>
-    requires room { length graph.old + (2 + branches (sites_in facts.now) token + expr_room (sites_in facts.now) (plain_expr condition.now)
+    requires room { length graph.old + (2 + branch_visits (sites_in facts.now) token + expr_room (sites_in facts.now) (plain_expr condition.now)
         + statement_room (sites_in facts.now) (plain_statement body.now)) ≤ node_limit }
     ensures made { IfOk result (λ i. MadeExits
-        (λ G. DoDo G (Condition G (facts_in facts.now) (sites_in facts.now) token (plain_expr condition.now))
-        (Runs G (facts_in facts.now) (sites_in facts.now) gives (plain_statement body.now))) graph.old graph.new i (exits_of exits)) }
+        (λ G. DoWhileLoop G (Condition G (facts_in facts.now) (sites_in facts.now) token (plain_expr condition.now))
+        (StatementDoes G (facts_in facts.now) (sites_in facts.now) gives (plain_statement body.now))) graph.old graph.new i (exits_of exits)) }
     ensures few { IfOk result (λ i. length graph.new ≤ length graph.old
-        + (2 + branches (sites_in facts.now) token + expr_room (sites_in facts.now) (plain_expr condition.now)
+        + (2 + branch_visits (sites_in facts.now) token + expr_room (sites_in facts.now) (plain_expr condition.now)
         + statement_room (sites_in facts.now) (plain_statement body.now))) }
 {
     let again = graph.put(Node::Again { next: 0 })?;
@@ -187,14 +190,14 @@ fn emit_for(
     step: &Option<Expr>,
     exits: Exits,
 ) -> Result<u32, Memory>
-    requires room { length graph.old + (2 + branches (sites_in facts.now) token + part_room (sites_in facts.now) (option_map plain_expr condition.now)
+    requires room { length graph.old + (2 + branch_visits (sites_in facts.now) token + part_room (sites_in facts.now) (option_map plain_expr condition.now)
         + part_room (sites_in facts.now) (option_map plain_expr step.now) + statement_room (sites_in facts.now) (plain_statement body.now)) ≤ node_limit }
     ensures made { IfOk result (λ i. MadeExits
         (λ G. ForLoop G (OptionalCondition G (facts_in facts.now) (sites_in facts.now) token (option_map plain_expr condition.now))
         (OptionalEffect G (facts_in facts.now) (sites_in facts.now) (option_map plain_expr step.now))
-        (Runs G (facts_in facts.now) (sites_in facts.now) gives (plain_statement body.now))) graph.old graph.new i (exits_of exits)) }
+        (StatementDoes G (facts_in facts.now) (sites_in facts.now) gives (plain_statement body.now))) graph.old graph.new i (exits_of exits)) }
     ensures few { IfOk result (λ i. length graph.new ≤ length graph.old
-        + (2 + branches (sites_in facts.now) token + part_room (sites_in facts.now) (option_map plain_expr condition.now)
+        + (2 + branch_visits (sites_in facts.now) token + part_room (sites_in facts.now) (option_map plain_expr condition.now)
         + part_room (sites_in facts.now) (option_map plain_expr step.now) + statement_room (sites_in facts.now) (plain_statement body.now))) }
 {
     let again = graph.put(Node::Again { next: 0 })?;
@@ -244,7 +247,7 @@ pub fn emit_statement(
     exits: Exits,
 ) -> Result<u32, Memory>
     requires room { length graph.old + statement_room (sites_in facts.now) (plain_statement x.now) ≤ node_limit }
-    ensures made { IfOk result (λ i. MadeExits (λ G. Runs G (facts_in facts.now) (sites_in facts.now) gives (plain_statement x.now))
+    ensures made { IfOk result (λ i. MadeExits (λ G. StatementDoes G (facts_in facts.now) (sites_in facts.now) gives (plain_statement x.now))
         graph.old graph.new i (exits_of exits)) }
     ensures few { IfOk result (λ i. length graph.new ≤ length graph.old + statement_room (sites_in facts.now) (plain_statement x.now)) }
 {
@@ -306,7 +309,7 @@ fn emit_entry(
     exits: Exits,
 ) -> Result<u32, Memory>
     requires room { length graph.old + entries_room (sites_in facts.now) (plain_entry entry.now no_entries) ≤ node_limit }
-    ensures made { IfOk result (λ i. MadeExits (λ G. RunsAll G (facts_in facts.now) (sites_in facts.now) gives (plain_entry entry.now no_entries))
+    ensures made { IfOk result (λ i. MadeExits (λ G. EntriesDo G (facts_in facts.now) (sites_in facts.now) gives (plain_entry entry.now no_entries))
         graph.old graph.new i (exits_of exits)) }
     ensures few { IfOk result (λ i. length graph.new ≤ length graph.old + entries_room (sites_in facts.now) (plain_entry entry.now no_entries)) }
 {
@@ -332,7 +335,7 @@ pub fn emit_entries(
     exits: Exits,
 ) -> Result<u32, Memory>
     requires room { length graph.old + entries_room (sites_in facts.now) (plain_entries entries.now) ≤ node_limit }
-    ensures made { IfOk result (λ i. MadeExits (λ G. RunsAll G (facts_in facts.now) (sites_in facts.now) gives (plain_entries entries.now))
+    ensures made { IfOk result (λ i. MadeExits (λ G. EntriesDo G (facts_in facts.now) (sites_in facts.now) gives (plain_entries entries.now))
         graph.old graph.new i (exits_of exits)) }
     ensures few { IfOk result (λ i. length graph.new ≤ length graph.old + entries_room (sites_in facts.now) (plain_entries entries.now)) }
 {

@@ -13,6 +13,6 @@ abbrev pub body_at : List ItemTree → ℕ → Option EntryList
 body_at items place = body_in (slice_get items place)
 
 -- the places of the items that define functions, where items are counted from this number on
-abbrev pub defining : ℕ → List ItemTree → List ℕ
-defining place [] = []
-defining place (x ∷ items) = if is_some (body_in (Some x)) then place ∷ defining (suc place) items else defining (suc place) items
+abbrev pub definition_places : ℕ → List ItemTree → List ℕ
+definition_places place [] = []
+definition_places place (x ∷ items) = if is_some (body_in (Some x)) then place ∷ definition_places (suc place) items else definition_places (suc place) items

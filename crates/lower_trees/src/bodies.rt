@@ -3,7 +3,7 @@ ghost use Rattle.std.specs.List.{flat_map};
 ghost use Rattle.std.specs.Option.{option_copied};
 ghost use Rattle.c_syntax.specs.Plain.{plain_entries, plain_item};
 ghost use Rattle.c_meaning.specs.Known.{body_of_item};
-ghost use Rattle.lower_trees.specs.Bodies.{body_at, body_in, defining};
+ghost use Rattle.lower_trees.specs.Bodies.{body_at, body_in, definition_places};
 
 use c_syntax::{Entry, Item};
 use cbi_base::Memory;
@@ -51,7 +51,7 @@ fn place_at(places: &[usize], number: u32) -> Option<usize>
 
 /// The body of the function with this number, where these are the places of the items that define functions.
 pub fn body_numbered<'a>(items: &'a [Item], places: &[usize], number: u32) -> Option<&'a [Entry]>
-    requires { places.now ≡ defining 0 (map plain_item items.now) }
+    requires { places.now ≡ definition_places 0 (map plain_item items.now) }
     ensures { option_map plain_entries (option_copied result) ≡ slice_get (flat_map body_of_item (map plain_item items.now)) number }
 {
     match place_at(places, number) {
@@ -73,7 +73,7 @@ fn add_place(places: &mut Vec<usize>, holds: bool, place: usize) -> Result<(), M
 
 /// The places of the items that define functions.
 pub fn body_places(alloc: Global, items: &[Item]) -> Result<Vec<usize>, Memory>
-    ensures { IfOk result (λ places. places.items ≡ defining 0 (map plain_item items.now)) }
+    ensures { IfOk result (λ places. places.items ≡ definition_places 0 (map plain_item items.now)) }
 {
     let mut places = Vec::new(alloc);
     let mut place: usize = 0;

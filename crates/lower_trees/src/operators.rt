@@ -1,5 +1,5 @@
 ghost use Rattle.std.specs.Prelude.{◌≡◌};
-ghost use Rattle.c_meaning.specs.Trees.{assignment, has_value, is_null_beside, joint, one_kind, operand_type, step_of};
+ghost use Rattle.c_meaning.specs.Trees.{assignment_of_sign, has_value, joint_of_sign, one_kind, operand_type, step_of};
 ghost use Rattle.lower_trees.specs.Operators.{assignment_of, joint_of};
 
 use c_meaning::ValueType;
@@ -25,7 +25,7 @@ pub enum Joint {
 
 /// What the assignment operator does.
 pub fn assignment_by(sign: Sign) -> Assignment
-    ensures { assignment_of result ≡ assignment sign }
+    ensures { assignment_of result ≡ assignment_of_sign sign }
 {
     match compound_of(sign) {
         None => Assignment::Plain,
@@ -35,7 +35,7 @@ pub fn assignment_by(sign: Sign) -> Assignment
 
 /// What the operator of a chain does.
 pub fn joint_by(sign: Sign) -> Joint
-    ensures { joint_of result ≡ joint sign }
+    ensures { joint_of result ≡ joint_of_sign sign }
 {
     match sign {
         Sign::AndAnd => Joint::Both,

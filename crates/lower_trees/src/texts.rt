@@ -1,7 +1,7 @@
-ghost use Rattle.std.specs.Prelude.{◌≡◌, ◌≤◌, ℕ, length, map, IfOk, OnOk};
+ghost use Rattle.std.specs.Prelude.{◌≡◌, ◌≤◌, ℕ, length, IfOk};
 ghost use Rattle.c_syntax.specs.Plain.{plain_tree};
 ghost use Rattle.flow.specs.Limits.{text_limit};
-ghost use Rattle.c_meaning.specs.Words.{literals, number_from, texts_of, head_site};
+ghost use Rattle.c_meaning.specs.Words.{string_literals, number_from, texts_of, head_site};
 ghost use Rattle.lower_trees.specs.Places.{all_at};
 
 use crate::places::add;
@@ -14,7 +14,7 @@ use std::alloc::Global;
 
 /// All strings of a tree.
 fn strings_of_tree(alloc: Global, tree: &Tree) -> Result<Seq<StringAt>, Memory>
-    ensures { IfOk result (λ strings. strings ≡ literals (plain_tree tree.now)) }
+    ensures { IfOk result (λ strings. strings ≡ string_literals (plain_tree tree.now)) }
 {
     let mut strings = Seq::new(alloc);
     strings_of_items(alloc, &mut strings, tree.items.as_slice())?;
@@ -59,9 +59,10 @@ pub struct TextLists {
 
 /// The strings of a tree, by token and as texts.
 pub fn text_lists(alloc: Global, tree: &Tree) -> Result<TextLists, Memory>
-    requires { length (literals (plain_tree tree.now)) ≤ text_limit }
-    ensures numbers { IfOk result (λ lists. (token : ℕ) → head_site (all_at lists.numbers.items token) ≡ number_from 0 token (literals (plain_tree tree.now))) }
-    ensures texts { IfOk result (λ lists. lists.texts ≡ texts_of (literals (plain_tree tree.now))) }
+    requires { length (string_literals (plain_tree tree.now)) ≤ text_limit }
+    ensures numbers { IfOk result (λ lists. (token : ℕ)
+        → head_site (all_at lists.numbers.items token) ≡ number_from 0 token (string_literals (plain_tree tree.now))) }
+    ensures texts { IfOk result (λ lists. lists.texts ≡ texts_of (string_literals (plain_tree tree.now))) }
 {
     let strings = strings_of_tree(alloc, tree)?;
     Ok(TextLists {

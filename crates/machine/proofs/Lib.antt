@@ -8,4 +8,6 @@ pub mod SeenLemmas
 pub mod WentLemmas
 pub mod ReachedLemmas
 pub mod StrideLemmas
+pub mod ToldLemmas
 pub mod GoingLemmas
+pub mod LookLemmas

@@ -1,13 +1,13 @@
 ghost use Rattle.std.specs.Prelude.{◌≡◌, ◌<◌, ◌≤◌, ◌+◌, ◌∷◌, [], None, Some, length, drop, OnOk, slice_get};
 ghost use Rattle.std.specs.Option.{option_map};
 ghost use Rattle.flow.specs.declared.node.View.TheVariants as view;
-ghost use Rattle.flow.specs.Words.{ended_with, has_result, over, callee_of, IsLater, node_limit, local_limit, IsProgram};
+ghost use Rattle.flow.specs.Words.{ended_with, has_result, run_ended, callee_of, IsLater, node_limit, local_limit, IsProgram};
 ghost use Rattle.flow.specs.State as machine;
 ghost use Rattle.cbi_base.specs.Limits.{active_limit};
 ghost use Rattle.machine.specs.Entering.{IsEntered, IsArrival};
 ghost use Rattle.machine_rows.specs.Operands.{several_on};
 ghost use Rattle.machine_code.specs.Prepared.{nodes_of};
-ghost use Rattle.machine.specs.Steps.{ViewFollows, Nears, IsRunning, waited, resumed_at, Enters, IsEntry, Keeps};
+ghost use Rattle.machine.specs.Steps.{ViewFollows, NearsItsEnd, IsRunning, frame_pushed, resumed_at, Enters, IsEntry, IfRunGoesOn};
 
 use crate::state::{Frame, State};
 use c_store::{Made, Objects, Word};
@@ -93,7 +93,7 @@ fn take_arguments(
 /// The running function waits, and will go on at this node.
 #[inline(always)]
 fn wait(state: &mut State<'_>, next: u32) -> Result<(), Memory>
-    ensures { OnOk result (state.new ≡ waited next state.old) }
+    ensures { OnOk result (state.new ≡ frame_pushed next state.old) }
 {
     state.now.operands.open()?;
     state.below.push(Frame {
@@ -142,7 +142,7 @@ fn enter<'a>(
 ) -> Result<u32, Stop>
     ensures next { Enters program.entry.now number next state.old result state.new }
     ensures more { IsEntry next state.old result state.new }
-    ensures running { Keeps result (IsRunning program.entry.now state.new) }
+    ensures running { IfRunGoesOn result (IsRunning program.entry.now state.new) }
 {
     let Some(function) = function_of(program, number) else {
         return Err(Stop::from(Trap::Internal));
@@ -176,8 +176,8 @@ pub fn call<'a>(
 ) -> Result<u32, Stop>
     requires { IsLater place next }
     ensures next { ViewFollows program.entry.now (view.Calls number next) place state.old result state.new }
-    ensures nearer { Nears place state.old result state.new }
-    ensures running { IsRunning program.entry.now state.old → Keeps result (IsRunning program.entry.now state.new) }
+    ensures nearer { NearsItsEnd place state.old result state.new }
+    ensures running { IsRunning program.entry.now state.old → IfRunGoesOn result (IsRunning program.entry.now state.new) }
 {
     if state.turns == 0 {
         return Err(Stop::Over {
@@ -211,7 +211,7 @@ fn resume<'a>(program: &'a Prepared<'a>, state: &mut State<'a>, frame: Frame)
 /// How the run is over where the first function is left with a value.
 #[inline(always)]
 fn end_with(value: Word) -> Outcome
-    ensures { (s : machine.State) → ended_with value s ≡ over result s }
+    ensures { (s : machine.State) → ended_with value s ≡ run_ended result s }
 {
     match value.scalar() {
         Scalar::Number {
@@ -232,8 +232,8 @@ fn end_with(value: Word) -> Outcome
 pub fn give<'a>(program: &'a Prepared<'a>, state: &mut State<'a>, place: u32) -> Result<u32, Stop>
     requires { place < node_limit }
     ensures next { ViewFollows program.entry.now view.Gives place state.old result state.new }
-    ensures nearer { Nears place state.old result state.new }
-    ensures running { IsRunning program.entry.now state.old → Keeps result (IsRunning program.entry.now state.new) }
+    ensures nearer { NearsItsEnd place state.old result state.new }
+    ensures running { IsRunning program.entry.now state.old → IfRunGoesOn result (IsRunning program.entry.now state.new) }
 {
     let value = state.now.take_any()?;
     if value.is_undefined() {
@@ -259,8 +259,8 @@ pub fn give<'a>(program: &'a Prepared<'a>, state: &mut State<'a>, place: u32) ->
 pub fn quit<'a>(program: &'a Prepared<'a>, state: &mut State<'a>, place: u32) -> Result<u32, Stop>
     requires { place < node_limit }
     ensures next { ViewFollows program.entry.now view.Quits place state.old result state.new }
-    ensures nearer { Nears place state.old result state.new }
-    ensures running { IsRunning program.entry.now state.old → Keeps result (IsRunning program.entry.now state.new) }
+    ensures nearer { NearsItsEnd place state.old result state.new }
+    ensures running { IsRunning program.entry.now state.old → IfRunGoesOn result (IsRunning program.entry.now state.new) }
 {
     let has_value = has_result(program, state.function);
     let waiting = state.below.pop();

@@ -1,8 +1,8 @@
-ghost use Rattle.std.specs.Prelude.{◌≡◌, ◌<◌, ◌≤◌, OnOk, slice_get};
+ghost use Rattle.std.specs.Prelude.{◌≡◌, ◌<◌, ◌≤◌};
 ghost use Rattle.flow.specs.declared.node.View.TheVariants as view;
 ghost use Rattle.flow.specs.Fits.{IsLater};
 ghost use Rattle.machine.specs.Force.{force_in, set_countdown};
-ghost use Rattle.machine.specs.Steps.{ViewFollows, Nears, IsRunning, most_counted};
+ghost use Rattle.machine.specs.Steps.{ViewFollows, NearsItsEnd, IsRunning, most_counted};
 
 use crate::look::look;
 use crate::state::State;
@@ -44,7 +44,7 @@ pub fn skip(
 ) -> Result<u32, Stop>
     requires { IsLater place next }
     ensures next { ViewFollows program.now (view.Skips by next) place state.old result state.new }
-    ensures nearer { Nears place state.old result state.new }
+    ensures nearer { NearsItsEnd place state.old result state.new }
     ensures running { IsRunning program.now state.old → IsRunning program.now state.new }
 {
     let force = in_force(state);
@@ -71,7 +71,7 @@ pub fn pick(
     requires fast_fits { state.old.work.fast < most_counted }
     requires slow_fits { state.old.work.slow < most_counted }
     ensures next { ViewFollows program.now (view.Picks weight fast slow) place state.old result state.new }
-    ensures nearer { Nears place state.old result state.new }
+    ensures nearer { NearsItsEnd place state.old result state.new }
     ensures running { IsRunning program.now state.old → IsRunning program.now state.new }
 {
     if in_force(state) > weight {
@@ -93,7 +93,7 @@ pub fn import(
 ) -> Result<u32, Stop>
     requires { IsLater place next }
     ensures next { ViewFollows program.now (view.Imports next) place state.old result state.new }
-    ensures nearer { Nears place state.old result state.new }
+    ensures nearer { NearsItsEnd place state.old result state.new }
     ensures running { IsRunning program.now state.old → IsRunning program.now state.new }
 {
     state.copy = Some(state.countdown);
@@ -111,7 +111,7 @@ pub fn export(
 ) -> Result<u32, Stop>
     requires { IsLater place next }
     ensures next { ViewFollows program.now (view.Exports next) place state.old result state.new }
-    ensures nearer { Nears place state.old result state.new }
+    ensures nearer { NearsItsEnd place state.old result state.new }
     ensures running { IsRunning program.now state.old → IsRunning program.now state.new }
 {
     let Some(copy) = state.copy else {
@@ -134,7 +134,7 @@ pub fn mark(
 ) -> Result<u32, Stop>
     requires { IsLater place next }
     ensures next { ViewFollows program.now (view.Marks site next) place state.old result state.new }
-    ensures nearer { Nears place state.old result state.new }
+    ensures nearer { NearsItsEnd place state.old result state.new }
     ensures running { IsRunning program.now state.old → IsRunning program.now state.new }
 {
     let seen = look(program.program(), &state.now, site)?;
@@ -158,7 +158,7 @@ pub fn test(
     requires ahead { IsLater place next }
     requires fits { state.old.work.tests < most_counted }
     ensures next { ViewFollows program.now (view.Tests site next) place state.old result state.new }
-    ensures nearer { Nears place state.old result state.new }
+    ensures nearer { NearsItsEnd place state.old result state.new }
     ensures running { IsRunning program.now state.old → IsRunning program.now state.new }
 {
     let count = in_force(state).saturating_sub(1);

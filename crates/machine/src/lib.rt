@@ -4,6 +4,7 @@
 mod calls;
 mod countdown;
 mod look;
+mod pending;
 mod runs;
 mod start;
 mod state;

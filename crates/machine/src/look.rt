@@ -1,14 +1,16 @@
-ghost use Rattle.std.specs.Prelude.{◌≡◌, slice_get};
+ghost use Rattle.std.specs.Prelude.{◌≡◌, Ok, Some, IfSome, slice_get};
 ghost use Rattle.flow.specs.Words.{seen_truth, seen_order, seen_sign, object_at, number_at, partner_number, seen_pair, seen_by, sees_now};
+ghost use Rattle.flow.specs.declared.site.Slot.TheVariants as slot;
 ghost use Rattle.cbi_base.specs.Scalars.{truth_of, sign_of};
 ghost use Rattle.machine_rows.specs.Data.{data_of};
 
 use c_store::Word;
-use cbi_base::{Scalar, Seen, Trap};
+use cbi_base::{Kind, Scalar, Seen, Trap, Want};
 use flow::{Partner, Program, SiteKind, Slot};
 use machine_rows::Now;
 use std::cmp::Ordering;
 
+#[inline(always)]
 fn seen_order(order: Ordering) -> Seen
     ensures { result ≡ seen_order order }
 {
@@ -16,6 +18,93 @@ fn seen_order(order: Ordering) -> Seen
         Ordering::Less => Seen::First,
         Ordering::Equal => Seen::Second,
         Ordering::Greater => Seen::Third,
+    }
+}
+
+/// The number in a local's first cell, where it is an `int` that is found without a search. None tells nothing.
+#[inline(always)]
+#[tactic(auto, using(crate::proofs::LookLemmas::local_there))]
+fn local_number(now: &Now<'_>, index: u32) -> Option<i64>
+    ensures { IfSome result (λ n. number_at (slot.Local index) (data_of now.now).locals (data_of now.now).objects ≡ Some n) }
+{
+    let object = now.locals.get(index)?;
+    let word = now
+        .objects
+        .local_value(object, Want::Number { kind: Kind::Int })?;
+    word.int()
+}
+
+/// The number in a global's first cell, where it is an `int` that is found without a search. None tells nothing.
+#[inline(always)]
+fn global_number(now: &Now<'_>, index: u32) -> Option<i64>
+    ensures { IfSome result (λ n. number_at (slot.Global index) (data_of now.now).locals (data_of now.now).objects ≡ Some n) }
+{
+    let place = Word::start(u64::from(index));
+    let word = now
+        .objects
+        .quick_load(place, Want::Number { kind: Kind::Int })?;
+    word.int()
+}
+
+/// The number in a variable's first cell, where it is an `int` that is found without a search. None tells nothing.
+#[inline(always)]
+fn quick_number(now: &Now<'_>, slot: Slot) -> Option<i64>
+    ensures { IfSome result (λ n. number_at slot (data_of now.now).locals (data_of now.now).objects ≡ Some n) }
+{
+    match slot {
+        Slot::Local { index } => local_number(now, index),
+        Slot::Global { index } => global_number(now, index),
+    }
+}
+
+/// The number that a variable's new value is compared with, where it is at hand. None tells nothing.
+#[inline(always)]
+fn quick_partner(now: &Now<'_>, partner: &Partner) -> Option<i64>
+    ensures { IfSome result (λ n. partner_number partner.now (data_of now.now).locals (data_of now.now).objects ≡ Some n) }
+{
+    match partner {
+        Partner::Variable { slot, .. } => quick_number(now, *slot),
+        Partner::Constant { value } => Some(*value),
+    }
+}
+
+/// How a variable's new value stands to its partner, where both are at hand. None tells nothing.
+#[inline(always)]
+fn quick_pair(now: &Now<'_>, slot: Slot, partner: &Partner) -> Option<Seen>
+    ensures { IfSome result (λ seen. seen_pair (number_at slot (data_of now.now).locals (data_of now.now).objects)
+        (partner_number partner.now (data_of now.now).locals (data_of now.now).objects) ≡ Ok seen) }
+{
+    let value = quick_number(now, slot)?;
+    let other = quick_partner(now, partner)?;
+    Some(seen_order(value.cmp(&other)))
+}
+
+/// How a returned number stands to zero. None tells nothing.
+#[inline(always)]
+#[tactic(auto, using(crate::proofs::LookLemmas::sign_there))]
+fn quick_sign(value: Word) -> Option<Seen>
+    ensures { IfSome result (λ seen. seen_sign (sign_of value) ≡ seen) }
+{
+    let number = value.number_value()?;
+    Some(seen_order(number.cmp(&0)))
+}
+
+/// What a site of this kind sees, where it is at hand. None tells nothing.
+#[inline(always)]
+fn quick_seen(now: &Now<'_>, kind: &SiteKind) -> Option<Seen>
+    ensures { IfSome result (λ seen. seen_by kind.now (slice_get (data_of now.now).operands 0) (data_of now.now).locals (data_of now.now).objects
+        ≡ Ok seen) }
+{
+    match kind {
+        SiteKind::Branch { .. } => {
+            let value = now.operands.peek()?;
+            match seen_truth(value) {
+                Ok(seen) => Some(seen),
+                Err(_) => None,
+            }
+        }
+        SiteKind::Return { .. } => quick_sign(now.operands.peek()?),
+        SiteKind::Pair { slot, partner, .. } => quick_pair(now, *slot, partner),
     }
 }
 
@@ -61,6 +150,7 @@ fn seen_pair(now: &Now<'_>, slot: Slot, partner: &Partner) -> Result<Seen, Trap>
 }
 
 /// Whether a condition is true.
+#[inline(always)]
 fn seen_truth(value: Word) -> Result<Seen, Trap>
     ensures { result ≡ seen_truth (truth_of value) }
 {
@@ -84,6 +174,7 @@ fn seen_sign(value: Word) -> Seen
 }
 
 /// What a site of this kind sees.
+#[inline(never)]
 fn seen_by(now: &Now<'_>, kind: &SiteKind) -> Result<Seen, Trap>
     ensures { result ≡ seen_by kind.now (slice_get (data_of now.now).operands 0) (data_of now.now).locals (data_of now.now).objects }
 {
@@ -101,12 +192,16 @@ fn seen_by(now: &Now<'_>, kind: &SiteKind) -> Result<Seen, Trap>
 }
 
 /// What a site sees.
-#[tactic(auto, unfolding(flow::specs::Truths::looked))]
+#[inline(always)]
+#[tactic(auto, unfolding(flow::specs::Truths::seen_at_site))]
 pub fn look(program: &Program, now: &Now<'_>, site: u32) -> Result<Seen, Trap>
     ensures { result ≡ sees_now (slice_get program.now.sites site) (data_of now.now) }
 {
     match program.table().sites().get(site as usize) {
         None => Err(Trap::Internal),
-        Some(site) => seen_by(now, &site.kind),
+        Some(site) => match quick_seen(now, &site.kind) {
+            Some(seen) => Ok(seen),
+            None => seen_by(now, &site.kind),
+        },
     }
 }

@@ -1,7 +1,7 @@
 ghost use Rattle.std.specs.Prelude.{◌≡◌, IfOk};
 ghost use Rattle.flow.specs.declared.node.View.TheVariants as view;
 ghost use Rattle.flow.specs.Fits.{IsLater};
-ghost use Rattle.machine.specs.Steps.{ViewFollows, Nears, IsRunning};
+ghost use Rattle.machine.specs.Steps.{ViewFollows, NearsItsEnd, IsRunning};
 
 use cbi_base::{Outcome, Stack, Trap, Work};
 use flow::Node;
@@ -46,7 +46,7 @@ pub fn fork(
     requires to_yes { IsLater place yes }
     requires to_no { IsLater place no }
     ensures next { ViewFollows program.now (view.Forks yes no) place state.old result state.new }
-    ensures nearer { Nears place state.old result state.new }
+    ensures nearer { NearsItsEnd place state.old result state.new }
     ensures running { IsRunning program.now state.old → IsRunning program.now state.new }
 {
     let holds = state.now.take_any()?.truth()?;
@@ -63,7 +63,7 @@ pub fn again(
     next: u32,
 ) -> Result<u32, Stop>
     ensures next { ViewFollows program.now (view.Turns next) place state.old result state.new }
-    ensures nearer { Nears place state.old result state.new }
+    ensures nearer { NearsItsEnd place state.old result state.new }
     ensures running { IsRunning program.now state.old → IsRunning program.now state.new }
     ensures goes { IfOk result (λ to. to ≡ next) }
     ensures kept { state.new ≡ record state.old { turns = state.new.turns } }

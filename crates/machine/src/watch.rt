@@ -1,32 +1,25 @@
 ghost use Rattle.std.specs.Prelude.{◌≡◌};
 ghost use Rattle.std.specs.List.{All};
-ghost use Rattle.machine.specs.Counted.{grown, counted_seen, IsSmall};
+ghost use Rattle.machine.specs.Counted.{counters_raised, counted_seen, IsSmall};
 
 use cbi_base::{Counts, Observation, Seen};
 
-/// The counters of a site after one more observation.
-fn grown(counts: Counts, seen: Seen) -> Counts
-    requires { IsSmall counts }
-    ensures { result ≡ grown seen counts }
+/// A site's counter of what was seen is one more.
+#[inline(always)]
+fn count_one(counts: &mut Counts, seen: Seen)
+    requires { IsSmall counts.old }
+    ensures { counts.new ≡ counters_raised seen counts.old }
 {
     match seen {
-        Seen::First => Counts {
-            first: counts.first + 1,
-            ..counts
-        },
-        Seen::Second => Counts {
-            second: counts.second + 1,
-            ..counts
-        },
-        Seen::Third => Counts {
-            third: counts.third + 1,
-            ..counts
-        },
-        Seen::Nothing => counts,
+        Seen::First => counts.first += 1,
+        Seen::Second => counts.second += 1,
+        Seen::Third => counts.third += 1,
+        Seen::Nothing => {}
     }
 }
 
 /// Counts an observation at its site.
+#[inline(always)]
 #[tactic(auto, using(crate::proofs::CountLemmas::counted_here, crate::proofs::CountLemmas::counted_nowhere))]
 pub fn count(counts: &mut [Counts], observation: Observation)
     requires { All IsSmall counts.old }
@@ -34,6 +27,6 @@ pub fn count(counts: &mut [Counts], observation: Observation)
 {
     let site = observation.site as usize;
     if site < counts.len() {
-        counts[site] = grown(counts[site], observation.seen);
+        count_one(&mut counts[site], observation.seen);
     }
 }

@@ -3,7 +3,7 @@ use Rattle.std.proofs.Common.{◌≡◌, ℕ, zero, suc, ◌+◌, ◌*◌, ◌<�
 use Rattle.cbi_base.specs.Words.{each_made, Objects, no_objects}
 use Rattle.cbi_base.specs.declared.observation.Observation.{Observation}
 use Rattle.flow.specs.declared.program.ProgramParts.{ProgramParts}
-use Rattle.flow.specs.Words.{Code, code_of, Ends, EndsFrom, MachineEnds, at_start, begin, begin_with, step, program_objects, IsProgram, Ending, Next, State, On}
+use Rattle.flow.specs.Words.{Code, code_of, Ends, EndsFrom, MachineEnds, at_start, run_start, begin_with, step, program_objects, IsProgram, Ending, Next, State, On}
 use Rattle.flow.specs.Words.{Over}
 use Rattle.flow.proofs.Endings.{ends_over, leads_one}
 use Rattle.flow.proofs.Programs.{code_fits}
@@ -59,4 +59,4 @@ pub run_ends : (p : ProgramParts) (input : List ℕ) (bank : ℕ → ℕ) (turns
     (ending : Ending) × MachineEnds p input bank turns ending × holds ending.seen
 run_ends p input bank turns holds is keeps nothing =
     let begun = begin_steps p input bank turns (each_made (program_objects p) no_objects) in
-    ends_from p bank holds (begin p input bank turns) begun.0 is keeps nothing begun.1
+    ends_from p bank holds (run_start p input bank turns) begun.0 is keeps nothing begun.1

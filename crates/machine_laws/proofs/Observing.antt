@@ -11,7 +11,7 @@ use Rattle.flow.specs.declared.program.ProgramParts.{ProgramParts}
 use Rattle.flow.specs.declared.site.Site.{Site}
 use Rattle.flow.specs.declared.site.SiteKind.{SiteKind}
 use Rattle.flow.specs.declared.site.SiteKind.TheVariants.{Branch, Return, Pair}
-use Rattle.flow.specs.Words.{code_of, MachineEnds, begin, Now, IsProgram, Ending, looked, seen_by, seen_truth, sees_now}
+use Rattle.flow.specs.Words.{code_of, MachineEnds, run_start, Now, IsProgram, Ending, seen_at_site, seen_by, seen_truth, sees_now}
 use Rattle.flow.proofs.Endings.{one_end_from}
 use Rattle.machine_laws.specs.Laws.{AreSeenAt, MaySee, SeesAt}
 use Rattle.machine_laws.proofs.Ends.{run_ends}
@@ -35,7 +35,7 @@ kind_sees (Return callee) value locals objects seen e = tt
 kind_sees (Pair target slot partner) value locals objects seen e = tt
 
 site_sees : (found : Option Site) (d : Now) (seen : Seen) → sees_now found d ≡ Ok seen → SeesAt found seen
-unfolding looked
+unfolding seen_at_site
 site_sees None d seen e = absurd (cc)
 site_sees (Some site) d seen e = kind_sees site.kind (slice_get d.operands 0) d.locals d.objects seen e
 
@@ -50,4 +50,4 @@ pub sees_what_it_may : (p : ProgramParts) (input : List ℕ) (bank : ℕ → ℕ
 sees_what_it_may p input bank turns ending is ends =
     let nothing = All-nil (λ (o : Observation). SeesAt (slice_get p.sites o.site) o.seen) in
     let run = run_ends p input bank turns (AreSeenAt p.sites) is (record { kept = step_sees p bank }) nothing in
-    subst (λ (e : Ending). AreSeenAt p.sites e.seen) (one_end_from (code_of p bank) (begin p input bank turns) run.0 ending run.1 ends) run.2
+    subst (λ (e : Ending). AreSeenAt p.sites e.seen) (one_end_from (code_of p bank) (run_start p input bank turns) run.0 ending run.1 ends) run.2

@@ -16,10 +16,10 @@ use Rattle.flow.specs.declared.node.View.{View}
 use Rattle.flow.specs.declared.node.View.TheVariants.{Row, Halts, Forks, Turns, Calls, Gives, Quits, Marks, Skips, Tests, Picks, Imports, Exports, Nowhere}
 use Rattle.flow.specs.declared.program.Function.{Function}
 use Rattle.flow.specs.declared.program.ProgramParts.{ProgramParts}
-use Rattle.flow.specs.Words.{call, call_with, enter, entered, give, give_to, ended_with, has_result, locals_made, params_of, quit, waiting, Callee, Code}
-use Rattle.flow.specs.Words.{code_of, view_at, view_in, at_node, export, in_force, lowered, observed, pick, redrawn, set_force, skip, with_fast, with_force}
-use Rattle.flow.specs.Words.{with_seen, with_slow, with_test, sees_now, IsLater, LeadsOn, node_limit, branch, fork, go_on, halt, next_of, spend_turn, Now}
-use Rattle.flow.specs.Words.{Effect, Goes, Stops, Taken, Takes, Lacks, any, several, IsProgram, act, Frame, State, Next, Over, On, over}
+use Rattle.flow.specs.Words.{call, call_with, function_entered, entered_with_locals, left_with_value, give_to, ended_with, has_result, locals_made, params_of, left_without_value, caller_waiting, Callee, Code}
+use Rattle.flow.specs.Words.{code_of, view_at, view_in, at_node, countdown_exported, in_force, countdown_lowered, seen_or_trapped, path_picked, countdown_drawn, set_force, visits_skipped, with_fast, with_force}
+use Rattle.flow.specs.Words.{with_seen, with_slow, with_test, sees_now, IsLater, LeadsOn, node_limit, branch_on_truth, fork, go_on, halt, next_of, spend_turn, Now}
+use Rattle.flow.specs.Words.{Effect, Goes, Stops, Taken, Takes, Lacks, value_taken, operands_taken, IsProgram, row_effect, Frame, State, Next, Over, On, run_ended}
 use Rattle.flow.proofs.Programs.{few_nodes}
 
 -- what the functions that wait can still pass
@@ -59,7 +59,7 @@ halt_steps code s (Goes d) bound = refl
 halt_steps code s (Stops outcome output) bound = refl
 
 branch_steps : (code : Code) (when_true when_false : ℕ) (rest : Now) (truth : Result Bool Trap) (s : State) → IsLater s.node when_true → IsLater s.node when_false →
-    Steps code (left s) s.watch.seen (branch when_true when_false rest truth s)
+    Steps code (left s) s.watch.seen (branch_on_truth when_true when_false rest truth s)
 branch_steps code when_true when_false rest (Ok true) s first second = (omega (arith, first.0, first.1), inl refl)
 branch_steps code when_true when_false rest (Ok false) s first second = (omega (arith, second.0, second.1), inl refl)
 branch_steps code when_true when_false rest (Err t) s first second = refl
@@ -83,21 +83,21 @@ either_steps code true x y bound seen first second = first
 either_steps code false x y bound seen first second = second
 
 entered_steps : (code : Code) (function : ℕ) (callee : Callee) (s : State) (made : Option Objects) (bound : ℕ) →
-    s.turns * (node_limit + 1) + node_limit + left_below s.below < bound → Steps code bound s.watch.seen (entered function callee s made)
+    s.turns * (node_limit + 1) + node_limit + left_below s.below < bound → Steps code bound s.watch.seen (entered_with_locals function callee s made)
 entered_steps code function callee s None bound h = refl
 entered_steps code function callee s (Some objects) bound h = (omega (arith, h), inl refl)
 
 pub enter_steps : (code : Code) (callee : Option Callee) (function : ℕ) (arguments : List Scalar) (s : State) (bound : ℕ) →
-    s.turns * (node_limit + 1) + node_limit + left_below s.below < bound → Steps code bound s.watch.seen (enter callee function arguments s)
+    s.turns * (node_limit + 1) + node_limit + left_below s.below < bound → Steps code bound s.watch.seen (function_entered callee function arguments s)
 enter_steps code None function arguments s bound h = refl
 enter_steps code (Some callee) function arguments s bound h =
     let made = locals_made callee arguments s.now.objects in
-    either_steps code (nat_lt s.active active_limit) (entered function callee s made) (over (Trapped StackOverflow) s) bound s.watch.seen
+    either_steps code (nat_lt s.active active_limit) (entered_with_locals function callee s made) (run_ended (Trapped StackOverflow) s) bound s.watch.seen
     (entered_steps code function callee s made bound h) refl
 
 call_steps : (code : Code) (callee : Option Callee) (function next : ℕ) (taken : Taken (List Scalar)) (s : State) (bound : ℕ) →
     s.turns * (node_limit + 1) + node_limit + ((node_limit - next) + left_below s.below) < bound → Steps code bound s.watch.seen (call_with callee function next taken s)
-call_steps code callee function next (Takes arguments rest) s bound h = enter_steps code callee function arguments (waiting next rest s) bound h
+call_steps code callee function next (Takes arguments rest) s bound h = enter_steps code callee function arguments (caller_waiting next rest s) bound h
 call_steps code callee function next (Lacks t) s bound h = refl
 
 -- the entry of a function and the node behind its call are both paid for by the turn
@@ -105,7 +105,7 @@ called_steps : (code : Code) (callee : Option Callee) (function next t : ℕ) (s
     Steps code (left s) s.watch.seen (call callee function next (record s { turns = t }))
 called_steps code callee function next t s later turns =
     let paid : s.turns * (node_limit + 1) ≡ suc t * (node_limit + 1) = ap (λ n. n * (node_limit + 1)) turns in
-    call_steps code callee function next (several (params_of callee) s.now) (record s { turns = t }) (left s) (omega (arith, paid, later.0, later.1))
+    call_steps code callee function next (operands_taken (params_of callee) s.now) (record s { turns = t }) (left s) (omega (arith, paid, later.0, later.1))
 
 ended_steps : (code : Code) (value : Scalar) (s : State) (bound : ℕ) → Steps code bound s.watch.seen (ended_with value s)
 ended_steps code (Number Int status) s bound = refl
@@ -121,7 +121,7 @@ given_steps code [] value s bound h = ended_steps code value s bound
 given_steps code (f ∷ below) value s bound h = (omega (arith, h), inl refl)
 
 give_steps : (code : Code) (has : Bool) (taken : Taken Scalar) (s : State) (bound : ℕ) → s.turns * (node_limit + 1) + left_below s.below < bound →
-    Steps code bound s.watch.seen (give has taken s)
+    Steps code bound s.watch.seen (left_with_value has taken s)
 give_steps code true (Takes (Number kind value) rest) s bound h = given_steps code s.below (Number kind value) s bound h
 give_steps code true (Takes (Place object offset) rest) s bound h = given_steps code s.below (Place object offset) s bound h
 give_steps code true (Takes Null rest) s bound h = given_steps code s.below Null s bound h
@@ -132,7 +132,7 @@ give_steps code false (Takes (Place object offset) rest) s bound h = refl
 give_steps code false (Takes Null rest) s bound h = refl
 
 quit_steps : (code : Code) (below : List Frame) (has : Bool) (s : State) (bound : ℕ) → s.turns * (node_limit + 1) + left_below below < bound →
-    Steps code bound s.watch.seen (quit below has s)
+    Steps code bound s.watch.seen (left_without_value below has s)
 quit_steps code [] has s bound h = refl
 quit_steps code (f ∷ below) has s bound h = (omega (arith, h), inl refl)
 
@@ -150,7 +150,7 @@ forced_left : (next : ℕ) (s t : State) → IsLater s.node next → IsForced s 
 forced_left next s t later is = later_left next s t later is.turns is.below
 
 observed_steps : (code : Code) (site next : ℕ) (s t : State) (after : State → State) (result : Result Seen Trap) → sees_now (code.site site) t.now ≡ result → IsLater s.node next → IsForced s t →
-    ((u : State) → IsForced u (after u)) → Steps code (left s) s.watch.seen (observed result site t (λ u. On (at_node next (after u))))
+    ((u : State) → IsForced u (after u)) → Steps code (left s) s.watch.seen (seen_or_trapped result site t (λ u. On (at_node next (after u))))
 observed_steps code site next s t after (Err trap) looks later is keeps = is.seen
 observed_steps code site next s t after (Ok seen) looks later is keeps =
     let u : State = with_seen site seen t in
@@ -162,43 +162,43 @@ observed_steps code site next s t after (Ok seen) looks later is keeps =
 itself : (s : State) → IsForced s s
 itself s = record { turns = refl; below = refl; seen = refl }
 
-skip_steps : (code : Code) (force by next : ℕ) (s : State) → IsLater s.node next → Steps code (left s) s.watch.seen (skip force by next s)
+skip_steps : (code : Code) (force by next : ℕ) (s : State) → IsLater s.node next → Steps code (left s) s.watch.seen (visits_skipped force by next s)
 skip_steps code force by next s later =
     let is = forced s.copy (force - by) s in
-    either_steps code (nat_lt by force) (On (at_node next (with_force (force - by) s))) (over (Trapped Internal) s) (left s) s.watch.seen
+    either_steps code (nat_lt by force) (On (at_node next (with_force (force - by) s))) (run_ended (Trapped Internal) s) (left s) s.watch.seen
     (forced_left next s (with_force (force - by) s) later is, inl is.seen) refl
 
-redraws : (code : Code) (s : State) → IsForced s (redrawn code s)
+redraws : (code : Code) (s : State) → IsForced s (countdown_drawn code s)
 redraws code s = let is = forced s.copy (code.bank s.watch.drawn) s in record { turns = is.turns; below = is.below; seen = is.seen }
 
-lowered_steps : (count : ℕ) (code : Code) (site next : ℕ) (s : State) → IsLater s.node next → Steps code (left s) s.watch.seen (lowered count code site next (with_test s))
+lowered_steps : (count : ℕ) (code : Code) (site next : ℕ) (s : State) → IsLater s.node next → Steps code (left s) s.watch.seen (countdown_lowered count code site next (with_test s))
 lowered_steps zero code site next s later =
     let zeroed : State = with_force 0 (with_test s) in
     let is = forced s.copy 0 (with_test s) in
-    observed_steps code site next s zeroed (redrawn code) (sees_now (code.site site) zeroed.now) refl later
+    observed_steps code site next s zeroed (countdown_drawn code) (sees_now (code.site site) zeroed.now) refl later
     (record { turns = is.turns; below = is.below; seen = is.seen }) (redraws code)
 lowered_steps (suc count) code site next s later =
     let is = forced s.copy (suc count) (with_test s) in
     (later_left next s (with_force (suc count) (with_test s)) later is.turns is.below, inl is.seen)
 
-pick_steps : (code : Code) (quick : Bool) (fast slow : ℕ) (s : State) → IsLater s.node fast → IsLater s.node slow → Steps code (left s) s.watch.seen (pick quick fast slow s)
+pick_steps : (code : Code) (quick : Bool) (fast slow : ℕ) (s : State) → IsLater s.node fast → IsLater s.node slow → Steps code (left s) s.watch.seen (path_picked quick fast slow s)
 pick_steps code true fast slow s first second = (later_left fast s (with_fast s) first refl refl, inl refl)
 pick_steps code false fast slow s first second = (later_left slow s (with_slow s) second refl refl, inl refl)
 
-export_steps : (code : Code) (copy : Option ℕ) (next : ℕ) (s : State) → IsLater s.node next → Steps code (left s) s.watch.seen (export copy next s)
+export_steps : (code : Code) (copy : Option ℕ) (next : ℕ) (s : State) → IsLater s.node next → Steps code (left s) s.watch.seen (countdown_exported copy next s)
 export_steps code None next s later = refl
 export_steps code (Some count) next s later = (omega (arith, later.0, later.1), inl refl)
 
 -- a step leaves less to spend, and observes at most one site
 pub step_steps : (code : Code) (v : View) (s : State) → LeadsOn s.node v → IsPlaced s.node v → Steps code (left s) s.watch.seen (next_of code v s)
 unfolding next_of
-step_steps code (Row node next) s leads placed = row_steps code next s (act code.statics node s.now) leads
-step_steps code (Halts node) s leads placed = halt_steps code s (act code.statics node s.now) (left s)
-step_steps code (Forks when_true when_false) s leads placed = fork_steps code when_true when_false (any s.now) s leads.0 leads.1
+step_steps code (Row node next) s leads placed = row_steps code next s (row_effect code.statics node s.now) leads
+step_steps code (Halts node) s leads placed = halt_steps code s (row_effect code.statics node s.now) (left s)
+step_steps code (Forks when_true when_false) s leads placed = fork_steps code when_true when_false (value_taken s.now) s leads.0 leads.1
 step_steps code (Turns next) s leads placed = spend_steps code s.turns s (λ t. On (at_node next t)) (left s) (λ t turns. (again_left next t s leads turns, inl refl))
 step_steps code (Calls function next) s leads placed =
     spend_steps code s.turns s (call (code.callee function) function next) (left s) (λ t turns. called_steps code (code.callee function) function next t s leads turns)
-step_steps code Gives s leads placed = give_steps code (has_result (code.callee s.function)) (any s.now) s (left s) (omega (arith, placed))
+step_steps code Gives s leads placed = give_steps code (has_result (code.callee s.function)) (value_taken s.now) s (left s) (omega (arith, placed))
 step_steps code Quits s leads placed = quit_steps code s.below (has_result (code.callee s.function)) s (left s) (omega (arith, placed))
 step_steps code (Marks site next) s leads placed = observed_steps code site next s s (λ t. t) (sees_now (code.site site) s.now) refl leads (itself s) itself
 step_steps code (Skips by next) s leads placed = skip_steps code (in_force s.copy s.watch) by next s leads

@@ -1,5 +1,5 @@
 ghost use Rattle.std.specs.Prelude.{◌≡◌, OnOk, IfSome, IfNone, is_none};
-ghost use Rattle.flow.specs.Words.{statics_of, NumbersFit, act, view};
+ghost use Rattle.flow.specs.Words.{statics_of, NumbersFit, row_effect, view};
 ghost use Rattle.machine_rows.specs.Data.{data_of};
 ghost use Rattle.machine_rows.specs.Effects.{IsActed, is_control};
 
@@ -11,7 +11,7 @@ use flow::{Node, Program};
 /// What a node does to the data, where control goes on at its one successor; None for a node that does more. Those are told from each other
 /// behind this match, so that one jump leads to a row.
 #[inline(always)]
-#[tactic(auto, unfolding(flow::specs::Rows::act))]
+#[tactic(auto, unfolding(flow::specs::Rows::row_effect))]
 pub fn row(program: &Program, now: &mut Now<'_>, node: &Node) -> Option<Result<u32, Stop>>
     requires { NumbersFit (view node.now) }
     ensures effect { IfSome result (λ done. IsActed (statics_of program.now) (view node.now) (data_of now.old) done (data_of now.new)) }

@@ -2,8 +2,8 @@ ghost use Rattle.std.specs.Prelude.{◌≡◌, ◌≤◌, ◌∷◌, [], length,
 ghost use Rattle.std.specs.Result.{result_ok};
 ghost use Rattle.cbi_base.specs.declared.trap.Trap.TheVariants as trap;
 ghost use Rattle.cbi_base.specs.Words.{object_limit, local_at};
-ghost use Rattle.flow.specs.Now.{any, int, unsigned, two, pushed, next_on, write, Goes};
-ghost use Rattle.machine_rows.specs.Data.{data_of, without};
+ghost use Rattle.flow.specs.Now.{value_taken, int_taken, unsigned_taken, pair_taken, operand_pushed, next_on, write_bytes_then, Goes};
+ghost use Rattle.machine_rows.specs.Data.{data_of, operands_dropped};
 ghost use Rattle.machine_rows.specs.Effects.{taken_of, IsEffect};
 
 use crate::locals::Locals;
@@ -39,7 +39,7 @@ impl<'a> Now<'a> {
     /// Takes a value, which may be undefined.
     #[inline(always)]
     pub fn take_any(&mut self) -> Result<Word, Trap>
-        ensures taken { any (data_of self.old) ≡ taken_of result (data_of self.new) }
+        ensures taken { value_taken (data_of self.old) ≡ taken_of result (data_of self.new) }
         ensures output { self.new.output ≡ self.old.output }
         ensures kept { self.new.operands.below ≡ self.old.operands.below }
     {
@@ -49,7 +49,7 @@ impl<'a> Now<'a> {
     /// The top value, which may be undefined. It stays.
     #[inline(always)]
     pub fn see_any(&self) -> Result<Word, Trap>
-        ensures seen { any (data_of self.now) ≡ taken_of result (without 1 (data_of self.now)) }
+        ensures seen { value_taken (data_of self.now) ≡ taken_of result (operands_dropped 1 (data_of self.now)) }
         ensures enough { OnOk result (1 ≤ length self.now.operands.top) }
     {
         self.operands.peek().ok_or(Trap::Internal)
@@ -58,7 +58,7 @@ impl<'a> Now<'a> {
     /// The two values on top, the top one last. They stay.
     #[inline(always)]
     pub fn see_two(&self) -> Result<(Word, Word), Trap>
-        ensures seen { two (data_of self.now) ≡ taken_of result (without 2 (data_of self.now)) }
+        ensures seen { pair_taken (data_of self.now) ≡ taken_of result (operands_dropped 2 (data_of self.now)) }
         ensures enough { OnOk result (2 ≤ length self.now.operands.top) }
     {
         self.operands.peek_two().ok_or(Trap::Internal)
@@ -69,7 +69,7 @@ impl<'a> Now<'a> {
     pub fn replace(&mut self, count: usize, value: Word)
         requires some { 1 ≤ count }
         requires enough { count ≤ length self.old.operands.top }
-        ensures replaced { data_of self.new ≡ pushed value (without count (data_of self.old)) }
+        ensures replaced { data_of self.new ≡ operand_pushed value (operands_dropped count (data_of self.old)) }
         ensures kept { self.new.operands.below ≡ self.old.operands.below }
     {
         self.operands.replace(count, value);
@@ -77,7 +77,7 @@ impl<'a> Now<'a> {
 
     /// Takes an `int`.
     pub fn take_int(&mut self) -> Result<i32, Trap>
-        ensures taken { int (data_of self.old) ≡ taken_of result (data_of self.new) }
+        ensures taken { int_taken (data_of self.old) ≡ taken_of result (data_of self.new) }
         ensures output { self.new.output ≡ self.old.output }
         ensures kept { self.new.operands.below ≡ self.old.operands.below }
     {
@@ -96,7 +96,7 @@ impl<'a> Now<'a> {
 
     /// Takes an `unsigned`.
     pub fn take_unsigned(&mut self) -> Result<u32, Trap>
-        ensures taken { unsigned (data_of self.old) ≡ taken_of result (data_of self.new) }
+        ensures taken { unsigned_taken (data_of self.old) ≡ taken_of result (data_of self.new) }
         ensures output { self.new.output ≡ self.old.output }
         ensures kept { self.new.operands.below ≡ self.old.operands.below }
     {
@@ -116,7 +116,7 @@ impl<'a> Now<'a> {
     /// Pushes a value.
     #[inline(always)]
     pub fn push(&mut self, value: Word) -> Result<(), Memory>
-        ensures pushed { OnOk result (data_of self.new ≡ pushed value (data_of self.old)) }
+        ensures pushed { OnOk result (data_of self.new ≡ operand_pushed value (data_of self.old)) }
         ensures kept { OnOk result (self.new.operands.below ≡ self.old.operands.below) }
     {
         self.operands.push(value)
@@ -125,7 +125,7 @@ impl<'a> Now<'a> {
     /// Pushes a value. None where memory is wanting, and nothing was done.
     #[inline(always)]
     pub fn try_push(&mut self, value: Word) -> Option<()>
-        ensures pushed { IfSome result (λ _. data_of self.new ≡ pushed value (data_of self.old)) }
+        ensures pushed { IfSome result (λ _. data_of self.new ≡ operand_pushed value (data_of self.old)) }
         ensures kept { IfSome result (λ _. self.new.operands.below ≡ self.old.operands.below) }
         ensures same { IfNone result (self.new ≡ self.old) }
     {
@@ -138,7 +138,7 @@ impl<'a> Now<'a> {
     /// Pushes two values, the second one last. None where memory is wanting, and nothing was done.
     #[inline(always)]
     pub fn try_push_two(&mut self, first: Word, second: Word) -> Option<()>
-        ensures pushed { IfSome result (λ _. data_of self.new ≡ pushed second (pushed first (data_of self.old))) }
+        ensures pushed { IfSome result (λ _. data_of self.new ≡ operand_pushed second (operand_pushed first (data_of self.old))) }
         ensures kept { IfSome result (λ _. self.new.operands.below ≡ self.old.operands.below) }
         ensures same { IfNone result (self.new ≡ self.old) }
     {
@@ -167,7 +167,7 @@ impl<'a> Now<'a> {
     /// Writes a byte, where there is room for it.
     #[tactic(auto, using(crate::proofs::PrintedLemmas::written))]
     pub fn put(&mut self, byte: u8) -> Result<(), Stop>
-        ensures effect { IsEffect (write (byte ∷ []) (data_of self.old) Goes) result (data_of self.new) }
+        ensures effect { IsEffect (write_bytes_then (byte ∷ []) (data_of self.old) Goes) result (data_of self.new) }
         ensures kept { OnOk result (self.new.operands.below ≡ self.old.operands.below) }
     {
         self.output.put(byte)

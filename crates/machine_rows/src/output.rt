@@ -1,5 +1,5 @@
 ghost use Rattle.std.specs.Prelude.{◌≡◌, ◌≤◌, ◌+◌, ◌∷◌, ◌++◌, [], length, IfSome, IfNone};
-ghost use Rattle.cbi_base.specs.Words.{output_limit, these};
+ghost use Rattle.cbi_base.specs.Words.{output_limit, bytes_printed};
 ghost use Rattle.machine_rows.specs.Printed.{IsPrinted, stop_in};
 
 use crate::stop::Stop;
@@ -46,7 +46,7 @@ impl Output {
 
     /// Writes a byte, where there is room for it.
     pub fn put(&mut self, byte: u8) -> Result<(), Stop>
-        ensures { IsPrinted (these (byte ∷ [])) self.old (stop_in result) self.new }
+        ensures { IsPrinted (bytes_printed (byte ∷ [])) self.old (stop_in result) self.new }
     {
         if self.bytes.len() >= OUTPUT_LIMIT {
             return Err(Stop::Over {
@@ -75,7 +75,7 @@ impl Output {
 
     /// Writes bytes as far as there is room for them.
     pub fn write(&mut self, bytes: &[u8]) -> Result<(), Stop>
-        ensures { IsPrinted (these bytes.now) self.old (stop_in result) self.new }
+        ensures { IsPrinted (bytes_printed bytes.now) self.old (stop_in result) self.new }
     {
         for byte in bytes {
             self.put(*byte)?;

@@ -1,6 +1,7 @@
-ghost use Rattle.std.specs.Prelude.{◌≡◌, ◌≤◌, ◌<◌, ◌∷◌, [], List, ℕ, drop, length, IsTrue, IfOk, IfErr, OnOk, MatchOption, MatchResult, Some};
+ghost use Rattle.std.specs.Prelude.{◌≡◌, ◌≤◌, ◌<◌, ◌∷◌, [], List, ℕ, drop, length, IsTrue, IfOk, IfErr, MatchOption, MatchResult, Some};
 ghost use Rattle.std.specs.Fmt.{signed_decimal};
-ghost use Rattle.cbi_base.specs.Words.{is_zero, is_conversion, LiesIn, low_byte, output_limit, string_on, string_at, stopped, then_print, these, pieces_of};
+ghost use Rattle.cbi_base.specs.Words.{is_zero, is_conversion, LiesIn, low_byte, output_limit, string_on, string_at, printing_stopped, then_print};
+ghost use Rattle.cbi_base.specs.Words.{bytes_printed, pieces_of};
 ghost use Rattle.cbi_base.specs.Words.{takes_value, take_values, converted_by, printed_format};
 ghost use Rattle.cbi_base.specs.Printing as print;
 ghost use Rattle.machine_rows.specs.Printed.{IsPrinted, stop_in};
@@ -34,7 +35,7 @@ fn after(cells: &[Word], offset: usize) -> &[Word]
 /// The cells from a pointer on, to the end of its object.
 #[tactic(auto, using(crate::proofs::StringLemmas::live, crate::proofs::StringLemmas::dead), unfolding(cbi_base::specs::Printing::string_at))]
 fn cells_at(objects: &Objects, pointer: Word) -> Result<&[Word], Trap>
-    ensures { MatchResult result (λ cells. string_at pointer objects.now ≡ string_on cells.now) (λ t. string_at pointer objects.now ≡ stopped t) }
+    ensures { MatchResult result (λ cells. string_at pointer objects.now ≡ string_on cells.now) (λ t. string_at pointer objects.now ≡ printing_stopped t) }
 {
     match pointer.scalar() {
         Scalar::Undefined => Err(Trap::Undefined),
@@ -109,7 +110,7 @@ fn put_string(output: &mut Output, objects: &Objects, pointer: Word) -> Result<(
 /// Writes the string at a pointer, and a newline.
 #[tactic(auto, using(crate::proofs::PrintedLemmas::goes_on, crate::proofs::PrintedLemmas::ends_there))]
 pub fn put_line(output: &mut Output, objects: &Objects, pointer: Word) -> Result<(), Stop>
-    ensures line { IsPrinted (then_print (string_at pointer objects.now) (these (10 ∷ []))) output.old (stop_in result) output.new }
+    ensures line { IsPrinted (then_print (string_at pointer objects.now) (bytes_printed (10 ∷ []))) output.old (stop_in result) output.new }
     ensures room { length output.old ≤ output_limit }
 {
     let _ = output.len();
@@ -119,7 +120,7 @@ pub fn put_line(output: &mut Output, objects: &Objects, pointer: Word) -> Result
 
 /// Writes the decimal of a number.
 fn put_decimal(output: &mut Output, value: i64) -> Result<(), Stop>
-    ensures { IsPrinted (these (signed_decimal value)) output.old (stop_in result) output.new }
+    ensures { IsPrinted (bytes_printed (signed_decimal value)) output.old (stop_in result) output.new }
 {
     let mut buffer = Buffer::new();
     output.write(buffer.format(value).as_bytes())

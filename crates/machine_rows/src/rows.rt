@@ -1,8 +1,8 @@
 ghost use Rattle.std.specs.Prelude.{◌≡◌, ◌≤◌, ◌<◌, ◌^◌, ◌*ℤ◌, false, unsigned_abs, OnOk, IfOk, IfSome, Ok};
 ghost use Rattle.c_store.specs.Word.{is_undefined};
-ghost use Rattle.cbi_base.specs.Words.{flag, LiesIn, allocated, loaded, applied, low_byte, moved_by, zero_value};
+ghost use Rattle.cbi_base.specs.Words.{truth_number, LiesIn, object_allocated, loaded_value, operator_applied, low_byte, moved_by, zero_value};
 ghost use Rattle.flow.specs.declared.node.Node.TheVariants as node;
-ghost use Rattle.flow.specs.Words.{act, view};
+ghost use Rattle.flow.specs.Words.{row_effect, view};
 ghost use Rattle.machine_rows.specs.Data.{data_of, no_statics};
 ghost use Rattle.machine_rows.specs.Effects.{IsActed, IsDone};
 
@@ -21,7 +21,7 @@ pub fn byte_of(value: i32) -> u8
 }
 
 #[inline(always)]
-#[tactic(auto, unfolding(flow::specs::Rows::act))]
+#[tactic(auto, unfolding(flow::specs::Rows::row_effect))]
 pub fn push(now: &mut Now<'_>, kind: Kind, value: i64, next: u32) -> Result<u32, Stop>
     requires { LiesIn kind value }
     ensures effect { IsActed no_statics (view (node.Push kind value next)) (data_of now.old) result (data_of now.new) }
@@ -32,7 +32,7 @@ pub fn push(now: &mut Now<'_>, kind: Kind, value: i64, next: u32) -> Result<u32,
 }
 
 #[inline(always)]
-#[tactic(auto, unfolding(flow::specs::Rows::act))]
+#[tactic(auto, unfolding(flow::specs::Rows::row_effect))]
 pub fn null(now: &mut Now<'_>, next: u32) -> Result<u32, Stop>
     ensures effect { IsActed no_statics (view (node.Null next)) (data_of now.old) result (data_of now.new) }
     ensures kept { OnOk result (now.new.operands.below ≡ now.old.operands.below) }
@@ -42,7 +42,7 @@ pub fn null(now: &mut Now<'_>, next: u32) -> Result<u32, Stop>
 }
 
 #[inline(always)]
-#[tactic(auto, unfolding(flow::specs::Rows::act))]
+#[tactic(auto, unfolding(flow::specs::Rows::row_effect))]
 pub fn global(now: &mut Now<'_>, index: u32, next: u32) -> Result<u32, Stop>
     ensures effect { IsActed no_statics (view (node.Global index next)) (data_of now.old) result (data_of now.new) }
     ensures kept { OnOk result (now.new.operands.below ≡ now.old.operands.below) }
@@ -52,7 +52,7 @@ pub fn global(now: &mut Now<'_>, index: u32, next: u32) -> Result<u32, Stop>
 }
 
 #[inline(always)]
-#[tactic(auto, unfolding(flow::specs::Rows::act))]
+#[tactic(auto, unfolding(flow::specs::Rows::row_effect))]
 pub fn local(now: &mut Now<'_>, index: u32, next: u32) -> Result<u32, Stop>
     ensures effect { IsActed no_statics (view (node.Local index next)) (data_of now.old) result (data_of now.new) }
     ensures kept { OnOk result (now.new.operands.below ≡ now.old.operands.below) }
@@ -64,9 +64,9 @@ pub fn local(now: &mut Now<'_>, index: u32, next: u32) -> Result<u32, Stop>
 
 /// `load` of any pointer.
 #[inline(never)]
-#[tactic(auto, unfolding(flow::specs::Rows::act))]
+#[tactic(auto, unfolding(flow::specs::Rows::row_effect))]
 fn load_slowly(now: &mut Now<'_>, want: Want) -> Result<(), Trap>
-    ensures effect { IsDone (act no_statics (node.Load want 0) (data_of now.old)) result (data_of now.new) }
+    ensures effect { IsDone (row_effect no_statics (node.Load want 0) (data_of now.old)) result (data_of now.new) }
     ensures kept { OnOk result (now.new.operands.below ≡ now.old.operands.below) }
 {
     let pointer = now.see_any()?;
@@ -76,7 +76,7 @@ fn load_slowly(now: &mut Now<'_>, want: Want) -> Result<(), Trap>
 }
 
 #[inline(always)]
-#[tactic(auto, unfolding(flow::specs::Rows::act))]
+#[tactic(auto, unfolding(flow::specs::Rows::row_effect))]
 pub fn load(now: &mut Now<'_>, want: Want, next: u32) -> Result<u32, Stop>
     ensures effect { IsActed no_statics (view (node.Load want next)) (data_of now.old) result (data_of now.new) }
     ensures kept { OnOk result (now.new.operands.below ≡ now.old.operands.below) }
@@ -93,9 +93,9 @@ pub fn load(now: &mut Now<'_>, want: Want, next: u32) -> Result<u32, Stop>
 
 /// `store` at any pointer.
 #[inline(never)]
-#[tactic(auto, unfolding(flow::specs::Rows::act))]
+#[tactic(auto, unfolding(flow::specs::Rows::row_effect))]
 fn store_slowly(now: &mut Now<'_>) -> Result<(), Trap>
-    ensures effect { IsDone (act no_statics (node.Store 0) (data_of now.old)) result (data_of now.new) }
+    ensures effect { IsDone (row_effect no_statics (node.Store 0) (data_of now.old)) result (data_of now.new) }
     ensures kept { OnOk result (now.new.operands.below ≡ now.old.operands.below) }
 {
     let (pointer, value) = now.see_two()?;
@@ -105,7 +105,7 @@ fn store_slowly(now: &mut Now<'_>) -> Result<(), Trap>
 }
 
 #[inline(always)]
-#[tactic(auto, unfolding(flow::specs::Rows::act))]
+#[tactic(auto, unfolding(flow::specs::Rows::row_effect))]
 pub fn store(now: &mut Now<'_>, next: u32) -> Result<u32, Stop>
     ensures effect { IsActed no_statics (view (node.Store next)) (data_of now.old) result (data_of now.new) }
     ensures kept { OnOk result (now.new.operands.below ≡ now.old.operands.below) }
@@ -186,7 +186,7 @@ pub fn quick_behind(
     want: Want,
 ) -> Option<(Word, Word)>
     ensures moved { IfSome result (λ p. moved_by size pointer by objects.now ≡ Ok p.0) }
-    ensures loaded { IfSome result (λ p. loaded want p.0 objects.now ≡ Ok p.1) }
+    ensures loaded { IfSome result (λ p. loaded_value want p.0 objects.now ≡ Ok p.1) }
 {
     let value = by.int()?;
     objects.quick_load_behind(pointer, cells_of(value, i64::from(size)), want)
@@ -194,9 +194,9 @@ pub fn quick_behind(
 
 /// `move` of any pointer.
 #[inline(never)]
-#[tactic(auto, unfolding(flow::specs::Rows::act))]
+#[tactic(auto, unfolding(flow::specs::Rows::row_effect))]
 fn moves_slowly(now: &mut Now<'_>, size: i32) -> Result<(), Trap>
-    ensures effect { IsDone (act no_statics (node.Move size 0) (data_of now.old)) result (data_of now.new) }
+    ensures effect { IsDone (row_effect no_statics (node.Move size 0) (data_of now.old)) result (data_of now.new) }
     ensures kept { OnOk result (now.new.operands.below ≡ now.old.operands.below) }
 {
     let (pointer, by) = now.see_two()?;
@@ -206,7 +206,7 @@ fn moves_slowly(now: &mut Now<'_>, size: i32) -> Result<(), Trap>
 }
 
 #[inline(always)]
-#[tactic(auto, unfolding(flow::specs::Rows::act))]
+#[tactic(auto, unfolding(flow::specs::Rows::row_effect))]
 pub fn moves(now: &mut Now<'_>, size: i32, next: u32) -> Result<u32, Stop>
     ensures effect { IsActed no_statics (view (node.Move size next)) (data_of now.old) result (data_of now.new) }
     ensures kept { OnOk result (now.new.operands.below ≡ now.old.operands.below) }
@@ -223,9 +223,9 @@ pub fn moves(now: &mut Now<'_>, size: i32, next: u32) -> Result<u32, Stop>
 
 /// `member` of any pointer.
 #[inline(never)]
-#[tactic(auto, unfolding(flow::specs::Rows::act))]
+#[tactic(auto, unfolding(flow::specs::Rows::row_effect))]
 fn member_slowly(now: &mut Now<'_>, offset: u32) -> Result<(), Trap>
-    ensures effect { IsDone (act no_statics (node.Member offset 0) (data_of now.old)) result (data_of now.new) }
+    ensures effect { IsDone (row_effect no_statics (node.Member offset 0) (data_of now.old)) result (data_of now.new) }
     ensures kept { OnOk result (now.new.operands.below ≡ now.old.operands.below) }
 {
     let pointer = now.see_any()?;
@@ -235,7 +235,7 @@ fn member_slowly(now: &mut Now<'_>, offset: u32) -> Result<(), Trap>
 }
 
 #[inline(always)]
-#[tactic(auto, unfolding(flow::specs::Rows::act))]
+#[tactic(auto, unfolding(flow::specs::Rows::row_effect))]
 pub fn member(now: &mut Now<'_>, offset: u32, next: u32) -> Result<u32, Stop>
     ensures effect { IsActed no_statics (view (node.Member offset next)) (data_of now.old) result (data_of now.new) }
     ensures kept { OnOk result (now.new.operands.below ≡ now.old.operands.below) }
@@ -251,7 +251,7 @@ pub fn member(now: &mut Now<'_>, offset: u32, next: u32) -> Result<u32, Stop>
 }
 
 #[inline(always)]
-#[tactic(auto, unfolding(flow::specs::Rows::act))]
+#[tactic(auto, unfolding(flow::specs::Rows::row_effect))]
 pub fn span(now: &mut Now<'_>, size: u32, next: u32) -> Result<u32, Stop>
     requires { 1 ≤ size }
     ensures effect { IsActed no_statics (view (node.Span size next)) (data_of now.old) result (data_of now.new) }
@@ -265,13 +265,13 @@ pub fn span(now: &mut Now<'_>, size: u32, next: u32) -> Result<u32, Stop>
 
 /// A truth as an `int`, 0 or 1.
 fn flag(holds: bool) -> Word
-    ensures { result ≡ Scalar.Number Kind.Int (flag holds) }
+    ensures { result ≡ Scalar.Number Kind.Int (truth_number holds) }
 {
     Word::number(Kind::Int, i64::from(holds))
 }
 
 #[inline(always)]
-#[tactic(auto, unfolding(flow::specs::Rows::act))]
+#[tactic(auto, unfolding(flow::specs::Rows::row_effect))]
 pub fn order(now: &mut Now<'_>, op: Order, next: u32) -> Result<u32, Stop>
     ensures effect { IsActed no_statics (view (node.Order op next)) (data_of now.old) result (data_of now.new) }
     ensures kept { OnOk result (now.new.operands.below ≡ now.old.operands.below) }
@@ -284,7 +284,7 @@ pub fn order(now: &mut Now<'_>, op: Order, next: u32) -> Result<u32, Stop>
 
 /// What an operation gives of two values of any kinds.
 fn apply_slowly(op: Binary, left: Word, right: Word) -> Result<Word, Trap>
-    ensures { result ≡ applied op left right }
+    ensures { result ≡ operator_applied op left right }
 {
     let value = apply_binary(op, left.scalar(), right.scalar())?;
     Ok(Word::of(value))
@@ -292,9 +292,9 @@ fn apply_slowly(op: Binary, left: Word, right: Word) -> Result<Word, Trap>
 
 /// `math` on two values of any kinds.
 #[inline(never)]
-#[tactic(auto, unfolding(flow::specs::Rows::act))]
+#[tactic(auto, unfolding(flow::specs::Rows::row_effect))]
 fn math_slowly(now: &mut Now<'_>, op: Binary) -> Result<(), Trap>
-    ensures effect { IsDone (act no_statics (node.Math op 0) (data_of now.old)) result (data_of now.new) }
+    ensures effect { IsDone (row_effect no_statics (node.Math op 0) (data_of now.old)) result (data_of now.new) }
     ensures kept { OnOk result (now.new.operands.below ≡ now.old.operands.below) }
 {
     let (left, right) = now.see_two()?;
@@ -304,7 +304,7 @@ fn math_slowly(now: &mut Now<'_>, op: Binary) -> Result<(), Trap>
 }
 
 #[inline(always)]
-#[tactic(auto, unfolding(flow::specs::Rows::act))]
+#[tactic(auto, unfolding(flow::specs::Rows::row_effect))]
 pub fn math(now: &mut Now<'_>, op: Binary, next: u32) -> Result<u32, Stop>
     ensures effect { IsActed no_statics (view (node.Math op next)) (data_of now.old) result (data_of now.new) }
     ensures kept { OnOk result (now.new.operands.below ≡ now.old.operands.below) }
@@ -320,7 +320,7 @@ pub fn math(now: &mut Now<'_>, op: Binary, next: u32) -> Result<u32, Stop>
 }
 
 #[inline(always)]
-#[tactic(auto, unfolding(flow::specs::Rows::act))]
+#[tactic(auto, unfolding(flow::specs::Rows::row_effect))]
 pub fn sole(now: &mut Now<'_>, op: Unary, next: u32) -> Result<u32, Stop>
     ensures effect { IsActed no_statics (view (node.Sole op next)) (data_of now.old) result (data_of now.new) }
     ensures kept { OnOk result (now.new.operands.below ≡ now.old.operands.below) }
@@ -332,7 +332,7 @@ pub fn sole(now: &mut Now<'_>, op: Unary, next: u32) -> Result<u32, Stop>
 }
 
 #[inline(always)]
-#[tactic(auto, unfolding(flow::specs::Rows::act))]
+#[tactic(auto, unfolding(flow::specs::Rows::row_effect))]
 pub fn converts(now: &mut Now<'_>, kind: Kind, next: u32) -> Result<u32, Stop>
     ensures effect { IsActed no_statics (view (node.Convert kind next)) (data_of now.old) result (data_of now.new) }
     ensures kept { OnOk result (now.new.operands.below ≡ now.old.operands.below) }
@@ -344,7 +344,7 @@ pub fn converts(now: &mut Now<'_>, kind: Kind, next: u32) -> Result<u32, Stop>
 }
 
 #[inline(always)]
-#[tactic(auto, unfolding(flow::specs::Rows::act))]
+#[tactic(auto, unfolding(flow::specs::Rows::row_effect))]
 pub fn dup(now: &mut Now<'_>, next: u32) -> Result<u32, Stop>
     ensures effect { IsActed no_statics (view (node.Dup next)) (data_of now.old) result (data_of now.new) }
     ensures kept { OnOk result (now.new.operands.below ≡ now.old.operands.below) }
@@ -355,7 +355,7 @@ pub fn dup(now: &mut Now<'_>, next: u32) -> Result<u32, Stop>
 }
 
 #[inline(always)]
-#[tactic(auto, unfolding(flow::specs::Rows::act))]
+#[tactic(auto, unfolding(flow::specs::Rows::row_effect))]
 pub fn drop_top(now: &mut Now<'_>, next: u32) -> Result<u32, Stop>
     ensures effect { IsActed no_statics (view (node.Drop next)) (data_of now.old) result (data_of now.new) }
     ensures kept { OnOk result (now.new.operands.below ≡ now.old.operands.below) }
@@ -365,7 +365,7 @@ pub fn drop_top(now: &mut Now<'_>, next: u32) -> Result<u32, Stop>
 }
 
 #[inline(always)]
-#[tactic(auto, unfolding(flow::specs::Rows::act))]
+#[tactic(auto, unfolding(flow::specs::Rows::row_effect))]
 pub fn swap(now: &mut Now<'_>, next: u32) -> Result<u32, Stop>
     ensures effect { IsActed no_statics (view (node.Swap next)) (data_of now.old) result (data_of now.new) }
     ensures kept { OnOk result (now.new.operands.below ≡ now.old.operands.below) }
@@ -377,7 +377,7 @@ pub fn swap(now: &mut Now<'_>, next: u32) -> Result<u32, Stop>
 }
 
 #[inline(always)]
-#[tactic(auto, unfolding(flow::specs::Rows::act))]
+#[tactic(auto, unfolding(flow::specs::Rows::row_effect))]
 pub fn over(now: &mut Now<'_>, next: u32) -> Result<u32, Stop>
     ensures effect { IsActed no_statics (view (node.Over next)) (data_of now.old) result (data_of now.new) }
     ensures kept { OnOk result (now.new.operands.below ≡ now.old.operands.below) }
@@ -388,7 +388,7 @@ pub fn over(now: &mut Now<'_>, next: u32) -> Result<u32, Stop>
 }
 
 #[inline(always)]
-#[tactic(auto, unfolding(flow::specs::Rows::act))]
+#[tactic(auto, unfolding(flow::specs::Rows::row_effect))]
 pub fn get(now: &mut Now<'_>, next: u32) -> Result<u32, Stop>
     ensures effect { IsActed no_statics (view (node.Get next)) (data_of now.old) result (data_of now.new) }
     ensures kept { OnOk result (now.new.operands.below ≡ now.old.operands.below) }
@@ -398,7 +398,7 @@ pub fn get(now: &mut Now<'_>, next: u32) -> Result<u32, Stop>
 }
 
 #[inline(always)]
-#[tactic(auto, unfolding(flow::specs::Rows::act))]
+#[tactic(auto, unfolding(flow::specs::Rows::row_effect))]
 pub fn put(now: &mut Now<'_>, next: u32) -> Result<u32, Stop>
     ensures effect { IsActed no_statics (view (node.Put next)) (data_of now.old) result (data_of now.new) }
     ensures kept { OnOk result (now.new.operands.below ≡ now.old.operands.below) }
@@ -410,9 +410,9 @@ pub fn put(now: &mut Now<'_>, next: u32) -> Result<u32, Stop>
 }
 
 /// What `malloc` gives: a pointer to so many new cells, or null.
-#[tactic(auto, unfolding(cbi_base::specs::Objects::allocated))]
+#[tactic(auto, unfolding(cbi_base::specs::Objects::object_allocated))]
 fn allocate(objects: &mut Objects, cells: u32) -> Result<Word, Memory>
-    ensures { IfOk result (λ value. allocated cells objects.old ≡ (value, objects.new)) }
+    ensures { IfOk result (λ value. object_allocated cells objects.old ≡ (value, objects.new)) }
 {
     if cells == 0 {
         return Ok(Word::null());
@@ -424,7 +424,7 @@ fn allocate(objects: &mut Objects, cells: u32) -> Result<Word, Memory>
 }
 
 #[inline(always)]
-#[tactic(auto, unfolding(flow::specs::Rows::act))]
+#[tactic(auto, unfolding(flow::specs::Rows::row_effect))]
 pub fn alloc(now: &mut Now<'_>, next: u32) -> Result<u32, Stop>
     ensures effect { IsActed no_statics (view (node.Alloc next)) (data_of now.old) result (data_of now.new) }
     ensures kept { OnOk result (now.new.operands.below ≡ now.old.operands.below) }
@@ -436,7 +436,7 @@ pub fn alloc(now: &mut Now<'_>, next: u32) -> Result<u32, Stop>
 }
 
 #[inline(always)]
-#[tactic(auto, unfolding(flow::specs::Rows::act))]
+#[tactic(auto, unfolding(flow::specs::Rows::row_effect))]
 pub fn free(now: &mut Now<'_>, next: u32) -> Result<u32, Stop>
     ensures effect { IsActed no_statics (view (node.Free next)) (data_of now.old) result (data_of now.new) }
     ensures kept { OnOk result (now.new.operands.below ≡ now.old.operands.below) }
@@ -447,7 +447,7 @@ pub fn free(now: &mut Now<'_>, next: u32) -> Result<u32, Stop>
 }
 
 #[inline(always)]
-#[tactic(auto, unfolding(flow::specs::Rows::act))]
+#[tactic(auto, unfolding(flow::specs::Rows::row_effect))]
 pub fn check(now: &mut Now<'_>, next: u32) -> Result<u32, Stop>
     ensures effect { IsActed no_statics (view (node.Check next)) (data_of now.old) result (data_of now.new) }
     ensures kept { OnOk result (now.new.operands.below ≡ now.old.operands.below) }
@@ -461,7 +461,7 @@ pub fn check(now: &mut Now<'_>, next: u32) -> Result<u32, Stop>
 }
 
 #[inline(always)]
-#[tactic(auto, unfolding(flow::specs::Rows::act))]
+#[tactic(auto, unfolding(flow::specs::Rows::row_effect))]
 pub fn clear(now: &mut Now<'_>, index: u32, next: u32) -> Result<u32, Stop>
     ensures effect { IsActed no_statics (view (node.Clear index next)) (data_of now.old) result (data_of now.new) }
     ensures kept { OnOk result (now.new.operands.below ≡ now.old.operands.below) }
@@ -482,7 +482,7 @@ fn zero_of(want: Want) -> Word
 }
 
 #[inline(always)]
-#[tactic(auto, unfolding(flow::specs::Rows::act))]
+#[tactic(auto, unfolding(flow::specs::Rows::row_effect))]
 pub fn zero(now: &mut Now<'_>, index: u32, want: Want, next: u32) -> Result<u32, Stop>
     ensures effect { IsActed no_statics (view (node.Zero index want next)) (data_of now.old) result (data_of now.new) }
     ensures kept { OnOk result (now.new.operands.below ≡ now.old.operands.below) }

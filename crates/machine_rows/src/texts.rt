@@ -1,8 +1,8 @@
-ghost use Rattle.std.specs.Prelude.{◌≡◌, ◌≤◌, ◌+◌, OnOk, IfSome, length, slice_get, Result, MatchOption};
+ghost use Rattle.std.specs.Prelude.{◌≡◌, ◌≤◌, ◌+◌, OnOk, IfSome, length, slice_get};
 ghost use Rattle.std.specs.Option.{option_map};
-ghost use Rattle.c_store.specs.Written.{after};
+ghost use Rattle.c_store.specs.Written.{state_or_trap};
 ghost use Rattle.flow.specs.declared.node.Node.TheVariants as node;
-ghost use Rattle.flow.specs.Words.{statics_of, byte_limit, act, view};
+ghost use Rattle.flow.specs.Words.{statics_of, byte_limit, row_effect, view};
 ghost use Rattle.cbi_base.specs.Words.{stored_bytes as spelled, char_of};
 ghost use Rattle.machine_rows.specs.Data.{data_of, no_statics};
 ghost use Rattle.machine_rows.specs.Effects.{IsActed};
@@ -16,7 +16,7 @@ use flow::Program;
 
 /// Pushes the place of a text's first byte.
 #[inline(always)]
-#[tactic(auto, unfolding(flow::specs::Rows::act))]
+#[tactic(auto, unfolding(flow::specs::Rows::row_effect))]
 pub fn text(program: &Program, now: &mut Now<'_>, index: u32, next: u32) -> Result<u32, Stop>
     ensures effect { IsActed (statics_of program.now) (view (node.Text index next)) (data_of now.old) result (data_of now.new) }
     ensures kept { OnOk result (now.new.operands.below ≡ now.old.operands.below) }
@@ -47,7 +47,7 @@ pub fn char_of(byte: u8) -> Word
 /// Stores bytes into an object, from its first cell on.
 fn spell_into(objects: &mut Objects, object: u64, bytes: &[u8]) -> Result<(), Trap>
     requires { length bytes.now ≤ byte_limit }
-    ensures { spelled object 0 bytes.now objects.old ≡ after result objects.new }
+    ensures { spelled object 0 bytes.now objects.old ≡ state_or_trap result objects.new }
 {
     for (offset, byte) in bytes.iter().enumerate() {
         objects.store_word(Word::place(object, offset as u32), char_of(*byte))?;
@@ -57,7 +57,7 @@ fn spell_into(objects: &mut Objects, object: u64, bytes: &[u8]) -> Result<(), Tr
 
 /// Stores a text's bytes into a local, from its first cell on.
 #[inline(always)]
-#[tactic(auto, unfolding(flow::specs::Rows::act))]
+#[tactic(auto, unfolding(flow::specs::Rows::row_effect))]
 pub fn spell(
     program: &Program,
     now: &mut Now<'_>,
@@ -78,7 +78,7 @@ pub fn spell(
 
 /// Writes the string at a pointer and a newline.
 #[inline(always)]
-#[tactic(auto, using(crate::proofs::TextLemmas::line_goes, crate::proofs::TextLemmas::line_stops), unfolding(flow::specs::Rows::act))]
+#[tactic(auto, using(crate::proofs::TextLemmas::line_goes, crate::proofs::TextLemmas::line_stops), unfolding(flow::specs::Rows::row_effect))]
 pub fn puts(now: &mut Now<'_>, next: u32) -> Result<u32, Stop>
     ensures effect { IsActed no_statics (view (node.Puts next)) (data_of now.old) result (data_of now.new) }
     ensures kept { OnOk result (now.new.operands.below ≡ now.old.operands.below) }
@@ -91,7 +91,7 @@ pub fn puts(now: &mut Now<'_>, next: u32) -> Result<u32, Stop>
 
 /// Writes values by a text as format.
 #[inline(always)]
-#[tactic(auto, unfolding(flow::specs::Rows::act))]
+#[tactic(auto, unfolding(flow::specs::Rows::row_effect))]
 pub fn format(
     program: &Program,
     now: &mut Now<'_>,

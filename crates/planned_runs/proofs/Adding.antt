@@ -4,13 +4,13 @@ use Rattle.cbi_base.specs.declared.identity.ProgramId.{ProgramId}
 use Rattle.cbi_base.specs.declared.observation.Observation.{Observation}
 use Rattle.cbi_base.specs.declared.outcome.Counts.{Counts}
 use Rattle.collector.specs.declared.collection.Held.{Held}
-use Rattle.collector.specs.Collected.{IsOurs}
+use Rattle.collector.specs.Collected.{IsOfCollection}
 use Rattle.collector.specs.Sites.{branches_of, first_bad}
 use Rattle.countdown_bank.specs.Bank.{BankState, number_after}
 use Rattle.command_base.specs.declared.fault.Fault.{Fault}
 use Rattle.command_base.specs.declared.fault.Fault.TheVariants as fault
-use Rattle.command_base.specs.Faults.{Caused}
-use Rattle.expected.specs.Expected.{agrees}
+use Rattle.command_base.specs.Faults.{HasCause}
+use Rattle.expected.specs.Expected.{is_expected_output}
 use Rattle.flow.specs.declared.program.ProgramParts.{ProgramParts}
 use Rattle.flow.specs.declared.result.RunResult.{RunResult}
 use Rattle.flow.specs.declared.site.Site.{Site}
@@ -49,7 +49,7 @@ module _ {B : Type 0} (p : ProgramParts) (id : ProgramId) (number turns : ℕ) (
   }
 
   -- the report is one of the program's, of its sites
-  pub ours : (report : Report) (c : Held) (label : Label) → IsProgram p → ReportsOfRunsAreTaken → IsOfProgram p id c → report ≡ report_with id number label ran → IsOurs c report
+  pub ours : (report : Report) (c : Held) (label : Label) → IsProgram p → ReportsOfRunsAreTaken → IsOfProgram p id c → report ≡ report_with id number label ran → IsOfCollection c report
   ours report c label is law own report_is = record {
     program = ap (λ (r : Report). r.program) report_is ∙ sym own.program;
     sites = ap (λ bs. first_bad bs report.entries) own.branches
@@ -59,7 +59,7 @@ module _ {B : Type 0} (p : ProgramParts) (id : ProgramId) (number turns : ℕ) (
 
   -- the run, as it ended
   abbrev judged : JudgedRun
-  judged = record { ending = h.ending; is_right = agrees on.expect h.ending.output }
+  judged = record { ending = h.ending; is_right = is_expected_output on.expect h.ending.output }
 
   ended : HasEnded p id number turns told before after on judged
   ended = record {
@@ -68,15 +68,15 @@ module _ {B : Type 0} (p : ProgramParts) (id : ProgramId) (number turns : ℕ) (
     grew = h.grew;
   }
 
-  labelled : (label : Label) → label ≡ label_of ran.outcome (agrees on.expect ran.output) → label ≡ label_of h.ending.outcome (agrees on.expect h.ending.output)
-  labelled label is = is ∙ ap (λ (x : RunResult). label_of x.outcome (agrees on.expect x.output)) h.result_is
+  labelled : (label : Label) → label ≡ label_of ran.outcome (is_expected_output on.expect ran.output) → label ≡ label_of h.ending.outcome (is_expected_output on.expect h.ending.output)
+  labelled label is = is ∙ ap (λ (x : RunResult). label_of x.outcome (is_expected_output on.expect x.output)) h.result_is
 
-  planned : (label : Label) (report : Report) → label ≡ label_of ran.outcome (agrees on.expect ran.output) → report ≡ report_with id number label ran → report ≡ planned_report p id number judged
+  planned : (label : Label) (report : Report) → label ≡ label_of ran.outcome (is_expected_output on.expect ran.output) → report ≡ report_with id number label ran → report ≡ planned_report p id number judged
   planned label report is report_is =
       report_is ∙ ap (λ l. report_with id number l ran) (labelled label is)
-      ∙ ap (λ (x : RunResult). report_with id number (label_of h.ending.outcome (agrees on.expect h.ending.output)) x) h.result_is
+      ∙ ap (λ (x : RunResult). report_with id number (label_of h.ending.outcome (is_expected_output on.expect h.ending.output)) x) h.result_is
 
-  pub held : (label : Label) (report : Report) (c d : Held) → IsBounded ran → label ≡ label_of ran.outcome (agrees on.expect ran.output) → report ≡ report_with id number label ran
+  pub held : (label : Label) (report : Report) (c d : Held) → IsBounded ran → label ≡ label_of ran.outcome (is_expected_output on.expect ran.output) → report ≡ report_with id number label ran
       → Holds report c d → IsRunHeld p id number turns told before after on (record { outcome = ran.outcome; work = ran.work; label = label }) c d
   held label report c d bounded is report_is holds = record {
     run = judged;
@@ -93,8 +93,8 @@ module _ {B : Type 0} (p : ProgramParts) (id : ProgramId) (number turns : ℕ) (
   ended-then c = inr (judged, ended)
 
   -- the report wasn't held
-  pub not-held : (label : Label) (report : Report) (c : Held) (e : Fault) → label ≡ label_of ran.outcome (agrees on.expect ran.output) → report ≡ report_with id number label ran
-      → Caused e (λ n. ⊥) ⊥ (IsOverfull report c) → RunFailed p id number turns told before after on c e
+  pub not-held : (label : Label) (report : Report) (c : Held) (e : Fault) → label ≡ label_of ran.outcome (is_expected_output on.expect ran.output) → report ≡ report_with id number label ran
+      → HasCause e (λ n. ⊥) ⊥ (IsOverfull report c) → RunFailed p id number turns told before after on c e
   not-held label report c (fault.Read name) is report_is cause = absurd cause
   not-held label report c fault.Write is report_is cause = absurd cause
   not-held label report c (fault.Refused refusal) is report_is cause =

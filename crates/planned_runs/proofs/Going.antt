@@ -6,13 +6,13 @@ use Rattle.cbi_base.specs.declared.outcome.Outcome.{Outcome}
 use Rattle.cbi_base.specs.declared.outcome.Outcome.TheVariants.{Ended, Trapped, CutTurns, CutOutput}
 use Rattle.cbi_base.specs.declared.refusal.Refusal.{Refusal}
 use Rattle.cbi_base.specs.declared.refusal.Refusal.TheVariants.{TooManyMarks}
-use Rattle.cbi_base.specs.Words.{Rose, Held as Store}
+use Rattle.cbi_base.specs.Words.{CountHasRisen, Held as Store}
 use Rattle.collector.specs.declared.collection.Held.{Held}
 use Rattle.collector.specs.Collected.{mark_limit, marks_of, report_at, report_limit, with_report}
 use Rattle.collector.specs.Sites.{branches_of}
 use Rattle.command_base.specs.declared.fault.Fault.{Fault}
 use Rattle.command_base.specs.declared.fault.Fault.TheVariants as fault
-use Rattle.command_base.specs.Faults.{Caused, OfRead, Precedes}
+use Rattle.command_base.specs.Faults.{HasCause, IfReadFault, Precedes}
 use Rattle.command_base.specs.Names.{IsOneOf}
 use Rattle.flow.specs.declared.program.ProgramParts.{ProgramParts}
 use Rattle.probes.specs.Told.{AllGrew}
@@ -251,7 +251,7 @@ module _ {B : Type 0} (p : ProgramParts) (id : ProgramId) (gives : ℕ → RunIn
 
     -- and why
     pub caused : (names : ℕ → List (List ℕ)) (refuses : ℕ → Refusal → Type 0) (rose : Type 0) (e : Fault) → done < count → NextFailed p id number turns told now later gives names refuses c e
-        → OfRead e (λ name. rose) → Caused e (λ name. IsOneOf (names_from names first count) name × rose) ⊥ (PlanRefusedBy p gives first count turns refuses)
+        → IfReadFault e (λ name. rose) → HasCause e (λ name. IsOneOf (names_from names first count) name × rose) ⊥ (PlanRefusedBy p gives first count turns refuses)
     caused names refuses rose (fault.Read name) more h r = (one-of-all names first done count more name (subst (λ n. IsOneOf (names n) name) next h.is), r)
     caused names refuses rose fault.Write more h r = absurd h
     caused names refuses rose (fault.Refused refusal) more (inl h) r = inl (not_given refuses refusal more h).is
@@ -276,5 +276,5 @@ module _ {B : Type 0} (p q : ProgramParts) (id : ProgramId) (number turns : ℕ)
       (subst (λ x. NextFailed p id number turns told before after (gives x) names (refuses x) c e) holds h)
 
 -- what rose since was lower before
-pub rose-before : (a b c : ℕ) → a ≤ b → Rose b c → Rose a c
+pub rose-before : (a b c : ℕ) → a ≤ b → CountHasRisen b c → CountHasRisen a c
 rose-before a b c less rose = omega (arith, less, rose)

@@ -4,7 +4,7 @@ use Rattle.std.proofs.lemmas.List.Sums.{sum_by-cons}
 use Rattle.cbi_base.specs.declared.refusal.Refusal.{Refusal}
 use Rattle.collector.specs.Collected.{mark_limit}
 use Rattle.countdown_bank.specs.Bank.{number_after}
-use Rattle.expected.specs.Expected.{agrees}
+use Rattle.expected.specs.Expected.{is_expected_output}
 use Rattle.flow.specs.declared.program.ProgramParts.{ProgramParts}
 use Rattle.flow.specs.Words.{counts_of, OneEnding, MachineEnds, Ending}
 use Rattle.report_file.specs.Report.{entries_of}
@@ -30,7 +30,7 @@ module _ (one_ending : OneEnding) (p : ProgramParts) (gives : ℕ → RunInput �
   one_planned number a b x y =
       let ending_is : a.ending ≡ b.ending = same_ending number a b x y in
       let right_is : a.is_right ≡ b.is_right =
-      x.right_is ∙ ap₂ (λ (o : RunInput) (e : Ending). agrees o.expect e.output) (once number x.on y.on x.given y.given) ending_is ∙ sym y.right_is
+      x.right_is ∙ ap₂ (λ (o : RunInput) (e : Ending). is_expected_output o.expect e.output) (once number x.on y.on x.given y.given) ending_is ∙ sym y.right_is
       in
       ap₂ (λ e r. let run : JudgedRun = record { ending = e; is_right = r } in run) ending_is right_is
 

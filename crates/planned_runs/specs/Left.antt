@@ -86,7 +86,7 @@ module _ (p : ProgramParts) (gives : ℕ → RunInput → Type 0) (first count t
       pub grew : (ending : Ending) → MachineEnds p on.input (number_after on.bank) turns ending
           → AllGrewByPrefix told (all_seen (endings_of done) ++ ending.seen) before after
 
-    -- So many runs ended, of which each watcher was told what they observed, or besides a prefix of what the next run observes.
+    -- So many runs ended: each watcher was told what they observed, and maybe a prefix of what the next run observes.
     pub record HasPlanStopped : Type 0 where
       pub done : List JudgedRun
       pub few : length done ≤ count

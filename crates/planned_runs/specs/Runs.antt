@@ -3,7 +3,7 @@ use Rattle.std.specs.Prelude.{◌≡◌, ℕ, zero, suc, Bool, List, [], ◌∷�
 use Rattle.cbi_base.specs.declared.identity.ProgramId.{ProgramId}
 use Rattle.cbi_base.specs.declared.observation.Observation.{Observation}
 use Rattle.countdown_bank.specs.Bank.{number_after}
-use Rattle.expected.specs.Expected.{agrees}
+use Rattle.expected.specs.Expected.{is_expected_output}
 use Rattle.flow.specs.declared.program.ProgramParts.{ProgramParts}
 use Rattle.flow.specs.Words.{counts_of, MachineEnds, Ending}
 use Rattle.report_file.specs.declared.report.Report.{Report}
@@ -23,7 +23,7 @@ module _ (p : ProgramParts) (gives : ℕ → RunInput → Type 0) (turns : ℕ) 
     pub on : RunInput
     pub given : gives number on
     pub ends : MachineEnds p on.input (number_after on.bank) turns run.ending
-    pub right_is : run.is_right ≡ agrees on.expect run.ending.output
+    pub right_is : run.is_right ≡ is_expected_output on.expect run.ending.output
 
   -- so do the runs from this number on, one after another
   abbrev pub ArePlannedRuns : ℕ → List JudgedRun → Type 0

@@ -11,7 +11,7 @@ use Rattle.command_base.specs.declared.fault.Fault.{Fault}
 use Rattle.command_base.specs.declared.fault.Fault.TheVariants as fault
 use Rattle.command_base.specs.Names.{IsOneOf}
 use Rattle.countdown_bank.specs.Bank.{number_after}
-use Rattle.expected.specs.Expected.{agrees}
+use Rattle.expected.specs.Expected.{is_expected_output}
 use Rattle.flow.specs.declared.program.ProgramParts.{ProgramParts}
 use Rattle.flow.specs.Words.{MachineEnds, Ending}
 use Rattle.probes.specs.Told.{AllGrew, AllGrewByPrefix}
@@ -41,7 +41,7 @@ module _ {B : Type 0} (p : ProgramParts) (id : ProgramId) (number turns : ℕ) (
   -- the run on this ended, and each watcher was told what it observed
   pub record HasEnded (on : RunInput) (run : JudgedRun) : Type 0 where
     pub ends : MachineEnds p on.input (number_after on.bank) turns run.ending
-    pub right_is : run.is_right ≡ agrees on.expect run.ending.output
+    pub right_is : run.is_right ≡ is_expected_output on.expect run.ending.output
     pub grew : AllGrew told run.ending.seen before after
 
   -- it ended, and its report is held

@@ -1,7 +1,7 @@
 ghost use Rattle.std.specs.Prelude.{◌≡◌, ◌<◌, ◌≤◌, None, IfOk, IfErr, OnOk, length};
-ghost use Rattle.cbi_base.specs.Faults.{Rose};
-ghost use Rattle.collector.specs.Collected.{IsOurs, report_at, report_limit};
-ghost use Rattle.command_base.specs.Faults.{Caused, OfRead, Passed};
+ghost use Rattle.cbi_base.specs.Faults.{CountHasRisen};
+ghost use Rattle.collector.specs.Collected.{IsOfCollection, report_at, report_limit};
+ghost use Rattle.command_base.specs.Faults.{HasCause, IfReadFault, IfFilesRead};
 ghost use Rattle.command_base.specs.Names.{IsFirstMissing, AreHeld};
 ghost use Rattle.report_file.specs.Report.{IsReport};
 ghost use Rattle.planned_runs.specs.Steps.{Holds, IsNextHeld, IsOfProgram, IsOverfull, IsRunHeld, NextFailed, RunFailed};
@@ -30,11 +30,11 @@ pub struct Ran {
 /// Adds the report of a run that isn't held.
 fn hold(collection: &mut Collection, report: Report) -> Result<(), Fault>
     requires report { IsReport report }
-    requires ours { IsOurs collection.old report }
+    requires ours { IsOfCollection collection.old report }
     requires absent { report_at report.run collection.old.reports ≡ None }
     requires room { length collection.old.reports < report_limit }
     ensures ok { OnOk result (Holds report collection.old collection.new) }
-    ensures fault { IfErr result (λ e. Caused e (λ n. ⊥) ⊥ (IsOverfull report collection.old)) }
+    ensures fault { IfErr result (λ e. HasCause e (λ n. ⊥) ⊥ (IsOverfull report collection.old)) }
 {
     match collection.add(report) {
         Ok(_) => Ok(()),
@@ -123,9 +123,9 @@ pub fn make_next<P: RunPlan, S: Store>(
         (P.gives plan.now (S.holds store.old)) ran collection.old collection.new) }
     ensures failed { IfErr result (NextFailed program.now id number turns (λ b. seen b) probes.old.items probes.new.items
         (P.gives plan.now (S.holds store.old)) (P.names plan.now) (P.refuses plan.now (S.holds store.old)) collection.old) }
-    ensures rose { IfErr result (λ e. OfRead e (λ name. Rose (S.read_faults store.old) (S.read_faults store.new))) }
-    ensures was_held { Passed result (AreHeld (S.holds store.old) (P.names plan.now number)) }
-    ensures missing { S.is_sound store.old → IfErr result (λ e. OfRead e (IsFirstMissing (S.holds store.old) (P.names plan.now number))) }
+    ensures rose { IfErr result (λ e. IfReadFault e (λ name. CountHasRisen (S.read_faults store.old) (S.read_faults store.new))) }
+    ensures was_held { IfFilesRead result (AreHeld (S.holds store.old) (P.names plan.now number)) }
+    ensures missing { S.is_sound store.old → IfErr result (λ e. IfReadFault e (IsFirstMissing (S.holds store.old) (P.names plan.now number))) }
     ensures held { S.holds store.new ≡ S.holds store.old }
     ensures writes { S.write_faults store.new ≡ S.write_faults store.old }
     ensures never_falls { S.read_faults store.old ≤ S.read_faults store.new }

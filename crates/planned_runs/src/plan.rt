@@ -1,7 +1,7 @@
 ghost use Rattle.std.specs.Prelude.{◌≡◌, ◌≤◌, ℕ, List, Option, IsSome, length, IfOk, IfErr};
-ghost use Rattle.cbi_base.specs.Words.{Rose, Held};
+ghost use Rattle.cbi_base.specs.Words.{CountHasRisen, Held};
 ghost use Rattle.cbi_base.specs.declared.refusal.Refusal.{Refusal};
-ghost use Rattle.command_base.specs.Faults.{Caused, OfRead, Passed};
+ghost use Rattle.command_base.specs.Faults.{HasCause, IfReadFault, IfFilesRead};
 ghost use Rattle.command_base.specs.Names.{IsOneOf, IsFirstMissing, AreHeld};
 ghost use Rattle.planned_runs.specs.declared.input.RunInput.{RunInput};
 
@@ -29,11 +29,11 @@ pub trait RunPlan {
         requires { covers self.now number }
         ensures given { IfOk result (gives self.now (S.holds store.old) number) }
         ensures fits { IfOk result (λ on. length on.input ≤ 16777216) }
-        ensures was_held { Passed result (AreHeld (S.holds store.old) (names self.now number)) }
-        ensures fault { IfErr result (λ e. Caused e
-            (λ name. IsOneOf (names self.now number) name × Rose (S.read_faults store.old) (S.read_faults store.new)) ⊥
+        ensures was_held { IfFilesRead result (AreHeld (S.holds store.old) (names self.now number)) }
+        ensures fault { IfErr result (λ e. HasCause e
+            (λ name. IsOneOf (names self.now number) name × CountHasRisen (S.read_faults store.old) (S.read_faults store.new)) ⊥
             (refuses self.now (S.holds store.old) number)) }
-        ensures missing { S.is_sound store.old → IfErr result (λ e. OfRead e (IsFirstMissing (S.holds store.old) (names self.now number))) }
+        ensures missing { S.is_sound store.old → IfErr result (λ e. IfReadFault e (IsFirstMissing (S.holds store.old) (names self.now number))) }
         ensures held { S.holds store.new ≡ S.holds store.old }
         ensures writes { S.write_faults store.new ≡ S.write_faults store.old }
         ensures never_falls { S.read_faults store.old ≤ S.read_faults store.new }

@@ -1,7 +1,7 @@
 ghost use Rattle.std.specs.Prelude.{◌≡◌, ℕ, ◌+◌, ◌≤◌, ◌<◌, ◌^◌, IfOk, OnOk, IfErr, IsErrAnd, IsSome};
-ghost use Rattle.cbi_base.specs.Faults.{Rose};
+ghost use Rattle.cbi_base.specs.Faults.{CountHasRisen};
 ghost use Rattle.cbi_base.specs.declared.refusal.Refusal.{Refusal};
-ghost use Rattle.command_base.specs.Faults.{Caused, OfRead, Precedes};
+ghost use Rattle.command_base.specs.Faults.{HasCause, IfReadFault, Precedes};
 ghost use Rattle.command_base.specs.Names.{IsOneOf, IsFirstMissing, AreHeld};
 ghost use Rattle.planned_runs.specs.Left.{HavePlannedRun, LeftByPlan, PlanRefusedBy};
 ghost use Rattle.planned_runs.specs.Runs.{names_from};
@@ -49,8 +49,8 @@ pub fn run_planned<P: RunPlan, S: Store>(
         (λ b. seen b) probes.old.items probes.new.items id) }
     ensures left { IfErr result (LeftByPlan program.now (P.gives plan.now (S.holds store.old)) first count turns
         (λ b. seen b) probes.old.items probes.new.items (P.names plan.now) (P.refuses plan.now (S.holds store.old))) }
-    ensures fault { IfErr result (λ e. Caused e
-        (λ name. IsOneOf (names_from (P.names plan.now) first count) name × Rose (S.read_faults store.old) (S.read_faults store.new)) ⊥
+    ensures fault { IfErr result (λ e. HasCause e
+        (λ name. IsOneOf (names_from (P.names plan.now) first count) name × CountHasRisen (S.read_faults store.old) (S.read_faults store.new)) ⊥
         (PlanRefusedBy program.now (P.gives plan.now (S.holds store.old)) first count turns (P.refuses plan.now (S.holds store.old)))) }
     ensures refused { (refusal : Refusal)
         → PlanRefusedBy program.now (P.gives plan.now (S.holds store.old)) first count turns (P.refuses plan.now (S.holds store.old)) refusal
@@ -58,7 +58,8 @@ pub fn run_planned<P: RunPlan, S: Store>(
 
     // Which names were held. No count falls, and a store that is sound stays so, with its counts.
     ensures was_held { OnOk result (AreHeld (S.holds store.old) (names_from (P.names plan.now) first count)) }
-    ensures missing { S.is_sound store.old → IfErr result (λ e. OfRead e (IsFirstMissing (S.holds store.old) (names_from (P.names plan.now) first count))) }
+    ensures missing { S.is_sound store.old → IfErr result
+        (λ e. IfReadFault e (IsFirstMissing (S.holds store.old) (names_from (P.names plan.now) first count))) }
     ensures held { S.holds store.new ≡ S.holds store.old }
     ensures writes { S.write_faults store.new ≡ S.write_faults store.old }
     ensures never_falls { S.read_faults store.old ≤ S.read_faults store.new }

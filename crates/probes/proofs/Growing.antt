@@ -7,7 +7,7 @@ use Rattle.std.proofs.lemmas.Option.{slice_get_within, slice_get-get_or}
 use Rattle.std.proofs.lemmas.Bool.{cases_lt}
 use Rattle.base_lists.proofs.Lists.{set_here}
 use Rattle.cbi_base.specs.declared.observation.Observation.{Observation}
-use Rattle.probes.specs.Told.{AllGrew, AllGrewByPrefix}
+use Rattle.probes.specs.Told.{AllGrew, AllGrewByPrefix, GrewByPrefix}
 
 -- the watchers before a place were told these, and the others are as before
 pub record GrewBelow {B : Type 0} (seen : B → List Observation) (more : List Observation) (place : ℕ) (old new : List B) : Type 0 where
@@ -48,10 +48,14 @@ AllGrew-end seen more place old new past below = record {
   each = λ k before after was stands. below.told k before after (omega (arith, slice_get_within new k after stands)) was stands;
 }
 
--- the one at the place was not told, and those after it were not reached
+-- what was told nothing was told a prefix
+pub GrewByPrefix-none : (more before after : List Observation) → after ≡ before → GrewByPrefix more before after
+GrewByPrefix-none more before after same = record { cut = 0; is = same ∙ sym (append-nil before) }
+
+-- the one at the place was told a prefix, and those after it were not reached
 pub AllGrewByPrefix-stop : {B : Type 0} (seen : B → List Observation) (more : List Observation) (place : ℕ) (old now : List B) (b c : B)
-    → place < length now → slice_get now place ≡ Some b → seen c ≡ seen b → GrewBelow seen more place old now → AllGrewByPrefix seen more old (slice_set now place c)
-AllGrewByPrefix-stop {B} seen more place old now b c inside is same below = record {
+    → place < length now → slice_get now place ≡ Some b → GrewByPrefix more (seen b) (seen c) → GrewBelow seen more place old now → AllGrewByPrefix seen more old (slice_set now place c)
+AllGrewByPrefix-stop {B} seen more place old now b c inside is part below = record {
   same_length = length-set now place c ∙ below.same_length;
   each = λ k before after was stands.
       elim (cases_lt k place) [
@@ -59,18 +63,18 @@ AllGrewByPrefix-stop {B} seen more place old now b c inside is same below = reco
             let apart : k ≢ place = omega arith in
             let told = below.told k before after earlier was (sym (slice_get-set_other now place k c apart) ∙ stands) in
             record { cut = length more; is = told ∙ ap (λ m. seen before ++ m) (sym (take_all (length more) more (omega arith))) }
-        | inr rest ↦ record { cut = 0; is = untold k before after rest was stands }
+        | inr rest ↦ cut_off k before after rest was stands
       ];
 }
   where
-    untold : (k : ℕ) (before after : B) → place ≤ k → slice_get old k ≡ Some before → slice_get (slice_set now place c) k ≡ Some after → seen after ≡ seen before ++ []
-    untold k before after later was stands =
+    cut_off : (k : ℕ) (before after : B) → place ≤ k → slice_get old k ≡ Some before → slice_get (slice_set now place c) k ≡ Some after → GrewByPrefix more (seen before) (seen after)
+    cut_off k before after later was stands =
         elim (cases_lt place k) [
           | inl further ↦
               let apart : k ≢ place = omega arith in
               let same : Some before ≡ Some after = sym was ∙ sym (below.others k later) ∙ sym (slice_get-set_other now place k c apart) ∙ stands in
               let is_same : before ≡ after = cc in
-              ap seen (sym is_same) ∙ sym (append-nil (seen before))
+              record { cut = 0; is = ap seen (sym is_same) ∙ sym (append-nil (seen before)) }
           | inr rest ↦
               let here : k ≡ place = omega arith in
               let old_is : slice_get old place ≡ Some before = subst (λ i. slice_get old i ≡ Some before) here was in
@@ -78,7 +82,7 @@ AllGrewByPrefix-stop {B} seen more place old now b c inside is same below = reco
               let new_is : Some c ≡ Some after = sym (set_here now place c inside) ∙ subst (λ i. slice_get (slice_set now place c) i ≡ Some after) here stands in
               let b_is : b ≡ before = cc in
               let c_is : c ≡ after = cc in
-              sym (ap seen c_is) ∙ same ∙ ap seen b_is ∙ sym (append-nil (seen before))
+              record { cut = part.cut; is = sym (ap seen c_is) ∙ part.is ∙ ap (λ x. seen x ++ take part.cut more) b_is }
         ]
 
 -- for the crates above: nothing was told, and what was told in two calls

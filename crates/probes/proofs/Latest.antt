@@ -7,7 +7,7 @@ use Rattle.std.proofs.lemmas.List.{append-nil, map-append, reverse-append, rever
 use Rattle.std.proofs.lemmas.List.Elements.{All-head, All-tail, All-pop}
 use Rattle.cbi_base.specs.declared.observation.Observation.{Observation}
 use Rattle.probes.specs.Sites.{sites_seen}
-use Rattle.probes.specs.History.{step_code, leading, digit_bytes, packed, unpacked, last_site, FitsSite, EndsLow, IsLastNumber, IsPacked}
+use Rattle.probes.specs.History.{step_code, leading_digit, digit_bytes, observation_bytes, observations_of_bytes, last_site, FitsSite, EndsLow, IsLastNumber, IsPacked}
 use Rattle.probes.proofs.Packing.{unpacked-none, unpacked-packed, packed-push, last_site-push, step_code-small}
 
 -- a list is empty, or has a last element
@@ -43,16 +43,16 @@ EndsLow-push bytes front low here small before byte is = let same = same_from_pu
 -- ---- the digits of a number before its last
 
 abbrev pub heads : ℕ → List ℕ
-heads m = leading (m / 128 / 128 / 128) ++ leading (m / 128 / 128) ++ leading (m / 128) ++ leading m
+heads m = leading_digit (m / 128 / 128 / 128) ++ leading_digit (m / 128 / 128) ++ leading_digit (m / 128) ++ leading_digit m
 
 digit_bytes-heads : (n : ℕ) → digit_bytes n ≡ heads (n / 128) ++ n % 128 ∷ []
 unfolding digit_bytes
 digit_bytes-heads n = refl
 
-leading-none : (m : ℕ) → m ≡ 0 → leading m ≡ []
+leading-none : (m : ℕ) → m ≡ 0 → leading_digit m ≡ []
 leading-none m none = ap (λ b. cond b [] ((128 + m % 128) ∷ [])) (eq-eqb m 0 none)
 
-leading-some : (m : ℕ) → (m ≡ 0 → ⊥) → leading m ≡ (128 + m % 128) ∷ []
+leading-some : (m : ℕ) → (m ≡ 0 → ⊥) → leading_digit m ≡ (128 + m % 128) ∷ []
 leading-some m some = ap (λ b. cond b [] ((128 + m % 128) ∷ [])) (ne_eqb m 0 some)
 
 heads-none : (m : ℕ) → m ≡ 0 → heads m ≡ []
@@ -65,8 +65,8 @@ heads-some m some small =
     let c = b / 128 in
     let d = c / 128 in
     let none : d ≡ 0 = omega arith in
-    ap (λ l. leading c ++ leading b ++ leading a ++ l) (leading-some m some)
-    ∙ sym (ap (λ l. l ++ leading c ++ leading b ++ leading a ++ (128 + m % 128) ∷ []) (leading-none d none))
+    ap (λ l. leading_digit c ++ leading_digit b ++ leading_digit a ++ l) (leading-some m some)
+    ∙ sym (ap (λ l. l ++ leading_digit c ++ leading_digit b ++ leading_digit a ++ (128 + m % 128) ∷ []) (leading-none d none))
 
 -- ---- a number that is read from its end
 
@@ -165,16 +165,16 @@ IsReadBack-done bytes rest number weight ended read = record {
 
 -- ---- observations without the last one
 
-EndsLow-packed : (before : ℕ) (seen : List Observation) → EndsLow (packed before seen)
+EndsLow-packed : (before : ℕ) (seen : List Observation) → EndsLow (observation_bytes before seen)
 EndsLow-packed before seen =
     elim (last_or_none seen) [
-      | inl none ↦ EndsLow-none (packed before seen) (ap (λ l. length (packed before l)) none)
+      | inl none ↦ EndsLow-none (observation_bytes before seen) (ap (λ l. length (observation_bytes before l)) none)
       | inr more ↦
-          let front = packed before more.0 in
+          let front = observation_bytes before more.0 in
           let n = step_code (last_site before more.0) more.1 in
-          let grouped : packed before seen ≡ (front ++ heads (n / 128)) ++ n % 128 ∷ [] =
-          ap (packed before) more.2 ∙ packed-push before more.0 more.1 ∙ ap (λ l. front ++ l) (digit_bytes-heads n) ∙ sym (append_assoc front (heads (n / 128)) (n % 128 ∷ [])) in
-          EndsLow-push (packed before seen) (front ++ heads (n / 128)) (n % 128) grouped (omega arith)
+          let grouped : observation_bytes before seen ≡ (front ++ heads (n / 128)) ++ n % 128 ∷ [] =
+          ap (observation_bytes before) more.2 ∙ packed-push before more.0 more.1 ∙ ap (λ l. front ++ l) (digit_bytes-heads n) ∙ sym (append_assoc front (heads (n / 128)) (n % 128 ∷ [])) in
+          EndsLow-push (observation_bytes before seen) (front ++ heads (n / 128)) (n % 128) grouped (omega arith)
     ]
 
 last_site-small : (before : ℕ) (seen : List Observation) → before < 2 ^ 32 → All FitsSite seen → last_site before seen < 2 ^ 32
@@ -189,24 +189,24 @@ pub record IsPopped (seen : List Observation) (rest : List ℕ) (site number : �
   pub there : last.site ≡ site
   pub step : number ≡ step_code (last_site 0 front) last
   pub small : last_site 0 front < 2 ^ 32
-  pub left : unpacked 0 0 rest ≡ front
-  pub packed_left : IsPacked (unpacked 0 0 rest) rest (last_site 0 front) 0
+  pub left : observations_of_bytes 0 0 rest ≡ front
+  pub packed_left : IsPacked (observations_of_bytes 0 0 rest) rest (last_site 0 front) 0
 
 pub IsPopped-from_last : (seen : List Observation) (bytes rest : List ℕ) (site number : ℕ) → IsPacked seen bytes site 0 → IsLastNumber bytes number rest → IsPopped seen rest site number
 IsPopped-from_last seen bytes rest site number kept ends =
     elim (last_or_none seen) [
-      | inl none ↦ absurd (omega (arith, ends.some, ap length (kept.is ∙ ap (packed 0) none)))
+      | inl none ↦ absurd (omega (arith, ends.some, ap length (kept.is ∙ ap (observation_bytes 0) none)))
       | inr more ↦ popped more.0 more.1 more.2
     ]
   where
     popped : (front : List Observation) (last : Observation) → seen ≡ front ++ last ∷ [] → IsPopped seen rest site number
     popped front last is =
         let n = step_code (last_site 0 front) last in
-        let whole : bytes ≡ packed 0 front ++ digit_bytes n = kept.is ∙ ap (packed 0) is ∙ packed-push 0 front last in
+        let whole : bytes ≡ observation_bytes 0 front ++ digit_bytes n = kept.is ∙ ap (observation_bytes 0) is ∙ packed-push 0 front last in
         let fits = All-pop FitsSite seen front (Some last) is kept.fits in
         let before-small : last_site 0 front < 2 ^ 32 = last_site-small 0 front (omega arith) fits.0 in
-        let read = ends.only (packed 0 front) n (step_code-small (last_site 0 front) last before-small fits.1) (EndsLow-packed 0 front) whole in
-        let left-is : unpacked 0 0 rest ≡ front = ap (unpacked 0 0) read.1 ∙ unpacked-packed 0 front (omega arith) fits.0 in
+        let read = ends.only (observation_bytes 0 front) n (step_code-small (last_site 0 front) last before-small fits.1) (EndsLow-packed 0 front) whole in
+        let left-is : observations_of_bytes 0 0 rest ≡ front = ap (observations_of_bytes 0 0) read.1 ∙ unpacked-packed 0 front (omega arith) fits.0 in
         let here : IsPacked front rest (last_site 0 front) 0 = record { is = read.1; last = refl; fits = fits.0; small = omega arith } in
         record {
           front = front;
@@ -220,7 +220,7 @@ IsPopped-from_last seen bytes rest site number kept ends =
         }
 
 -- their sites, the latest first
-pub latest-popped : (seen : List Observation) (rest : List ℕ) (site number : ℕ) → IsPopped seen rest site number → reverse (sites_seen seen) ≡ site ∷ reverse (sites_seen (unpacked 0 0 rest))
+pub latest-popped : (seen : List Observation) (rest : List ℕ) (site number : ℕ) → IsPopped seen rest site number → reverse (sites_seen seen) ≡ site ∷ reverse (sites_seen (observations_of_bytes 0 0 rest))
 latest-popped seen rest site number p =
     ap (λ l. reverse (sites_seen l)) p.is
     ∙ ap reverse (map-append (λ (o : Observation). o.site) p.front (p.last ∷ []))
@@ -228,5 +228,5 @@ latest-popped seen rest site number p =
     ∙ ap (λ n. n ∷ reverse (sites_seen p.front)) p.there
     ∙ ap (λ l. site ∷ reverse (sites_seen l)) (sym p.left)
 
-pub latest-none : (bytes : List ℕ) → bytes ≡ [] → reverse (sites_seen (unpacked 0 0 bytes)) ≡ []
-latest-none bytes none = ap (λ l. reverse (sites_seen (unpacked 0 0 l))) none ∙ ap (λ l. reverse (sites_seen l)) (unpacked-none 0 0)
+pub latest-none : (bytes : List ℕ) → bytes ≡ [] → reverse (sites_seen (observations_of_bytes 0 0 bytes)) ≡ []
+latest-none bytes none = ap (λ l. reverse (sites_seen (observations_of_bytes 0 0 l))) none ∙ ap (λ l. reverse (sites_seen l)) (unpacked-none 0 0)

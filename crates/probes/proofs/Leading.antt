@@ -1,7 +1,7 @@
 -- The site that was observed most often.
 use Rattle.std.proofs.Common.{◌≡◌, ℕ, ◌<◌, ◌≤◌, ◌⊎◌, inl, inr, Bool, true, false, ◌&&◌, ◌||◌, ◌==◌, nat_lt, cond, List, [], ◌∷◌, map, fold, Option, Some, None, IfSome, unwrap_or, refl, sym, ap, subst, ◌∙◌, arith}
 use Rattle.std.proofs.lemmas.Bool.{cases_lt, ltb-true, ltb-false, leb-true, eqb-true, eq-eqb, lt-ltb, le-leb, and_parts, and_from, or_cases, or_parts, or_left, or_right}
-use Rattle.probes.specs.Hottest.{times_of, leads, hottest_of, best_of, hotter, IsHottest}
+use Rattle.probes.specs.Hottest.{times_of, is_site_ahead_of, hottest_of, best_of, hotter_site, IsHottest}
 use Rattle.std.specs.List.{list_all}
 use Rattle.std.specs.Option.{option_map}
 use Rattle.probes.proofs.Members.{IsIn, IsIn-from_Contains, Contains-from_IsIn, IsIn-map, IsIn-from_map, list_all-each, list_all-from_each, find-is, find-some, count_by-positive, IsIn-from_count_by}
@@ -52,7 +52,7 @@ beats-where_gives a b h =
 -- which of the two goes on
 record Winner (a b : ℕ × ℕ) : Type 0 where
   pub who : ℕ × ℕ
-  pub goes_on : hotter (Some a) b ≡ Some who
+  pub goes_on : hotter_site (Some a) b ≡ Some who
   pub one : (a ≡ who) ⊎ (b ≡ who)
   pub first : Beats who a
   pub second : Beats who b
@@ -101,12 +101,12 @@ IsBest-more a b es best w rest = record { among = is_among rest.among; beats = b
     beats_each e (inr (inl same)) = subst (Beats best) same (beats-then best w.who b (rest.beats w.who (inl refl)) w.second)
     beats_each e (inr (inr later)) = rest.beats e (inr later)
 
-pub fold-best : (es : List (ℕ × ℕ)) (a : ℕ × ℕ) → (best : ℕ × ℕ) × (fold hotter (Some a) es ≡ Some best) × IsBest (a ∷ es) best
+pub fold-best : (es : List (ℕ × ℕ)) (a : ℕ × ℕ) → (best : ℕ × ℕ) × (fold hotter_site (Some a) es ≡ Some best) × IsBest (a ∷ es) best
 fold-best [] a = (a, refl, IsBest-one a)
 fold-best (b ∷ es) a =
     let w = winner a b in
     let rest = fold-best es w.who in
-    (rest.0, ap (λ o. fold hotter o es) w.goes_on ∙ rest.1, IsBest-more a b es rest.0 w rest.2)
+    (rest.0, ap (λ o. fold hotter_site o es) w.goes_on ∙ rest.1, IsBest-more a b es rest.0 w rest.2)
 
 -- a site with its count
 abbrev pub counted : List ℕ → ℕ → ℕ × ℕ
@@ -125,7 +125,7 @@ IsHottest-from_beats sites site among beats = record {
       elim (beats other (IsIn-from_count_by sites other some)) [ inl less ↦ absurd (omega arith) | inr also ↦ also.1 ];
 }
 
-leads-where_hottest : (sites : List ℕ) (site other : ℕ) → IsHottest sites site → leads sites site other ≡ true
+leads-where_hottest : (sites : List ℕ) (site other : ℕ) → IsHottest sites site → is_site_ahead_of sites site other ≡ true
 leads-where_hottest sites site other h =
     elim (cases_lt (times_of sites other) (times_of sites site)) [
       | inl less ↦ or_left _ _ (lt-ltb (times_of sites other) (times_of sites site) less)
@@ -134,7 +134,7 @@ leads-where_hottest sites site other h =
           or_right _ _ (and_from _ _ (eq-eqb (times_of sites other) (times_of sites site) same) (le-leb site other (h.smallest other same)))
     ]
 
-beats-where_leads : (sites : List ℕ) (site other : ℕ) → leads sites site other ≡ true → Beats (counted sites site) (counted sites other)
+beats-where_leads : (sites : List ℕ) (site other : ℕ) → is_site_ahead_of sites site other ≡ true → Beats (counted sites site) (counted sites other)
 beats-where_leads sites site other h =
     elim (or_cases _ _ h) [
       | inl less ↦ inl (ltb-true (times_of sites other) (times_of sites site) less)
@@ -148,13 +148,13 @@ IsHottest-once sites a b x y =
 
 pub found-is_hottest : (sites : List ℕ) (site : ℕ) → hottest_of sites ≡ Some site → IsHottest sites site
 found-is_hottest sites site is =
-    let found = find-is (λ s. list_all (leads sites s) sites) sites site is in
-    IsHottest-from_beats sites site found.0 (λ other i. beats-where_leads sites site other (list_all-each (leads sites site) sites other found.1 i))
+    let found = find-is (λ s. list_all (is_site_ahead_of sites s) sites) sites site is in
+    IsHottest-from_beats sites site found.0 (λ other i. beats-where_leads sites site other (list_all-each (is_site_ahead_of sites site) sites other found.1 i))
 
 pub hottest-is_found : (sites : List ℕ) (site : ℕ) → IsHottest sites site → hottest_of sites ≡ Some site
 hottest-is_found sites site h =
-    let passes = list_all-from_each (leads sites site) sites (λ other i. leads-where_hottest sites site other h) in
-    let found = find-some (λ s. list_all (leads sites s) sites) sites site (IsIn-from_Contains sites site h.observed) passes in
+    let passes = list_all-from_each (is_site_ahead_of sites site) sites (λ other i. leads-where_hottest sites site other h) in
+    let found = find-some (λ s. list_all (is_site_ahead_of sites s) sites) sites site (IsIn-from_Contains sites site h.observed) passes in
     found.1 ∙ ap Some (IsHottest-once sites found.0 site (found-is_hottest sites found.0 found.1) h)
 
 -- where something was observed, a site is the hottest
@@ -189,7 +189,7 @@ best_of-from_beats sites best times positive beats =
 
 -- counts of each site lead to the hottest
 pub fold-hottest : (es : List (ℕ × ℕ)) (sites : List ℕ) (count : ℕ → Option ℕ) → ((site : ℕ) → unwrap_or (count site) 0 ≡ times_of sites site) → ((site : ℕ) → IfSome (count site) (λ n. 0 < n))
-    → ((site n : ℕ) → count site ≡ Some n → IsIn (site, n) es) → ((site n : ℕ) → IsIn (site, n) es → count site ≡ Some n) → fold hotter None es ≡ best_of sites
+    → ((site n : ℕ) → count site ≡ Some n → IsIn (site, n) es) → ((site n : ℕ) → IsIn (site, n) es → count site ≡ Some n) → fold hotter_site None es ≡ best_of sites
 fold-hottest [] [] count value positive listed known = refl
 fold-hottest [] (site ∷ more) count value positive listed known =
     let sites = site ∷ more in

@@ -1,76 +1,76 @@
 -- What is read of the bytes of observations.
-use Rattle.std.proofs.Common.{◌≡◌, ℕ, ◌+◌, ◌-◌, ◌*◌, ◌/◌, ◌%◌, ◌^◌, ◌<◌, ◌≤◌, nat_lt, Bool, cond, inl, inr, List, [], ◌∷◌, ◌++◌, length, get_or, drop, refl, sym, ap, subst, ◌∙◌, arith, append_assoc, length-append}
+use Rattle.std.proofs.Common.{◌≡◌, ℕ, ◌+◌, ◌-◌, ◌*◌, ◌/◌, ◌%◌, ◌^◌, ◌<◌, ◌≤◌, nat_lt, Bool, cond, inl, inr, List, [], ◌∷◌, ◌++◌, length, get_or, take, drop, refl, sym, ap, subst, ◌∙◌, arith, append_assoc, length-append}
 use Rattle.std.specs.Prelude.{All, count_by}
 use Rattle.std.proofs.lemmas.List.Sums.{sum_by-cons}
 use Rattle.std.proofs.lemmas.Bool.{cases_lt, cases_eq, lt-ltb, le-ltb, eq-eqb, ne_eqb}
-use Rattle.std.proofs.lemmas.List.{append-nil, at_drop_more, at_drop_all}
-use Rattle.std.proofs.lemmas.List.Elements.{All-nil, All-head, All-tail, All-push}
+use Rattle.std.proofs.lemmas.List.{append-nil, take_more, at_drop_more, at_drop_all}
+use Rattle.std.proofs.lemmas.List.Elements.{All-nil, All-head, All-tail, All-append, All-push}
 use Rattle.cbi_base.specs.declared.observation.Observation.{Observation}
 use Rattle.cbi_base.specs.declared.observation.Seen.{Seen}
 use Rattle.cbi_base.specs.declared.observation.Seen.TheVariants.{First, Second, Third, Nothing}
-use Rattle.probes.specs.History.{truth_bits, truth_with, step_code, observation_of, with_digit, leading, digit_bytes, packed, unpacked, last_site, FitsSite, IsPacked}
+use Rattle.probes.specs.History.{truth_bits, truth_with, step_code, observation_of, with_digit, leading_digit, digit_bytes, observation_bytes, observations_of_bytes, last_site, FitsSite, IsPacked, GrewByPacked}
 
 -- ---- bytes one after another
 
-pub unpacked-none : (before number : ℕ) → unpacked before number [] ≡ []
-unfolding unpacked
+pub unpacked-none : (before number : ℕ) → observations_of_bytes before number [] ≡ []
+unfolding observations_of_bytes
 unpacked-none before number = refl
 
 -- a byte below 128 ends a number
 pub unpacked-last : (before number byte : ℕ) (rest : List ℕ) → byte < 128
-    → unpacked before number (byte ∷ rest) ≡ observation_of before (with_digit number byte) ∷ unpacked (observation_of before (with_digit number byte)).site 0 rest
-unfolding unpacked
+    → observations_of_bytes before number (byte ∷ rest) ≡ observation_of before (with_digit number byte) ∷ observations_of_bytes (observation_of before (with_digit number byte)).site 0 rest
+unfolding observations_of_bytes
 unpacked-last before number byte rest low =
     let o = observation_of before (with_digit number byte) in
-    ap (λ b. cond b (o ∷ unpacked o.site 0 rest) (unpacked before (with_digit number (byte - 128)) rest)) (lt-ltb byte 128 low)
+    ap (λ b. cond b (o ∷ observations_of_bytes o.site 0 rest) (observations_of_bytes before (with_digit number (byte - 128)) rest)) (lt-ltb byte 128 low)
 
 -- and one from 128 on is a digit before others
-pub unpacked-more : (before number byte : ℕ) (rest : List ℕ) → 128 ≤ byte → unpacked before number (byte ∷ rest) ≡ unpacked before (with_digit number (byte - 128)) rest
-unfolding unpacked
+pub unpacked-more : (before number byte : ℕ) (rest : List ℕ) → 128 ≤ byte → observations_of_bytes before number (byte ∷ rest) ≡ observations_of_bytes before (with_digit number (byte - 128)) rest
+unfolding observations_of_bytes
 unpacked-more before number byte rest high =
     let o = observation_of before (with_digit number byte) in
-    ap (λ b. cond b (o ∷ unpacked o.site 0 rest) (unpacked before (with_digit number (byte - 128)) rest)) (le-ltb byte 128 high)
+    ap (λ b. cond b (o ∷ observations_of_bytes o.site 0 rest) (observations_of_bytes before (with_digit number (byte - 128)) rest)) (le-ltb byte 128 high)
 
 -- an observation of one byte
-pub unpacked-one : (before byte : ℕ) (rest : List ℕ) (o : Observation) → byte < 128 → o ≡ observation_of before byte → unpacked before 0 (byte ∷ rest) ≡ o ∷ unpacked o.site 0 rest
+pub unpacked-one : (before byte : ℕ) (rest : List ℕ) (o : Observation) → byte < 128 → o ≡ observation_of before byte → observations_of_bytes before 0 (byte ∷ rest) ≡ o ∷ observations_of_bytes o.site 0 rest
 unpacked-one before byte rest o low is =
     let whole : with_digit 0 byte ≡ byte = omega arith in
-    unpacked-last before 0 byte rest low ∙ ap (λ (x : Observation). x ∷ unpacked x.site 0 rest) (ap (observation_of before) whole ∙ sym is)
+    unpacked-last before 0 byte rest low ∙ ap (λ (x : Observation). x ∷ observations_of_bytes x.site 0 rest) (ap (observation_of before) whole ∙ sym is)
 
 -- the same of the bytes from a place on
 pub unpacked-drop_last : (before number : ℕ) (bytes : List ℕ) (i : ℕ) (o : Observation) → i < length bytes → get_or bytes i 0 < 128 → o ≡ observation_of before (with_digit number (get_or bytes i 0))
-    → unpacked before number (drop i bytes) ≡ o ∷ unpacked o.site 0 (drop (i + 1) bytes)
+    → observations_of_bytes before number (drop i bytes) ≡ o ∷ observations_of_bytes o.site 0 (drop (i + 1) bytes)
 unpacked-drop_last before number bytes i o inside low is =
-    at_drop_more (unpacked before number) bytes i 0 inside
+    at_drop_more (observations_of_bytes before number) bytes i 0 inside
     ∙ unpacked-last before number (get_or bytes i 0) (drop (i + 1) bytes) low
-    ∙ ap (λ (x : Observation). x ∷ unpacked x.site 0 (drop (i + 1) bytes)) (sym is)
+    ∙ ap (λ (x : Observation). x ∷ observations_of_bytes x.site 0 (drop (i + 1) bytes)) (sym is)
 
 pub unpacked-drop_more : (before number : ℕ) (bytes : List ℕ) (i : ℕ) → i < length bytes → 128 ≤ get_or bytes i 0
-    → unpacked before number (drop i bytes) ≡ unpacked before (with_digit number (get_or bytes i 0 - 128)) (drop (i + 1) bytes)
+    → observations_of_bytes before number (drop i bytes) ≡ observations_of_bytes before (with_digit number (get_or bytes i 0 - 128)) (drop (i + 1) bytes)
 unpacked-drop_more before number bytes i inside high =
-    at_drop_more (unpacked before number) bytes i 0 inside ∙ unpacked-more before number (get_or bytes i 0) (drop (i + 1) bytes) high
+    at_drop_more (observations_of_bytes before number) bytes i 0 inside ∙ unpacked-more before number (get_or bytes i 0) (drop (i + 1) bytes) high
 
-pub unpacked-drop_all : (before number : ℕ) (bytes : List ℕ) (i : ℕ) → length bytes ≤ i → unpacked before number (drop i bytes) ≡ []
-unpacked-drop_all before number bytes i done = at_drop_all (unpacked before number) bytes i done ∙ unpacked-none before number
+pub unpacked-drop_all : (before number : ℕ) (bytes : List ℕ) (i : ℕ) → length bytes ≤ i → observations_of_bytes before number (drop i bytes) ≡ []
+unpacked-drop_all before number bytes i done = at_drop_all (observations_of_bytes before number) bytes i done ∙ unpacked-none before number
 
 -- ---- the digits of a number
 
 with_digit-split : (m digit number : ℕ) → m < 2 ^ 35 → number ≡ m / 128 → digit ≡ m % 128 → with_digit number digit ≡ m
 with_digit-split m digit number small high low = omega arith
 
-unpacked-leading : (before m number : ℕ) (rest : List ℕ) → m < 2 ^ 35 → number ≡ m / 128 → unpacked before number (leading m ++ rest) ≡ unpacked before m rest
+unpacked-leading : (before m number : ℕ) (rest : List ℕ) → m < 2 ^ 35 → number ≡ m / 128 → observations_of_bytes before number (leading_digit m ++ rest) ≡ observations_of_bytes before m rest
 unpacked-leading before m number rest small is =
     let digit = 128 + m % 128 in
-    let either : Bool → List Observation = λ b. unpacked before number (cond b [] (digit ∷ []) ++ rest) in
-    let same : number ≡ m → unpacked before number rest ≡ unpacked before m rest = λ e. ap (λ n. unpacked before n rest) e in
+    let either : Bool → List Observation = λ b. observations_of_bytes before number (cond b [] (digit ∷ []) ++ rest) in
+    let same : number ≡ m → observations_of_bytes before number rest ≡ observations_of_bytes before m rest = λ e. ap (λ n. observations_of_bytes before n rest) e in
     let whole : with_digit number (digit - 128) ≡ m = with_digit-split m (digit - 128) number small is (omega arith) in
     elim (cases_eq m 0) [
       | inl none ↦ ap either (eq-eqb m 0 none) ∙ same (omega arith)
-      | inr some ↦ ap either (ne_eqb m 0 some) ∙ unpacked-more before number digit rest (omega arith) ∙ ap (λ n. unpacked before n rest) whole
+      | inr some ↦ ap either (ne_eqb m 0 some) ∙ unpacked-more before number digit rest (omega arith) ∙ ap (λ n. observations_of_bytes before n rest) whole
     ]
 
 pub unpacked-digit_bytes : (before n : ℕ) (rest : List ℕ) → n < 2 ^ 35
-    → unpacked before 0 (digit_bytes n ++ rest) ≡ observation_of before n ∷ unpacked (observation_of before n).site 0 rest
+    → observations_of_bytes before 0 (digit_bytes n ++ rest) ≡ observation_of before n ∷ observations_of_bytes (observation_of before n).site 0 rest
 unfolding digit_bytes
 unpacked-digit_bytes before n rest small =
     let a = n / 128 in
@@ -83,14 +83,14 @@ unpacked-digit_bytes before n rest small =
     let d-small : d < 2 ^ 7 = omega arith in
     let none : 0 ≡ d / 128 = omega arith in
     let end = n % 128 ∷ rest in
-    let grouped : digit_bytes n ++ rest ≡ leading d ++ (leading c ++ (leading b ++ (leading a ++ end))) = simp append_assoc in
-    ap (unpacked before 0) grouped
-    ∙ unpacked-leading before d 0 (leading c ++ (leading b ++ (leading a ++ end))) (omega arith) none
-    ∙ unpacked-leading before c d (leading b ++ (leading a ++ end)) (omega arith) refl
-    ∙ unpacked-leading before b c (leading a ++ end) (omega arith) refl
+    let grouped : digit_bytes n ++ rest ≡ leading_digit d ++ (leading_digit c ++ (leading_digit b ++ (leading_digit a ++ end))) = simp append_assoc in
+    ap (observations_of_bytes before 0) grouped
+    ∙ unpacked-leading before d 0 (leading_digit c ++ (leading_digit b ++ (leading_digit a ++ end))) (omega arith) none
+    ∙ unpacked-leading before c d (leading_digit b ++ (leading_digit a ++ end)) (omega arith) refl
+    ∙ unpacked-leading before b c (leading_digit a ++ end) (omega arith) refl
     ∙ unpacked-leading before a b end (omega arith) refl
     ∙ unpacked-last before a (n % 128) rest (omega arith)
-    ∙ ap (λ m. observation_of before m ∷ unpacked (observation_of before m).site 0 rest) (with_digit-split n (n % 128) a small refl refl)
+    ∙ ap (λ m. observation_of before m ∷ observations_of_bytes (observation_of before m).site 0 rest) (with_digit-split n (n % 128) a small refl refl)
 
 pub one_digit : (n : ℕ) → n < 128 → digit_bytes n ≡ n ∷ []
 unfolding digit_bytes
@@ -102,7 +102,7 @@ one_digit n small =
     let last : n % 128 ≡ n = omega arith in
     rw (d, c, b, a, last) refl
 
-leading-short : (m : ℕ) → length (leading m) ≤ 1
+leading-short : (m : ℕ) → length (leading_digit m) ≤ 1
 leading-short m =
     elim (cases_eq m 0) [
       | inl none ↦ omega (arith, ap (λ b. length (cond b [] ((128 + m % 128) ∷ []))) (eq-eqb m 0 none))
@@ -116,11 +116,11 @@ digit_bytes-short n =
     let b = a / 128 in
     let c = b / 128 in
     let d = c / 128 in
-    let parts : length (digit_bytes n) ≡ length (leading d) + length (leading c) + length (leading b) + length (leading a) + 1 = simp length-append (omega arith) in
+    let parts : length (digit_bytes n) ≡ length (leading_digit d) + length (leading_digit c) + length (leading_digit b) + length (leading_digit a) + 1 = simp length-append (omega arith) in
     omega (arith, parts, leading-short a, leading-short b, leading-short c, leading-short d)
 
 -- each observation ends with its one byte below 128
-pub length_unpacked : (before number : ℕ) (bytes : List ℕ) → length (unpacked before number bytes) ≡ count_by (λ byte. nat_lt byte 128) bytes
+pub length_unpacked : (before number : ℕ) (bytes : List ℕ) → length (observations_of_bytes before number bytes) ≡ count_by (λ byte. nat_lt byte 128) bytes
 length_unpacked before number [] = ap length (unpacked-none before number)
 length_unpacked before number (byte ∷ bytes) =
     let o = observation_of before (with_digit number byte) in
@@ -197,57 +197,87 @@ observation_of-step_code before o fits =
 
 -- ---- lists of observations
 
-pub unpacked-packed : (before : ℕ) (seen : List Observation) → before < 2 ^ 32 → All FitsSite seen → unpacked before 0 (packed before seen) ≡ seen
+pub unpacked-packed : (before : ℕ) (seen : List Observation) → before < 2 ^ 32 → All FitsSite seen → observations_of_bytes before 0 (observation_bytes before seen) ≡ seen
 unpacked-packed before [] small fits = unpacked-none before 0
 unpacked-packed before (o ∷ os) small fits =
     let here : o.site < 2 ^ 32 = All-head FitsSite o os fits in
-    unpacked-digit_bytes before (step_code before o) (packed o.site os) (step_code-small before o small here)
-    ∙ ap (λ (x : Observation). x ∷ unpacked x.site 0 (packed o.site os)) (observation_of-step_code before o here)
+    unpacked-digit_bytes before (step_code before o) (observation_bytes o.site os) (step_code-small before o small here)
+    ∙ ap (λ (x : Observation). x ∷ observations_of_bytes x.site 0 (observation_bytes o.site os)) (observation_of-step_code before o here)
     ∙ ap (λ l. o ∷ l) (unpacked-packed o.site os here (All-tail FitsSite o os fits))
 
-pub packed-short : (before : ℕ) (seen : List Observation) → length (packed before seen) ≤ 5 * length seen
+pub packed-short : (before : ℕ) (seen : List Observation) → length (observation_bytes before seen) ≤ 5 * length seen
 packed-short before [] = omega arith
 packed-short before (o ∷ os) =
     let n = step_code before o in
-    omega (arith, length-append {A = ℕ} (digit_bytes n) (packed o.site os), digit_bytes-short n, packed-short o.site os)
+    omega (arith, length-append {A = ℕ} (digit_bytes n) (observation_bytes o.site os), digit_bytes-short n, packed-short o.site os)
 
-pub packed-push : (before : ℕ) (seen : List Observation) (o : Observation) → packed before (seen ++ o ∷ []) ≡ packed before seen ++ digit_bytes (step_code (last_site before seen) o)
-packed-push before [] o = append-nil (digit_bytes (step_code before o))
-packed-push before (x ∷ xs) o =
-    ap (λ l. digit_bytes (step_code before x) ++ l) (packed-push x.site xs o)
-    ∙ sym (append_assoc (digit_bytes (step_code before x)) (packed x.site xs) (digit_bytes (step_code (last_site x.site xs) o)))
+packed-append : (before : ℕ) (seen more : List Observation) → observation_bytes before (seen ++ more) ≡ observation_bytes before seen ++ observation_bytes (last_site before seen) more
+packed-append before [] more = refl
+packed-append before (x ∷ xs) more =
+    ap (λ l. digit_bytes (step_code before x) ++ l) (packed-append x.site xs more)
+    ∙ sym (append_assoc (digit_bytes (step_code before x)) (observation_bytes x.site xs) (observation_bytes (last_site x.site xs) more))
+
+pub packed-push : (before : ℕ) (seen : List Observation) (o : Observation) → observation_bytes before (seen ++ o ∷ []) ≡ observation_bytes before seen ++ digit_bytes (step_code (last_site before seen) o)
+packed-push before seen o = packed-append before seen (o ∷ []) ∙ ap (λ l. observation_bytes before seen ++ l) (append-nil (digit_bytes (step_code (last_site before seen) o)))
+
+last_site-append : (before : ℕ) (seen more : List Observation) → last_site before (seen ++ more) ≡ last_site (last_site before seen) more
+last_site-append before [] more = refl
+last_site-append before (x ∷ xs) more = last_site-append x.site xs more
 
 pub last_site-push : (before : ℕ) (seen : List Observation) (o : Observation) → last_site before (seen ++ o ∷ []) ≡ o.site
-last_site-push before [] o = refl
-last_site-push before (x ∷ xs) o = last_site-push x.site xs o
+last_site-push before seen o = last_site-append before seen (o ∷ [])
 
 -- nothing was observed
-pub IsPacked-none : (bytes : List ℕ) (capacity : ℕ) → bytes ≡ [] → capacity ≡ 0 → IsPacked (unpacked 0 0 bytes) bytes 0 capacity
+pub IsPacked-none : (bytes : List ℕ) (capacity : ℕ) → bytes ≡ [] → capacity ≡ 0 → IsPacked (observations_of_bytes 0 0 bytes) bytes 0 capacity
 IsPacked-none bytes capacity is none =
     let start : IsPacked [] bytes 0 capacity = record { is = is; last = refl; fits = All-nil FitsSite; small = omega arith } in
-    subst (λ l. IsPacked l bytes 0 capacity) (sym (ap (unpacked 0 0) is ∙ unpacked-none 0 0)) start
+    subst (λ l. IsPacked l bytes 0 capacity) (sym (ap (observations_of_bytes 0 0) is ∙ unpacked-none 0 0)) start
 
 pub IsPacked-short : (seen : List Observation) (bytes : List ℕ) (site capacity : ℕ) → IsPacked seen bytes site capacity → length bytes ≤ 5 * length seen
 IsPacked-short seen bytes site capacity i = omega (arith, ap length i.is, packed-short 0 seen)
 
--- one more observation
-module _ (bytes more : List ℕ) (site capacity room : ℕ) (seen : List Observation) (o : Observation) (before : IsPacked seen bytes site capacity) (here : o.site < 2 ^ 32) (added : more ≡ bytes ++ digit_bytes (step_code site o)) where
-  packed-more : more ≡ packed 0 (seen ++ o ∷ [])
-  packed-more =
-      added ∙ ap (λ l. l ++ digit_bytes (step_code site o)) before.is ∙ ap (λ s. packed 0 seen ++ digit_bytes (step_code s o)) before.last ∙ sym (packed-push 0 seen o)
+-- more observations
+module _ (bytes more : List ℕ) (site last capacity room : ℕ) (seen run : List Observation) (before : IsPacked seen bytes site capacity) (grew : GrewByPacked run site last bytes more) where
+  packed-more : more ≡ observation_bytes 0 (seen ++ run)
+  packed-more = grew.is ∙ ap (λ l. l ++ observation_bytes site run) before.is ∙ ap (λ s. observation_bytes 0 seen ++ observation_bytes s run) before.last ∙ sym (packed-append 0 seen run)
 
-  fits-more : All FitsSite (seen ++ o ∷ [])
-  fits-more = All-push FitsSite seen o before.fits here
+  fits-more : All FitsSite (seen ++ run)
+  fits-more = All-append FitsSite seen run before.fits grew.fits
 
-  pub IsPacked-read : unpacked 0 0 more ≡ seen ++ o ∷ []
-  IsPacked-read = ap (unpacked 0 0) packed-more ∙ unpacked-packed 0 (seen ++ o ∷ []) (omega arith) fits-more
+  pub IsPacked-read : observations_of_bytes 0 0 more ≡ seen ++ run
+  IsPacked-read = ap (observations_of_bytes 0 0) packed-more ∙ unpacked-packed 0 (seen ++ run) (omega arith) fits-more
 
-  pub IsPacked-push : 2 * room ≤ 15 * length seen + 15 → IsPacked (unpacked 0 0 more) more o.site room
-  IsPacked-push small =
-      let next : IsPacked (seen ++ o ∷ []) more o.site room = record {
+  pub IsPacked-more : 2 * room ≤ 15 * length seen + 15 * length run → IsPacked (observations_of_bytes 0 0 more) more last room
+  IsPacked-more small =
+      let next : IsPacked (seen ++ run) more last room = record {
         is = packed-more;
-        last = sym (last_site-push 0 seen o);
+        last = grew.last ∙ ap (λ s. last_site s run) before.last ∙ sym (last_site-append 0 seen run);
         fits = fits-more;
-        small = omega (arith, small, length-append {A = Observation} seen (o ∷ []));
+        small = omega (arith, small, length-append {A = Observation} seen run);
       } in
-      subst (λ l. IsPacked l more o.site room) (sym IsPacked-read) next
+      subst (λ l. IsPacked l more last room) (sym IsPacked-read) next
+
+pub GrewByPacked-none : (before : ℕ) (bytes : List ℕ) → GrewByPacked [] before before bytes bytes
+GrewByPacked-none before bytes = record { is = sym (append-nil bytes); last = refl; fits = All-nil FitsSite }
+
+-- one more observation
+pub GrewByPacked-push : (run : List Observation) (before site : ℕ) (old new more : List ℕ) (o : Observation) → o.site < 2 ^ 32
+    → more ≡ new ++ digit_bytes (step_code site o) → GrewByPacked run before site old new → GrewByPacked (run ++ o ∷ []) before o.site old more
+GrewByPacked-push run before site old new more o here added grew = record {
+  is = added ∙ ap (λ s. new ++ digit_bytes (step_code s o)) grew.last ∙ ap (λ l. l ++ digit_bytes (step_code (last_site before run) o)) grew.is
+      ∙ append_assoc old (observation_bytes before run) (digit_bytes (step_code (last_site before run) o)) ∙ ap (λ l. old ++ l) (sym (packed-push before run o));
+  last = sym (last_site-push before run o);
+  fits = All-push FitsSite run o grew.fits here;
+}
+
+-- where it takes one byte
+pub digit_bytes-one : (site number : ℕ) (o : Observation) → number ≡ step_code site o → number < 128 → number ∷ [] ≡ digit_bytes (step_code site o)
+digit_bytes-one site number o is small = sym (one_digit number small) ∙ ap digit_bytes is
+
+-- the one at a place of a list, where it takes one byte
+pub GrewByPacked-at : (seen : List Observation) (i : ℕ) (d : Observation) (before site number : ℕ) (old new more : List ℕ) → i < length seen → (get_or seen i d).site < 2 ^ 32
+    → more ≡ new ++ number ∷ [] → number ≡ step_code site (get_or seen i d) → number < 128 → GrewByPacked (take i seen) before site old new → GrewByPacked (take (i + 1) seen) before (get_or seen i d).site old more
+GrewByPacked-at seen i d before site number old new more inside here added is small grew =
+    let o = get_or seen i d in
+    let whole : more ≡ new ++ digit_bytes (step_code site o) = added ∙ ap (λ l. new ++ l) (digit_bytes-one site number o is small) in
+    subst (λ run. GrewByPacked run before o.site old more) (sym (take_more seen i d inside)) (GrewByPacked-push (take i seen) before site old new more o here whole grew)

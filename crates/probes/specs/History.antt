@@ -31,26 +31,27 @@ abbrev pub with_digit : ℕ → ℕ → ℕ
 with_digit number digit = (128 * number + digit) % 2 ^ 35
 
 -- the last digit of what stands before others, with 128 added; none where nothing does
-abbrev pub leading : ℕ → List ℕ
-leading number = if number == 0 then [] else (128 + number % 128) ∷ []
+abbrev pub leading_digit : ℕ → List ℕ
+leading_digit number = if number == 0 then [] else (128 + number % 128) ∷ []
 
 -- the digits of a number below 2 ^ 35, the last as it is and those before it with 128 added
 unfoldable pub digit_bytes : ℕ → List ℕ
-digit_bytes n = leading (n / 128 / 128 / 128 / 128) ++ leading (n / 128 / 128 / 128) ++ leading (n / 128 / 128) ++ leading (n / 128) ++ n % 128 ∷ []
+digit_bytes n = leading_digit (n / 128 / 128 / 128 / 128) ++ leading_digit (n / 128 / 128 / 128) ++ leading_digit (n / 128 / 128) ++ leading_digit (n / 128)
+    ++ n % 128 ∷ []
 
 -- the bytes of observations, after this site
-abbrev pub packed : ℕ → List Observation → List ℕ
-packed before [] = []
-packed before (o ∷ os) = digit_bytes (step_code before o) ++ packed o.site os
+abbrev pub observation_bytes : ℕ → List Observation → List ℕ
+observation_bytes before [] = []
+observation_bytes before (o ∷ os) = digit_bytes (step_code before o) ++ observation_bytes o.site os
 
 -- the observations of bytes, after this site and these first digits of a number
-unfoldable pub unpacked : ℕ → ℕ → List ℕ → List Observation
-unpacked before number [] = []
-unpacked before number (byte ∷ bytes) =
+unfoldable pub observations_of_bytes : ℕ → ℕ → List ℕ → List Observation
+observations_of_bytes before number [] = []
+observations_of_bytes before number (byte ∷ bytes) =
     if nat_lt byte 128 then
-    (let o = observation_of before (with_digit number byte) in o ∷ unpacked o.site 0 bytes)
+    (let o = observation_of before (with_digit number byte) in o ∷ observations_of_bytes o.site 0 bytes)
     else
-    unpacked before (with_digit number (byte - 128)) bytes
+    observations_of_bytes before (with_digit number (byte - 128)) bytes
 
 -- the last byte, where there is one, ends a number
 abbrev pub EndsLow : List ℕ → Type 0
@@ -73,7 +74,13 @@ FitsSite o = o.site < 2 ^ 32
 
 -- the bytes are those of these observations, this is the last site, and they take at most seven and a half bytes each
 pub record IsPacked (seen : List Observation) (bytes : List ℕ) (site capacity : ℕ) : Type 0 where
-  pub is : bytes ≡ packed 0 seen
+  pub is : bytes ≡ observation_bytes 0 seen
   pub last : site ≡ last_site 0 seen
   pub fits : All FitsSite seen
   pub small : 2 * capacity ≤ 15 * length seen
+
+-- bytes grew by those of these observations, after the first site, and the second is the last
+pub record GrewByPacked (seen : List Observation) (before site : ℕ) (old new : List ℕ) : Type 0 where
+  pub is : new ≡ old ++ observation_bytes before seen
+  pub last : site ≡ last_site before seen
+  pub fits : All FitsSite seen

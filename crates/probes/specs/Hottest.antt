@@ -3,7 +3,7 @@ use Rattle.std.specs.Prelude.{◌≡◌, ℕ, ◌≤◌, Bool, ◌&&◌, ◌||�
 use Rattle.std.specs.Prelude.{codes, slice_index}
 use Rattle.std.specs.List.{list_all}
 use Rattle.std.specs.Option.{option_map}
-use Rattle.cbi_base.specs.Text.{ended}
+use Rattle.cbi_base.specs.Text.{line_with_newline}
 use Rattle.cbi_base.specs.declared.observation.Observation.{Observation}
 use Rattle.probes.specs.Sites.{sites_seen, number_field}
 
@@ -12,12 +12,12 @@ abbrev pub times_of : List ℕ → ℕ → ℕ
 times_of sites site = count_by (λ other. other == site) sites
 
 -- the site was observed more often than the other, or as often and isn't the greater
-abbrev pub leads : List ℕ → ℕ → ℕ → Bool
-leads sites site other = nat_lt (times_of sites other) (times_of sites site) || (times_of sites other == times_of sites site && nat_le site other)
+abbrev pub is_site_ahead_of : List ℕ → ℕ → ℕ → Bool
+is_site_ahead_of sites site other = nat_lt (times_of sites other) (times_of sites site) || (times_of sites other == times_of sites site && nat_le site other)
 
 -- the site that was observed most often, the smallest among equals
 abbrev pub hottest_of : List ℕ → Option ℕ
-hottest_of sites = find (λ site. list_all (leads sites site) sites) sites
+hottest_of sites = find (λ site. list_all (is_site_ahead_of sites site) sites) sites
 
 -- the same site, with how often it was observed
 abbrev pub best_of : List ℕ → Option (ℕ × ℕ)
@@ -29,17 +29,17 @@ AreTimes counts sites = (site : ℕ) → slice_index counts site ≡ times_of si
 
 -- the line with this site and this count
 abbrev pub count_line : Option (ℕ × ℕ) → List ℕ
-count_line None = ended (codes "hottest none")
-count_line (Some best) = ended (codes "hottest" ++ number_field best.0 ++ number_field best.1)
+count_line None = line_with_newline (codes "hottest none")
+count_line (Some best) = line_with_newline (codes "hottest" ++ number_field best.0 ++ number_field best.1)
 
 -- the site that was observed most often, and how often it was
 abbrev pub hottest_line : List Observation → List ℕ
 hottest_line seen = count_line (best_of (sites_seen seen))
 
 -- of the best so far and another site, with how often each was observed, the one that was observed more often, or else the smaller
-abbrev pub hotter : Option (ℕ × ℕ) → ℕ × ℕ → Option (ℕ × ℕ)
-hotter None next = Some next
-hotter (Some best) next = if nat_lt next.1 best.1 || (best.1 == next.1 && nat_lt best.0 next.0) then Some best else Some next
+abbrev pub hotter_site : Option (ℕ × ℕ) → ℕ × ℕ → Option (ℕ × ℕ)
+hotter_site None next = Some next
+hotter_site (Some best) next = if nat_lt next.1 best.1 || (best.1 == next.1 && nat_lt best.0 next.0) then Some best else Some next
 
 -- the site was observed, no other was observed more often, and none that was observed as often is smaller
 pub record IsHottest (sites : List ℕ) (site : ℕ) : Type 0 where

@@ -1,7 +1,7 @@
 -- The sites of observations, and a line that lists some.
 use Rattle.std.specs.Prelude.{ℕ, List, [], ◌∷◌, ◌++◌, map, decimal, codes}
 use Rattle.std.specs.List.{flat_map}
-use Rattle.cbi_base.specs.Text.{ended}
+use Rattle.cbi_base.specs.Text.{line_with_newline}
 use Rattle.cbi_base.specs.declared.observation.Observation.{Observation}
 
 -- the sites that were observed, in order
@@ -23,4 +23,4 @@ site_fields (site ∷ sites) = flat_map number_field (site ∷ sites)
 
 -- a line that begins with this word and lists these sites
 abbrev pub sites_line : List ℕ → List ℕ → List ℕ
-sites_line word sites = ended (word ++ site_fields sites)
+sites_line word sites = line_with_newline (word ++ site_fields sites)

@@ -1,4 +1,4 @@
-ghost use Rattle.std.specs.Prelude.{◌↔◌, ℕ, List, Contains, ◌≡◌, ◌≤◌, [], ◌++◌, ◌∷◌, take, IfOk, OnOk, OnErr};
+ghost use Rattle.std.specs.Prelude.{◌↔◌, ℕ, List, Contains, ◌≡◌, ◌≤◌, [], ◌++◌, ◌∷◌, take, IfOk};
 ghost use Rattle.cbi_base.specs.declared.observation.Observation.{Observation};
 ghost use Rattle.probes.specs.Sites.{most_sites, sites_seen};
 ghost use Rattle.probes.specs.FirstSeen.{firsts_of, first_line};
@@ -60,6 +60,10 @@ impl Probe for FirstSeen {
 
     fn see(&mut self, observation: Observation) -> Result<(), Memory> {
         self.history.push(observation)
+    }
+
+    fn see_several(&mut self, observations: &[Observation]) -> Result<(), Memory> {
+        self.history.push_several(observations)
     }
 
     fn line(&self, text: &mut Vec<u8>) -> Result<(), Memory> {

@@ -1,13 +1,16 @@
 ghost use Rattle.std.specs.Prelude.{◌≡◌, ℕ, List, [], ◌∷◌, ◌++◌, ◌+◌, ◌*◌, ◌^◌, ◌<◌, ◌≤◌, max, All, length, vec_len, vec_capacity, MatchOption, OnOk, OnErr};
-ghost use Rattle.std.specs.Prelude.{reverse};
+ghost use Rattle.std.specs.Prelude.{reverse, take};
 ghost use Rattle.cbi_base.specs.declared.observation.Observation.{Observation};
-ghost use Rattle.probes.specs.History.{truth_bits, truth_with, step_code, observation_of, with_digit, leading, digit_bytes, packed, unpacked, FitsSite};
-ghost use Rattle.probes.specs.History.{IsLastNumber};
+ghost use Rattle.probes.specs.History.{truth_bits, truth_with, step_code, observation_of, leading_digit, digit_bytes, observation_bytes, observations_of_bytes};
+ghost use Rattle.probes.specs.History.{FitsSite};
+ghost use Rattle.probes.specs.History.{IsLastNumber, GrewByPacked};
 ghost use Rattle.probes.specs.Sites.{sites_seen};
+ghost use Rattle.probes.specs.Told.{GrewByPrefix};
 
 use cbi_base::{Memory, Observation, Seen};
 use std::alloc::Global;
 use std::marker::Model;
+use std::mem;
 
 /// How many bytes an observation takes at most.
 const MOST_BYTES: usize = 5;
@@ -22,13 +25,13 @@ pub struct History {
 impl Model for History {
     ghost use Rattle.std.specs.Prelude.{List, vec_capacity};
     ghost use Rattle.cbi_base.specs.declared.observation.Observation.{Observation};
-    ghost use Rattle.probes.specs.History.{unpacked, IsPacked};
+    ghost use Rattle.probes.specs.History.{observations_of_bytes, IsPacked};
 
     ghost Value = { List Observation };
 
-    ghost view = { λ h. unpacked 0 0 h.bytes.items };
+    ghost view = { λ h. observations_of_bytes 0 0 h.bytes.items };
 
-    ghost invariant = { λ h. IsPacked (unpacked 0 0 h.bytes.items) h.bytes.items h.site (vec_capacity h.bytes) };
+    ghost invariant = { λ h. IsPacked (observations_of_bytes 0 0 h.bytes.items) h.bytes.items h.site (vec_capacity h.bytes) };
 }
 
 fn truth_bits(seen: Seen) -> u64
@@ -58,6 +61,7 @@ fn truth_with(bits: u64) -> Seen
 fn step_code(before: u32, observation: Observation) -> u64
     ensures value { result ≡ step_code before observation }
     ensures within { result < 2 ^ 35 }
+    ensures fits { FitsSite observation }
 {
     let step = if observation.site < before {
         8 * u64::from(before - observation.site) + 4
@@ -87,7 +91,7 @@ fn observation_of(before: u32, number: u64) -> Observation
 /// Appends the last digit of what stands before others, where something does.
 fn push_leading(bytes: &mut Vec<u8>, number: u64)
     requires { vec_len bytes.old < vec_capacity bytes.old }
-    ensures items { bytes.new.items ≡ bytes.old.items ++ leading number }
+    ensures items { bytes.new.items ≡ bytes.old.items ++ leading_digit number }
     ensures len { vec_len bytes.new ≤ vec_len bytes.old + 1 }
     ensures capacity { vec_capacity bytes.new ≡ vec_capacity bytes.old }
 {
@@ -125,10 +129,33 @@ fn make_room(bytes: &mut Vec<u8>) -> Result<(), Memory>
     Ok(())
 }
 
+/// Appends the first of these observations, after this site, as long as each takes one byte and there is room. Says how many, and the last site.
+#[inline]
+fn push_bytes(bytes: &mut Vec<u8>, before: u32, observations: &[Observation]) -> (usize, u32)
+    ensures few { result.0 ≤ length observations.now }
+    ensures grew { GrewByPacked (take result.0 observations.now) before result.1 bytes.old.items bytes.new.items }
+    ensures capacity { vec_capacity bytes.new ≡ vec_capacity bytes.old }
+{
+    let room = bytes.capacity() - bytes.len();
+    let within = &observations[..observations.len().min(room)];
+    let mut site = before;
+    for (i, next) in within.iter().enumerate() {
+        let observation = *next;
+        let number = step_code(site, observation);
+        if number >= 128 {
+            return (i, site);
+        }
+        bytes.push_reserved(number as u8);
+        site = observation.site;
+    }
+    (within.len(), site)
+}
+
 /// The first observation of these bytes, after this site, and the bytes behind it, whatever it takes.
 #[inline(never)]
 fn read_slowly(before: u32, bytes: &[u8]) -> Option<(Observation, &[u8])>
-    ensures { MatchOption result (unpacked before 0 bytes.now ≡ []) (λ found. unpacked before 0 bytes.now ≡ found.0 ∷ unpacked found.0.site 0 found.1.now) }
+    ensures { MatchOption result (observations_of_bytes before 0 bytes.now ≡ [])
+        (λ found. observations_of_bytes before 0 bytes.now ≡ found.0 ∷ observations_of_bytes found.0.site 0 found.1.now) }
 {
     let mut number = 0;
     for (i, byte) in bytes.iter().enumerate() {
@@ -144,7 +171,8 @@ fn read_slowly(before: u32, bytes: &[u8]) -> Option<(Observation, &[u8])>
 /// The first observation of these bytes, after this site, and the bytes behind it: at once where it takes one byte.
 #[inline]
 fn read_one(before: u32, bytes: &[u8]) -> Option<(Observation, &[u8])>
-    ensures { MatchOption result (unpacked before 0 bytes.now ≡ []) (λ found. unpacked before 0 bytes.now ≡ found.0 ∷ unpacked found.0.site 0 found.1.now) }
+    ensures { MatchOption result (observations_of_bytes before 0 bytes.now ≡ [])
+        (λ found. observations_of_bytes before 0 bytes.now ≡ found.0 ∷ observations_of_bytes found.0.site 0 found.1.now) }
 {
     if let Some((byte, rest)) = bytes.split_first() {
         if *byte < 128 {
@@ -223,6 +251,36 @@ impl History {
         self.push_slowly(observation)
     }
 
+    /// Adds the first of these, as long as each takes one byte and there is room. Says how many. The bytes are a variable meanwhile, so that their
+    /// length need not be written after each.
+    fn push_short(&mut self, observations: &[Observation]) -> usize
+        ensures few { result ≤ length observations.now }
+        ensures added { self.new ≡ self.old ++ take result observations.now }
+    {
+        let empty = Vec::new(*self.bytes.allocator());
+        let mut bytes = mem::replace(&mut self.bytes, empty);
+        let (count, site) = push_bytes(&mut bytes, self.site, observations);
+        self.bytes = bytes;
+        self.site = site;
+        count
+    }
+
+    /// Adds several at the end, in order. After `Memory` the first of them alone are added.
+    pub fn push_several(&mut self, observations: &[Observation]) -> Result<(), Memory>
+        ensures ok { OnOk result (self.new ≡ self.old ++ observations.now) }
+        ensures memory { OnErr result (GrewByPrefix observations.now self.old self.new) }
+    {
+        let mut added = 0;
+        while added < observations.len() {
+            added += self.push_short(&observations[added..]);
+            if added < observations.len() {
+                self.push_slowly(observations[added])?;
+                added += 1;
+            }
+        }
+        Ok(())
+    }
+
     pub fn iter(&self) -> Observations<'_>
         ensures value { result ≡ self.now }
         ensures few { length self.now < 2 ^ 63 }
@@ -254,11 +312,11 @@ pub struct Observations<'a> {
 impl<'a> Model for Observations<'a> {
     ghost use Rattle.std.specs.Prelude.{List};
     ghost use Rattle.cbi_base.specs.declared.observation.Observation.{Observation};
-    ghost use Rattle.probes.specs.History.{unpacked};
+    ghost use Rattle.probes.specs.History.{observations_of_bytes};
 
     ghost Value = { List Observation };
 
-    ghost view = { λ o. unpacked o.before 0 o.bytes.now };
+    ghost view = { λ o. observations_of_bytes o.before 0 o.bytes.now };
 }
 
 impl<'a> Iterator for Observations<'a> {
@@ -288,13 +346,13 @@ pub struct Latest<'a> {
 impl<'a> Model for Latest<'a> {
     ghost use Rattle.std.specs.Prelude.{List, ℕ, reverse};
     ghost use Rattle.probes.specs.Sites.{sites_seen};
-    ghost use Rattle.probes.specs.History.{unpacked, IsPacked};
+    ghost use Rattle.probes.specs.History.{observations_of_bytes, IsPacked};
 
     ghost Value = { List ℕ };
 
-    ghost view = { λ l. reverse (sites_seen (unpacked 0 0 l.bytes.now)) };
+    ghost view = { λ l. reverse (sites_seen (observations_of_bytes 0 0 l.bytes.now)) };
 
-    ghost invariant = { λ l. IsPacked (unpacked 0 0 l.bytes.now) l.bytes.now l.site 0 };
+    ghost invariant = { λ l. IsPacked (observations_of_bytes 0 0 l.bytes.now) l.bytes.now l.site 0 };
 }
 
 impl<'a> Iterator for Latest<'a> {
@@ -317,6 +375,6 @@ impl<'a> Iterator for Latest<'a> {
 
 /// A law: what the bytes of observations are read as is those observations, and they take at most five bytes each.
 pub fn packed_observations_are_read()
-    ensures read { (seen : List Observation) → All FitsSite seen → unpacked 0 0 (packed 0 seen) ≡ seen }
-    ensures short { (seen : List Observation) → length (packed 0 seen) ≤ 5 * length seen }
+    ensures read { (seen : List Observation) → All FitsSite seen → observations_of_bytes 0 0 (observation_bytes 0 seen) ≡ seen }
+    ensures short { (seen : List Observation) → length (observation_bytes 0 seen) ≤ 5 * length seen }
 {}

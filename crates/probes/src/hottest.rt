@@ -1,9 +1,9 @@
-ghost use Rattle.std.specs.Prelude.{◌≡◌, ◌<◌, ◌≤◌, [], ◌++◌, ◌∷◌, ℕ, List, nat_eq, fold, None, unwrap_or, Some, IfSome, IfOk, OnOk, OnErr};
+ghost use Rattle.std.specs.Prelude.{◌≡◌, ◌<◌, ◌≤◌, [], ◌++◌, ◌∷◌, ℕ, List, nat_eq, fold, None, unwrap_or, Some, IfSome, IfOk, OnOk};
 ghost use Rattle.std.specs.Prelude.{length, slice_index, vec_len};
 ghost use Rattle.indexmap.specs.IndexMap.{get, IsUnique};
 ghost use Rattle.cbi_base.specs.declared.observation.Observation.{Observation};
 ghost use Rattle.probes.specs.Sites.{sites_seen};
-ghost use Rattle.probes.specs.Hottest.{hottest_of, best_of, hottest_line, count_line, hotter, times_of, AreTimes, IsHottest};
+ghost use Rattle.probes.specs.Hottest.{hottest_of, best_of, hottest_line, count_line, hotter_site, times_of, AreTimes, IsHottest};
 
 use crate::history::History;
 use crate::probe::Probe;
@@ -88,7 +88,7 @@ fn times(alloc: Global, history: &History) -> Result<IndexMap<u32, u64>, Memory>
 
 /// Whichever of the two sites was observed more often: the smaller one where that is as often.
 fn hotter(best: Option<(u32, u64)>, site: u32, count: u64) -> Option<(u32, u64)>
-    ensures { result ≡ hotter best (site, count) }
+    ensures { result ≡ hotter_site best (site, count) }
 {
     match best {
         Some((other, most)) if most > count || (most == count && other < site) => best,
@@ -112,7 +112,7 @@ fn hottest_listed(counts: &[u64]) -> Option<(u32, u64)>
 
 /// The site with the greatest count, the smallest among equals, and its count.
 fn hottest_site(counts: &IndexMap<u32, u64>) -> Option<(u32, u64)>
-    ensures value { result ≡ fold hotter None counts.now.entries }
+    ensures value { result ≡ fold hotter_site None counts.now.entries }
     ensures unique { IsUnique nat_eq counts.now }
 {
     counts
@@ -162,6 +162,10 @@ impl Probe for Hottest {
 
     fn see(&mut self, observation: Observation) -> Result<(), Memory> {
         self.history.push(observation)
+    }
+
+    fn see_several(&mut self, observations: &[Observation]) -> Result<(), Memory> {
+        self.history.push_several(observations)
     }
 
     fn line(&self, text: &mut Vec<u8>) -> Result<(), Memory> {

@@ -1,4 +1,4 @@
-ghost use Rattle.std.specs.Prelude.{◌≡◌, [], ◌++◌, ◌∷◌, IfOk, OnOk, OnErr};
+ghost use Rattle.std.specs.Prelude.{◌≡◌, [], ◌++◌, ◌∷◌, IfOk};
 ghost use Rattle.cbi_base.specs.declared.observation.Observation.{Observation};
 ghost use Rattle.probes.specs.Sites.{most_sites, sites_seen};
 ghost use Rattle.probes.specs.LastSeen.{last_of, last_seen_line};
@@ -52,6 +52,10 @@ impl Probe for LastSeen {
 
     fn see(&mut self, observation: Observation) -> Result<(), Memory> {
         self.history.push(observation)
+    }
+
+    fn see_several(&mut self, observations: &[Observation]) -> Result<(), Memory> {
+        self.history.push_several(observations)
     }
 
     fn line(&self, text: &mut Vec<u8>) -> Result<(), Memory> {

@@ -1,6 +1,6 @@
 ghost use Rattle.std.specs.Prelude.{◌≡◌, [], ◌∷◌, ◌++◌, OnOk, OnErr};
 ghost use Rattle.std.specs.List.{flat_map};
-ghost use Rattle.probes.specs.Told.{AllGrew, AllGrewByPrefix};
+ghost use Rattle.probes.specs.Told.{AllGrew, AllGrewByPrefix, GrewByPrefix};
 
 use crate::probe::Probe;
 use cbi_base::{Memory, Observation};
@@ -30,6 +30,36 @@ pub fn see_all(probes: &mut Vec<Box<dyn Probe>>, observation: Observation) -> Re
     ensures memory { OnErr result (AllGrewByPrefix (λ b. seen b) (observation ∷ []) probes.old.items probes.new.items) }
 {
     see_each(probes.as_mut_slice(), observation)
+}
+
+/// Tells one watcher several.
+fn tell_one(probe: &mut Box<dyn Probe>, observations: &[Observation]) -> Result<(), Memory>
+    ensures ok { OnOk result (seen probe.new ≡ seen probe.old ++ observations.now) }
+    ensures memory { OnErr result (GrewByPrefix observations.now (seen probe.old) (seen probe.new)) }
+{
+    probe.see_several(observations)
+}
+
+/// Tells each of these watchers several, in order.
+fn tell_each(probes: &mut [Box<dyn Probe>], observations: &[Observation]) -> Result<(), Memory>
+    ensures ok { OnOk result (AllGrew (λ b. seen b) observations.now probes.old probes.new) }
+    ensures memory { OnErr result (AllGrewByPrefix (λ b. seen b) observations.now probes.old probes.new) }
+{
+    for probe in probes.iter_mut() {
+        tell_one(probe, observations)?;
+    }
+    Ok(())
+}
+
+/// Tells each watcher several observations, in order. After `Memory` each was told the first of them alone, or all.
+pub fn tell_all(
+    probes: &mut Vec<Box<dyn Probe>>,
+    observations: &[Observation],
+) -> Result<(), Memory>
+    ensures ok { OnOk result (AllGrew (λ b. seen b) observations.now probes.old.items probes.new.items) }
+    ensures memory { OnErr result (AllGrewByPrefix (λ b. seen b) observations.now probes.old.items probes.new.items) }
+{
+    tell_each(probes.as_mut_slice(), observations)
 }
 
 /// Appends one watcher's line.

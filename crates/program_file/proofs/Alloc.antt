@@ -6,7 +6,7 @@ use Rattle.cbi_base.proofs.LineLemmas.{bad-once}
 use Rattle.program_file.specs.declared.draft.Due.{Due}
 use Rattle.program_file.specs.declared.draft.Due.TheVariants as due
 use Rattle.program_file.specs.declared.draft.Draft.{Draft}
-use Rattle.program_file.specs.Draft.{IsWhole, ProgramLineComes, ProgramLineFollows, empty}
+use Rattle.program_file.specs.Draft.{IsWhole, ProgramLineComes, ProgramLineFollows, empty_draft}
 use Rattle.program_file.specs.WrongLine.{IsWrongAt}
 use Rattle.program_file.proofs.Grammar.{follows-once}
 
@@ -40,7 +40,7 @@ leads-moved x from to [] h = ap (moved x) h
 leads-moved x from to (line ∷ lines) h = (moved x h.0, comes-moved x from.due from line h.0 h.1, leads-moved x h.0 to lines h.2)
 
 -- a text is wrong at the same line whichever the allocator
-pub bad-moved : (x y : Heap) (text : List ℕ) (line : ℕ) → IsBadLine ProgramLineFollows IsWhole (empty y) text line → IsBadLine ProgramLineFollows IsWhole (empty x) text line
+pub bad-moved : (x y : Heap) (text : List ℕ) (line : ℕ) → IsBadLine ProgramLineFollows IsWhole (empty_draft y) text line → IsBadLine ProgramLineFollows IsWhole (empty_draft x) text line
 bad-moved x y text line bad = record {
   good = bad.good;
   rest = bad.rest;
@@ -48,7 +48,7 @@ bad-moved x y text line bad = record {
   prefix = record {
     text_is = bad.prefix.text_is;
     are_lines = bad.prefix.are_lines;
-    leads = leads-moved x (empty y) bad.state bad.good bad.prefix.leads;
+    leads = leads-moved x (empty_draft y) bad.state bad.good bad.prefix.leads;
   };
   stops = record {
     no_line = λ next more after lacks is f. bad.stops.no_line next more (moved bad.state.alloc after) lacks is (comes-moved bad.state.alloc bad.state.due (moved x bad.state) next after f);
@@ -59,4 +59,4 @@ bad-moved x y text line bad = record {
 
 -- a text is wrong at one line at most
 pub wrong-once : (text : List ℕ) (a b : ℕ) → IsWrongAt text a → IsWrongAt text b → a ≡ b
-wrong-once text a b p q = bad-once ProgramLineFollows IsWhole follows-once (empty p.alloc) text a b p.bad (bad-moved p.alloc q.alloc text b q.bad)
+wrong-once text a b p q = bad-once ProgramLineFollows IsWhole follows-once (empty_draft p.alloc) text a b p.bad (bad-moved p.alloc q.alloc text b q.bad)

@@ -2,7 +2,7 @@
 use Rattle.std.proofs.Common.{◌≡◌, ℕ, List, codes, ap, sym, ◌∙◌}
 use Rattle.base_lists.proofs.Options.{some_is}
 use Rattle.cbi_base.specs.Text.{fields_of}
-use Rattle.flow.specs.Spelling.{Head, counted, end_row}
+use Rattle.flow.specs.Spelling.{Head, word_and_number, end_row}
 use Rattle.program_lines.specs.Rows.{locals_of_row}
 use Rattle.program_file.specs.declared.draft.Due.{Due}
 use Rattle.program_file.specs.declared.draft.Due.TheVariants as due
@@ -23,7 +23,7 @@ pub due-once : (d : Draft) (g h : Head) → IsDue d g → IsDue d h → g ≡ h
 due-once d g h p q = some_is (sym p ∙ q)
 
 comes-once : (next : Due) (d : Draft) (line : List ℕ) (a b : Draft) → ProgramLineComes next d line a → ProgramLineComes next d line b → a ≡ b
-comes-once due.Title d line a b p q = row-once (counted (codes "cbi-program") 1) due.Texts d line a b p q
+comes-once due.Title d line a b p q = row-once (word_and_number (codes "cbi-program") 1) due.Texts d line a b p q
 comes-once due.Text d line a b p q = takes-once _ _ (λ x y s t. ap (λ bs. record { bytes = bs }) (some_is (sym s.reads ∙ t.reads))) a b p q
 comes-once due.Global d line a b p q = takes-once _ _ (λ x y s t. ap (λ cs. record { cells = cs }) (some_is (sym s.reads ∙ t.reads))) a b p q
 comes-once due.Functions d line a b p q = takes-once _ _ (λ x y s t. count-once _ _ line x y s.counts t.counts) a b p q

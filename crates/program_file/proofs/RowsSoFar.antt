@@ -4,10 +4,10 @@ use Rattle.std.specs.List.{flat_map}
 use Rattle.std.proofs.lemmas.Bool.{eqb-true}
 use Rattle.std.proofs.lemmas.List.{append-nil, map-append}
 use Rattle.std.proofs.lemmas.List.Splits.{join_with_byte-slice_split}
-use Rattle.cbi_base.specs.Words.{fields_of, spaced, LeadsTo}
+use Rattle.cbi_base.specs.Words.{fields_of, line_of_fields, LeadsTo}
 use Rattle.flow.specs.declared.node.Node.{Node}
 use Rattle.flow.specs.declared.program.Function.{Function}
-use Rattle.flow.specs.Spelling.{Head, head_fields, text_fields, global_fields, site_fields, node_fields, locals_fields, body_rows, counted, list_rows, whole_list, end_row}
+use Rattle.flow.specs.Spelling.{Head, head_fields, text_fields, global_fields, site_fields, node_fields, locals_fields, body_rows, word_and_number, list_rows, whole_list, end_row}
 use Rattle.program_file.specs.declared.draft.Due.{Due}
 use Rattle.program_file.specs.declared.draft.Due.TheVariants as due
 use Rattle.program_file.specs.declared.draft.Draft.{Draft}
@@ -21,7 +21,7 @@ abbrev pub Rows : Type 0
 Rows = List (List (List ℕ))
 
 abbrev pub front_texts : Draft → Rows
-front_texts d = counted (codes "cbi-program") 1 ∷ whole_list (codes "texts") text_fields d.texts
+front_texts d = word_and_number (codes "cbi-program") 1 ∷ whole_list (codes "texts") text_fields d.texts
 
 abbrev pub front_globals : Draft → Rows
 front_globals d = front_texts d ++ whole_list (codes "globals") global_fields d.globals
@@ -30,7 +30,7 @@ abbrev pub front_heads : Draft → Rows
 front_heads d = front_globals d ++ whole_list (codes "functions") head_fields d.heads
 
 abbrev pub front_main : Draft → Rows
-front_main d = front_heads d ++ (counted (codes "main") d.main ∷ [])
+front_main d = front_heads d ++ (word_and_number (codes "main") d.main ∷ [])
 
 abbrev pub front_sites : Draft → Rows
 front_sites d = front_main d ++ whole_list (codes "sites") site_fields d.sites
@@ -40,8 +40,8 @@ front_bodies d = front_sites d ++ flat_map body_rows d.functions
 
 abbrev pub rows_so_far : Due → Draft → Rows
 rows_so_far due.Title d = []
-rows_so_far due.Texts d = counted (codes "cbi-program") 1 ∷ []
-rows_so_far due.Text d = counted (codes "cbi-program") 1 ∷ list_rows (codes "texts") text_fields d.count d.texts
+rows_so_far due.Texts d = word_and_number (codes "cbi-program") 1 ∷ []
+rows_so_far due.Text d = word_and_number (codes "cbi-program") 1 ∷ list_rows (codes "texts") text_fields d.count d.texts
 rows_so_far due.Globals d = front_texts d
 rows_so_far due.Global d = front_texts d ++ list_rows (codes "globals") global_fields d.count d.globals
 rows_so_far due.Functions d = front_globals d
@@ -55,12 +55,12 @@ rows_so_far due.End d = front_bodies d
 rows_so_far due.Nothing d = front_bodies d ++ (end_row ∷ [])
 
 -- a line that is these fields
-pub line-is : (line : List ℕ) (row : List (List ℕ)) → fields_of line ≡ row → line ≡ spaced row
-line-is line row is = sym (join_with_byte-slice_split 32 line) ∙ ap spaced is
+pub line-is : (line : List ℕ) (row : List (List ℕ)) → fields_of line ≡ row → line ≡ line_of_fields row
+line-is line row is = sym (join_with_byte-slice_split 32 line) ∙ ap line_of_fields is
 
 -- one more row of a list
 list-more : {A : Type 0} (word : List ℕ) (fields : A → List (List ℕ)) (count : ℕ) (items : List A) (item : A) → list_rows word fields count (items ++ item ∷ []) ≡ list_rows word fields count items ++ fields item ∷ []
-list-more word fields count items item = ap (λ rows. counted word count ∷ rows) (map-append fields items (item ∷ []))
+list-more word fields count items item = ap (λ rows. word_and_number word count ∷ rows) (map-append fields items (item ∷ []))
 
 front-more : {A : Type 0} (front : Rows) (word : List ℕ) (fields : A → List (List ℕ)) (count : ℕ) (items : List A) (item : A) → front ++ list_rows word fields count (items ++ item ∷ []) ≡ (front ++ list_rows word fields count items) ++ fields item ∷ []
 front-more front word fields count items item =
@@ -79,7 +79,7 @@ by-test false item past rows want whole more = more refl
 -- the row of a line, and the rows after it
 pub record RowTaken (next : Due) (d : Draft) (line : List ℕ) (after : Draft) : Type 0 where
   pub row : List (List ℕ)
-  pub line_is : line ≡ spaced row
+  pub line_is : line ≡ line_of_fields row
   pub rows_are : rows_so_far after.due after ≡ rows_so_far next d ++ row ∷ []
 
 same-count : (count : ℕ) → (0 == count) ≡ true → count ≡ 0
@@ -114,19 +114,19 @@ row-taken next d line after made row is reads rows = record {
 }
 
 pub comes-row : (next : Due) (d : Draft) (line : List ℕ) (after : Draft) → ProgramLineComes next d line after → RowTaken next d line after
-comes-row due.Title d line after f = record { row = counted (codes "cbi-program") 1; line_is = f.0; rows_are = ap (λ (e : Draft). rows_so_far e.due e) f.1 }
+comes-row due.Title d line after f = record { row = word_and_number (codes "cbi-program") 1; line_is = f.0; rows_are = ap (λ (e : Draft). rows_so_far e.due e) f.1 }
 comes-row due.Texts d line after f =
-    row-taken due.Texts d line after _ (counted (codes "texts") f.0) f.2 (count_of-spelled _ (fields_of line) f.0 f.1.reads)
-    (by-test (0 == f.0) due.Text due.Globals (λ u. rows_so_far u (with_text_count d f.0)) _ (λ none. ap (λ n. counted (codes "cbi-program") 1 ∷ counted (codes "texts") n ∷ []) (sym (same-count f.0 none))) (λ _. refl))
+    row-taken due.Texts d line after _ (word_and_number (codes "texts") f.0) f.2 (count_of-spelled _ (fields_of line) f.0 f.1.reads)
+    (by-test (0 == f.0) due.Text due.Globals (λ u. rows_so_far u (with_text_count d f.0)) _ (λ none. ap (λ n. word_and_number (codes "cbi-program") 1 ∷ word_and_number (codes "texts") n ∷ []) (sym (same-count f.0 none))) (λ _. refl))
 comes-row due.Text d line after f =
     let t = f.0 in
     row-taken due.Text d line after _ (text_fields t) f.2 (text_of_row-spelled (fields_of line) t.bytes f.1.reads)
     (by-test (length d.texts + 1 == d.count) due.Text due.Globals (λ u. rows_so_far u (with_text d t)) _
-    (λ full. front-last (counted (codes "cbi-program") 1 ∷ []) (codes "texts") text_fields d.count d.texts t (eqb-true _ _ full))
-    (λ _. front-more (counted (codes "cbi-program") 1 ∷ []) (codes "texts") text_fields d.count d.texts t))
+    (λ full. front-last (word_and_number (codes "cbi-program") 1 ∷ []) (codes "texts") text_fields d.count d.texts t (eqb-true _ _ full))
+    (λ _. front-more (word_and_number (codes "cbi-program") 1 ∷ []) (codes "texts") text_fields d.count d.texts t))
 comes-row due.Globals d line after f =
-    row-taken due.Globals d line after _ (counted (codes "globals") f.0) f.2 (count_of-spelled _ (fields_of line) f.0 f.1.reads)
-    (by-test (0 == f.0) due.Global due.Functions (λ u. rows_so_far u (with_global_count d f.0)) _ (λ none. ap (λ n. front_texts d ++ counted (codes "globals") n ∷ []) (sym (same-count f.0 none))) (λ _. refl))
+    row-taken due.Globals d line after _ (word_and_number (codes "globals") f.0) f.2 (count_of-spelled _ (fields_of line) f.0 f.1.reads)
+    (by-test (0 == f.0) due.Global due.Functions (λ u. rows_so_far u (with_global_count d f.0)) _ (λ none. ap (λ n. front_texts d ++ word_and_number (codes "globals") n ∷ []) (sym (same-count f.0 none))) (λ _. refl))
 comes-row due.Global d line after f =
     let g = f.0 in
     row-taken due.Global d line after _ (global_fields g) f.2 (global_of_row-spelled _ (fields_of line) g.cells f.1.reads).0
@@ -134,7 +134,7 @@ comes-row due.Global d line after f =
     (λ full. front-last (front_texts d) (codes "globals") global_fields d.count d.globals g (eqb-true _ _ full))
     (λ _. front-more (front_texts d) (codes "globals") global_fields d.count d.globals g))
 comes-row due.Functions d line after f =
-    row-taken due.Functions d line after _ (counted (codes "functions") f.0) f.2 (count_of-spelled _ (fields_of line) f.0 f.1.counts.reads) refl
+    row-taken due.Functions d line after _ (word_and_number (codes "functions") f.0) f.2 (count_of-spelled _ (fields_of line) f.0 f.1.counts.reads) refl
 comes-row due.Head d line after f =
     let h = f.0 in
     row-taken due.Head d line after _ (head_fields h) f.2 (head_of_row-spelled (fields_of line) h f.1.reads)
@@ -142,11 +142,11 @@ comes-row due.Head d line after f =
     (λ full. front-last (front_globals d) (codes "functions") head_fields d.count d.heads h (eqb-true _ _ full))
     (λ _. front-more (front_globals d) (codes "functions") head_fields d.count d.heads h))
 comes-row due.Main d line after f =
-    row-taken due.Main d line after _ (counted (codes "main") f.0) f.2 (count_of-spelled _ (fields_of line) f.0 f.1.reads) refl
+    row-taken due.Main d line after _ (word_and_number (codes "main") f.0) f.2 (count_of-spelled _ (fields_of line) f.0 f.1.reads) refl
 comes-row due.Sites d line after f =
-    row-taken due.Sites d line after _ (counted (codes "sites") f.0) f.2 (count_of-spelled _ (fields_of line) f.0 f.1.reads)
+    row-taken due.Sites d line after _ (word_and_number (codes "sites") f.0) f.2 (count_of-spelled _ (fields_of line) f.0 f.1.reads)
     (chosen-rows (0 == f.0) _ _ _
-    (λ none. append-nil (front_main d ++ counted (codes "sites") 0 ∷ []) ∙ ap (λ n. front_main d ++ counted (codes "sites") n ∷ []) (sym (same-count f.0 none)))
+    (λ none. append-nil (front_main d ++ word_and_number (codes "sites") 0 ∷ []) ∙ ap (λ n. front_main d ++ word_and_number (codes "sites") n ∷ []) (sym (same-count f.0 none)))
     (λ _. refl))
 comes-row due.Site d line after f =
     let s = f.0 in
@@ -170,7 +170,7 @@ comes-row due.Nothing d line after f = absurd f
 -- the lines that lead from one state to another are rows
 pub record RowsTaken (from : Draft) (lines : List (List ℕ)) (to : Draft) : Type 0 where
   pub rows : Rows
-  pub lines_are : lines ≡ map spaced rows
+  pub lines_are : lines ≡ map line_of_fields rows
   pub rows_are : rows_so_far to.due to ≡ rows_so_far from.due from ++ rows
 
 pub leads-rows : (from to : Draft) (lines : List (List ℕ)) → LeadsTo ProgramLineFollows from lines to → RowsTaken from lines to
@@ -183,6 +183,6 @@ leads-rows from to (line ∷ lines) leads =
     let first = comes-row from.due from line leads.0 leads.1 in
     let rest = leads-rows leads.0 to lines leads.2 in record {
       rows = first.row ∷ rest.rows;
-      lines_are = ap (λ l. l ∷ lines) first.line_is ∙ ap (λ ls. spaced first.row ∷ ls) rest.lines_are;
+      lines_are = ap (λ l. l ∷ lines) first.line_is ∙ ap (λ ls. line_of_fields first.row ∷ ls) rest.lines_are;
       rows_are = rest.rows_are ∙ ap (λ rs. rs ++ rest.rows) first.rows_are ∙ append_assoc (rows_so_far from.due from) (first.row ∷ []) rest.rows;
     }

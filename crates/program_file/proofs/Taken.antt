@@ -4,14 +4,14 @@ use Rattle.std.proofs.lemmas.Bool.{eq-eqb, false≢true}
 use Rattle.std.proofs.lemmas.Fmt.{decimal_digit}
 use Rattle.base_lists.proofs.Options.{some_is}
 use Rattle.base_lists.proofs.Lists.{get_map}
-use Rattle.cbi_base.specs.Words.{fields_of, spaced, TakenWith}
+use Rattle.cbi_base.specs.Words.{fields_of, line_of_fields, TakenWith}
 use Rattle.cbi_base.specs.declared.lines.LineError.{LineError}
 use Rattle.cbi_base.specs.declared.lines.LineError.TheVariants.{Bad, Memory}
 use Rattle.flow.specs.declared.node.Node.{Node}
 use Rattle.flow.specs.declared.program.Function.{Function}
 use Rattle.flow.specs.declared.site.Site.{Site}
 use Rattle.flow.specs.declared.scope.Bounds.{Bounds}
-use Rattle.flow.specs.Words.{node_fits, SiteFits, Head, counted}
+use Rattle.flow.specs.Words.{node_fits, SiteFits, Head, word_and_number}
 use Rattle.program_file.specs.declared.draft.Due.{Due}
 use Rattle.program_file.specs.declared.draft.Due.TheVariants as due
 use Rattle.program_file.specs.declared.draft.Draft.{Draft}
@@ -70,5 +70,5 @@ passed d h f next functions locals nodes full is_f is_fs is_due no_locals no_nod
     ∙ sym (ap (λ b. cond b (with_function d g) (record d { due = due.Node; nodes = d.nodes })) (eq-eqb (length d.nodes) h.nodes full))
 
 -- the first line of each program file
-pub title-row : spaced (counted (codes "cbi-program") 1) ≡ codes "cbi-program 1"
-title-row = ap (λ d. spaced (codes "cbi-program" ∷ d ∷ [])) (decimal_digit 1 (omega arith))
+pub title-row : line_of_fields (word_and_number (codes "cbi-program") 1) ≡ codes "cbi-program 1"
+title-row = ap (λ d. line_of_fields (codes "cbi-program" ∷ d ∷ [])) (decimal_digit 1 (omega arith))

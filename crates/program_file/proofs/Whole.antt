@@ -11,7 +11,7 @@ use Rattle.base_lists.proofs.Tests.{some_choice}
 use Rattle.base_lists.proofs.Options.{some_is}
 use Rattle.base_lists.proofs.Numbers.{less_apart}
 use Rattle.base_lists.proofs.Lists.{get_map}
-use Rattle.cbi_base.specs.Words.{conversions_of, is_percent, is_conversion, IsField, fields_of, spaced, text_of, AreLines, is_newline, Lacks, LeadsTo}
+use Rattle.cbi_base.specs.Words.{conversions_of, is_percent, is_conversion, IsField, fields_of, line_of_fields, text_of, AreLines, is_newline, Lacks, LeadsTo}
 use Rattle.cbi_base.specs.Words.{ReadsLines, greatest_u32}
 use Rattle.cbi_base.proofs.FieldLemmas.{spaced-lacks-newline}
 use Rattle.cbi_base.proofs.LineLemmas.{reads-once}
@@ -20,12 +20,12 @@ use Rattle.flow.specs.declared.program.Function.{Function}
 use Rattle.flow.specs.declared.program.ProgramParts.{ProgramParts}
 use Rattle.flow.specs.declared.site.Site.{Site}
 use Rattle.flow.specs.Words.{function_limit, AreSites, IsFunction, IsProgram, names_of, bounds_of, is_size, Head, head_of, head_fields, text_fields}
-use Rattle.flow.specs.Words.{global_fields, site_fields, body_rows, counted, whole_list, end_row, program_rows, SpellsProgram}
+use Rattle.flow.specs.Words.{global_fields, site_fields, body_rows, word_and_number, whole_list, end_row, program_rows, SpellsProgram}
 use Rattle.program_lines.specs.Rows.{count_of}
 use Rattle.program_file.specs.declared.draft.Due.{Due}
 use Rattle.program_file.specs.declared.draft.Due.TheVariants as due
 use Rattle.program_file.specs.declared.draft.Draft.{Draft}
-use Rattle.program_file.specs.Draft.{ProgramLineFollows, IsWhole, IsHead, due_after, names_in, parts_in, empty}
+use Rattle.program_file.specs.Draft.{ProgramLineFollows, IsWhole, IsHead, due_after, names_in, parts_in, empty_draft}
 use Rattle.program_lines.proofs.RowReads.{count_of-fields, are_fields-count}
 use Rattle.program_file.proofs.Grammar.{follows-once}
 use Rattle.program_file.proofs.RowsSoFar.{leads-rows, rows_so_far}
@@ -43,11 +43,11 @@ whole-spelled start end text starts reads =
     let held = subst (λ u. Sound u end) reads.over (leads-sound start end reads.lines reads.leads begun) in
     let heads = heads-whole end held.0 held.1 in record {
       is_program = whole-program end held.0 held.1;
-      text_is = reads.text_is ∙ ap text_of taken.lines_are ∙ ap (λ rs. text_of (map spaced rs)) (sym rows ∙ as-rows end heads);
+      text_is = reads.text_is ∙ ap text_of taken.lines_are ∙ ap (λ rs. text_of (map line_of_fields rs)) (sym rows ∙ as-rows end heads);
     }
   where
     as-rows : (d : Draft) → d.heads ≡ map head_of d.functions → rows_so_far due.Nothing d ≡ program_rows (parts_in d)
-    as-rows d heads = ap (λ hs. ((counted (codes "cbi-program") 1 ∷ whole_list (codes "texts") text_fields d.texts) ++ whole_list (codes "globals") global_fields d.globals ++ whole_list (codes "functions") head_fields hs ++ (counted (codes "main") d.main ∷ []) ++ whole_list (codes "sites") site_fields d.sites) ++ flat_map body_rows d.functions ++ (end_row ∷ [])) heads
+    as-rows d heads = ap (λ hs. ((word_and_number (codes "cbi-program") 1 ∷ whole_list (codes "texts") text_fields d.texts) ++ whole_list (codes "globals") global_fields d.globals ++ whole_list (codes "functions") head_fields hs ++ (word_and_number (codes "main") d.main ∷ []) ++ whole_list (codes "sites") site_fields d.sites) ++ flat_map body_rows d.functions ++ (end_row ∷ [])) heads
 
 -- the heads of a program's functions
 heads-of : (p : ProgramParts) → IsProgram p → ProgramHeads (length (map head_of p.functions)) (map head_of p.functions)
@@ -90,15 +90,15 @@ map-flat_map : {A B C : Type 0} (g : B → C) (f : A → List B) (xs : List A) �
 map-flat_map g f [] = refl
 map-flat_map g f (x ∷ xs) = map-append g (f x) (flat_map f xs) ∙ ap (λ ys. map g (f x) ++ ys) (map-flat_map g f xs)
 
-count-reads : (word : List ℕ) (n : ℕ) → IsField word → n ≤ greatest_u32 → count_of word (fields_of (spaced (counted word n))) ≡ Some n
-count-reads word n is few = ap (count_of word) (row-fields (counted word n) (λ e. cc) (are_fields-count word n is few)) ∙ count_of-fields word n few
+count-reads : (word : List ℕ) (n : ℕ) → IsField word → n ≤ greatest_u32 → count_of word (fields_of (line_of_fields (word_and_number word n))) ≡ Some n
+count-reads word n is few = ap (count_of word) (row-fields (word_and_number word n) (λ e. cc) (are_fields-count word n is few)) ∙ count_of-fields word n few
 
 full-due : (n : ℕ) (item past : Due) → due_after n n item past ≡ past
 full-due n item past = ap (λ b. cond b past item) (eq-eqb n n refl)
 
 -- a list: the line of its count, and those of its items
-part : (from first last to : Draft) (word : List ℕ) (fields : List (List (List ℕ))) (n : ℕ) → ProgramLineFollows from (spaced (counted word n)) first → LeadsTo ProgramLineFollows first (map spaced fields) last → last ≡ to → LeadsTo ProgramLineFollows from (map spaced (counted word n ∷ fields)) to
-part from first last to word fields n f leads same = (first, f, subst (λ e. LeadsTo ProgramLineFollows first (map spaced fields) e) same leads)
+part : (from first last to : Draft) (word : List ℕ) (fields : List (List (List ℕ))) (n : ℕ) → ProgramLineFollows from (line_of_fields (word_and_number word n)) first → LeadsTo ProgramLineFollows first (map line_of_fields fields) last → last ≡ to → LeadsTo ProgramLineFollows from (map line_of_fields (word_and_number word n ∷ fields)) to
+part from first last to word fields n f leads same = (first, f, subst (λ e. LeadsTo ProgramLineFollows first (map line_of_fields fields) e) same leads)
 
 sizes-small : (sizes : List ℕ) → AllByRecursion (λ size. IsTrue (is_size size)) sizes → AllByRecursion (λ size. size ≤ greatest_u32) sizes
 sizes-small [] h = tt
@@ -108,7 +108,7 @@ abbrev pub heads : ProgramParts → List Head
 heads p = map head_of p.functions
 
 abbrev pub started : Heap → Draft
-started alloc = record (empty alloc) { due = due.Texts }
+started alloc = record (empty_draft alloc) { due = due.Texts }
 
 abbrev pub texted : Heap → ProgramParts → Draft
 texted alloc p = record (started alloc) { due = due.Globals; count = length p.texts; texts = p.texts }
@@ -132,7 +132,7 @@ abbrev pub whole : Heap → ProgramParts → Draft
 whole alloc p = record (closed alloc p) { due = due.Nothing }
 
 module _ (alloc : Heap) (p : ProgramParts) (is : IsProgram p) where
-  texts-part : LeadsTo ProgramLineFollows (empty alloc) (map spaced (counted (codes "cbi-program") 1 ∷ whole_list (codes "texts") text_fields p.texts)) (texted alloc p)
+  texts-part : LeadsTo ProgramLineFollows (empty_draft alloc) (map line_of_fields (word_and_number (codes "cbi-program") 1 ∷ whole_list (codes "texts") text_fields p.texts)) (texted alloc p)
   texts-part = (
     (started alloc),
     (refl, refl),
@@ -142,7 +142,7 @@ module _ (alloc : Heap) (p : ProgramParts) (is : IsProgram p) where
         (ap (λ u. record (started alloc) { due = u; count = length p.texts; texts = p.texts }) (full-due (length p.texts) due.Text due.Globals)),
   )
 
-  globals-part : LeadsTo ProgramLineFollows (texted alloc p) (map spaced (whole_list (codes "globals") global_fields p.globals)) (globaled alloc p)
+  globals-part : LeadsTo ProgramLineFollows (texted alloc p) (map line_of_fields (whole_list (codes "globals") global_fields p.globals)) (globaled alloc p)
   globals-part =
       part (texted alloc p) (global-state (texted alloc p) (length p.globals) []) (global-state (texted alloc p) (length p.globals) p.globals) (globaled alloc p) (codes "globals") (map global_fields p.globals) (length p.globals)
       (length p.globals, record { reads = count-reads (codes "globals") (length p.globals) refl (omega (arith, is.parts.globals.few)); few = is.parts.globals.few }, refl)
@@ -158,19 +158,19 @@ module _ (alloc : Heap) (p : ProgramParts) (is : IsProgram p) where
   head-begins : head-state (globaled alloc p) (length (heads p)) [] ≡ record (globaled alloc p) { due = due.Head; count = length (heads p); heads = [] }
   head-begins = ap (λ b. record (globaled alloc p) { due = cond b due.Main due.Head; count = length (heads p); heads = [] }) (less_apart 0 (length (heads p)) heads-some)
 
-  heads-part : LeadsTo ProgramLineFollows (globaled alloc p) (map spaced (whole_list (codes "functions") head_fields (heads p))) (headed alloc p)
+  heads-part : LeadsTo ProgramLineFollows (globaled alloc p) (map line_of_fields (whole_list (codes "functions") head_fields (heads p))) (headed alloc p)
   heads-part =
       part (globaled alloc p) (record (globaled alloc p) { due = due.Head; count = length (heads p); heads = [] }) (head-state (globaled alloc p) (length (heads p)) (heads p)) (headed alloc p) (codes "functions") (map head_fields (heads p)) (length (heads p))
       (length (heads p), record { counts = record { reads = count-reads (codes "functions") (length (heads p)) refl (omega (arith, heads-few)); few = heads-few }; some = omega (arith, heads-some) }, refl)
-      (subst (λ e. LeadsTo ProgramLineFollows e (map spaced (map head_fields (heads p))) (head-state (globaled alloc p) (length (heads p)) (heads p))) head-begins (heads-lead (globaled alloc p) (heads p) (heads-of p is)))
+      (subst (λ e. LeadsTo ProgramLineFollows e (map line_of_fields (map head_fields (heads p))) (head-state (globaled alloc p) (length (heads p)) (heads p))) head-begins (heads-lead (globaled alloc p) (heads p) (heads-of p is)))
       (ap (λ u. record (globaled alloc p) { due = u; count = length (heads p); heads = heads p }) (full-due (length (heads p)) due.Head due.Main))
 
-  main-part : LeadsTo ProgramLineFollows (headed alloc p) (map spaced (counted (codes "main") p.main ∷ [])) (mained alloc p)
+  main-part : LeadsTo ProgramLineFollows (headed alloc p) (map line_of_fields (word_and_number (codes "main") p.main ∷ [])) (mained alloc p)
   main-part =
       let m = is.parts.main in
       let stands = get_map head_of p.functions p.main m.0 m.1 in
       let few : p.main ≤ greatest_u32 = omega (arith, slice_get_within p.functions p.main m.0 m.1, is.parts.few.few) in
-      leads-one (headed alloc p) (mained alloc p) (spaced (counted (codes "main") p.main)) (p.main, record { reads = count-reads (codes "main") p.main refl few; head = head_of m.0; stands = stands; result = m.2.result; params = m.2.params }, refl)
+      leads-one (headed alloc p) (mained alloc p) (line_of_fields (word_and_number (codes "main") p.main)) (p.main, record { reads = count-reads (codes "main") p.main refl few; head = head_of m.0; stands = stands; result = m.2.result; params = m.2.params }, refl)
 
   small-locals : SmallLocals (map (λ h. h.locals) (heads p)) (length p.globals)
   small-locals = record {
@@ -181,7 +181,7 @@ module _ (alloc : Heap) (p : ProgramParts) (is : IsProgram p) where
     few_globals = omega (arith, is.parts.globals.few);
   }
 
-  sites-part : LeadsTo ProgramLineFollows (mained alloc p) (map spaced (whole_list (codes "sites") site_fields p.sites)) (opened alloc p)
+  sites-part : LeadsTo ProgramLineFollows (mained alloc p) (map line_of_fields (whole_list (codes "sites") site_fields p.sites)) (opened alloc p)
   sites-part =
       let locals = map-map head_of (λ (h : Head). h.locals) p.functions in
       let are = subst (λ ls. AreSites ls (length p.globals) p.sites) (sym locals) is.parts.sites in
@@ -216,69 +216,69 @@ module _ (alloc : Heap) (p : ProgramParts) (is : IsProgram p) where
         is = subst (λ n. IsFunction n (length xs) z) (sym names-same) fits;
       }
 
-  functions-part : LeadsTo ProgramLineFollows (opened alloc p) (map spaced (flat_map body_rows p.functions)) (closed alloc p)
+  functions-part : LeadsTo ProgramLineFollows (opened alloc p) (map line_of_fields (flat_map body_rows p.functions)) (closed alloc p)
   functions-part =
       let begin : function-state (opened alloc p) [] ≡ (opened alloc p) = ap (λ b. record (opened alloc p) { due = cond b due.End due.Locals }) (less_apart 0 (length (heads p)) heads-some) in
       let end : function-state (opened alloc p) p.functions ≡ (closed alloc p) = ap (λ n. record (opened alloc p) { due = due_after n (length (heads p)) due.Locals due.End; functions = p.functions }) (sym (length-map head_of p.functions)) ∙ ap (λ u. record (opened alloc p) { due = u; functions = p.functions }) (full-due (length (heads p)) due.Locals due.End) in
-      let leads = list-leads (λ f. map spaced (body_rows f)) (function-state (opened alloc p)) (FunctionComes (opened alloc p)) (function-step (opened alloc p)) [] p.functions (each-of (λ all. all ≡ p.functions) (FunctionComes (opened alloc p)) function-one [] p.functions refl) in
-      subst (λ ls. LeadsTo ProgramLineFollows (opened alloc p) ls (closed alloc p)) (sym (map-flat_map spaced body_rows p.functions))
-      (subst (λ e. LeadsTo ProgramLineFollows (opened alloc p) (flat_map (λ f. map spaced (body_rows f)) p.functions) e) end (subst (λ e. LeadsTo ProgramLineFollows e (flat_map (λ f. map spaced (body_rows f)) p.functions) (function-state (opened alloc p) p.functions)) begin leads))
+      let leads = list-leads (λ f. map line_of_fields (body_rows f)) (function-state (opened alloc p)) (FunctionComes (opened alloc p)) (function-step (opened alloc p)) [] p.functions (each-of (λ all. all ≡ p.functions) (FunctionComes (opened alloc p)) function-one [] p.functions refl) in
+      subst (λ ls. LeadsTo ProgramLineFollows (opened alloc p) ls (closed alloc p)) (sym (map-flat_map line_of_fields body_rows p.functions))
+      (subst (λ e. LeadsTo ProgramLineFollows (opened alloc p) (flat_map (λ f. map line_of_fields (body_rows f)) p.functions) e) end (subst (λ e. LeadsTo ProgramLineFollows e (flat_map (λ f. map line_of_fields (body_rows f)) p.functions) (function-state (opened alloc p) p.functions)) begin leads))
 
-  end-part : LeadsTo ProgramLineFollows (closed alloc p) (map spaced (end_row ∷ [])) (whole alloc p)
-  end-part = leads-one (closed alloc p) (whole alloc p) (spaced end_row) (refl, refl)
+  end-part : LeadsTo ProgramLineFollows (closed alloc p) (map line_of_fields (end_row ∷ [])) (whole alloc p)
+  end-part = leads-one (closed alloc p) (whole alloc p) (line_of_fields end_row) (refl, refl)
 
-count-line : (word : List ℕ) (n : ℕ) → IsField word → n ≤ greatest_u32 → Lacks is_newline (spaced (counted word n))
-count-line word n is few = spaced-lacks-newline (counted word n) (are_fields-count word n is few)
+count-line : (word : List ℕ) (n : ℕ) → IsField word → n ≤ greatest_u32 → Lacks is_newline (line_of_fields (word_and_number word n))
+count-line word n is few = spaced-lacks-newline (word_and_number word n) (are_fields-count word n is few)
 
-bodies-lines : (functions : List Function) → AllByRecursion (λ f. AreLines (map spaced (body_rows f))) functions → AreLines (map spaced (flat_map body_rows functions))
+bodies-lines : (functions : List Function) → AllByRecursion (λ f. AreLines (map line_of_fields (body_rows f))) functions → AreLines (map line_of_fields (flat_map body_rows functions))
 bodies-lines [] h = tt
 bodies-lines (f ∷ fs) h = rows-append (body_rows f) (flat_map body_rows fs) h.0 (bodies-lines fs h.1)
 
 -- the lines of a program have no newline
-pub whole-lines : (alloc : Heap) (p : ProgramParts) → IsProgram p → AreLines (map spaced (program_rows p))
+pub whole-lines : (alloc : Heap) (p : ProgramParts) → IsProgram p → AreLines (map line_of_fields (program_rows p))
 whole-lines alloc p is =
     let hs = map head_of p.functions in
-    let a = counted (codes "cbi-program") 1 ∷ whole_list (codes "texts") text_fields p.texts in
+    let a = word_and_number (codes "cbi-program") 1 ∷ whole_list (codes "texts") text_fields p.texts in
     let b = whole_list (codes "globals") global_fields p.globals in
     let c = whole_list (codes "functions") head_fields hs in
-    let d = counted (codes "main") p.main ∷ [] in
+    let d = word_and_number (codes "main") p.main ∷ [] in
     let e = whole_list (codes "sites") site_fields p.sites in
     let f = flat_map body_rows p.functions in
     let g = end_row ∷ [] in
-    let a_lines : AreLines (map spaced a) = (count-line (codes "cbi-program") 1 refl (omega arith), (count-line (codes "texts") (length p.texts) refl (omega (arith, is.parts.texts.few)), texts-lines p.texts is.parts.texts)) in
-    let b_lines : AreLines (map spaced b) = (count-line (codes "globals") (length p.globals) refl (omega (arith, is.parts.globals.few)), globals-lines (length p.texts) p.globals is.parts.texts.few is.parts.globals) in
-    let c_lines : AreLines (map spaced c) = (count-line (codes "functions") (length hs) refl (omega (arith, heads-few alloc p is)), heads-lines hs (heads-of p is)) in
-    let d_lines : AreLines (map spaced d) = (count-line (codes "main") p.main refl (omega (arith, slice_get_within p.functions p.main is.parts.main.0 is.parts.main.1, is.parts.few.few)), tt) in
+    let a_lines : AreLines (map line_of_fields a) = (count-line (codes "cbi-program") 1 refl (omega arith), (count-line (codes "texts") (length p.texts) refl (omega (arith, is.parts.texts.few)), texts-lines p.texts is.parts.texts)) in
+    let b_lines : AreLines (map line_of_fields b) = (count-line (codes "globals") (length p.globals) refl (omega (arith, is.parts.globals.few)), globals-lines (length p.texts) p.globals is.parts.texts.few is.parts.globals) in
+    let c_lines : AreLines (map line_of_fields c) = (count-line (codes "functions") (length hs) refl (omega (arith, heads-few alloc p is)), heads-lines hs (heads-of p is)) in
+    let d_lines : AreLines (map line_of_fields d) = (count-line (codes "main") p.main refl (omega (arith, slice_get_within p.functions p.main is.parts.main.0 is.parts.main.1, is.parts.few.few)), tt) in
     let sites = subst (λ ls. AreSites ls (length p.globals) p.sites) (sym (map-map head_of (λ (h : Head). h.locals) p.functions)) is.parts.sites in
-    let e_lines : AreLines (map spaced e) = (count-line (codes "sites") (length p.sites) refl (omega (arith, is.parts.sites.few)), sites-lines (map (λ h. h.locals) hs) (length p.globals) p.sites (small-locals alloc p is) sites) in
-    let f_lines : AreLines (map spaced f) = bodies-lines p.functions (each-index _ p.functions (λ i h at. let fits = is.functions.each i h at in body-lines (names_of p) i h (small-names alloc p is i h at) (sizes-small h.locals (recursion_from_All _ h.locals fits.locals.sizes)) fits)) in
-    let g_lines : AreLines (map spaced g) = (spaced-lacks-newline end_row (refl, tt), tt) in
+    let e_lines : AreLines (map line_of_fields e) = (count-line (codes "sites") (length p.sites) refl (omega (arith, is.parts.sites.few)), sites-lines (map (λ h. h.locals) hs) (length p.globals) p.sites (small-locals alloc p is) sites) in
+    let f_lines : AreLines (map line_of_fields f) = bodies-lines p.functions (each-index _ p.functions (λ i h at. let fits = is.functions.each i h at in body-lines (names_of p) i h (small-names alloc p is i h at) (sizes-small h.locals (recursion_from_All _ h.locals fits.locals.sizes)) fits)) in
+    let g_lines : AreLines (map line_of_fields g) = (spaced-lacks-newline end_row (refl, tt), tt) in
     rows-append (a ++ b ++ c ++ d ++ e ++ f) g (rows-append (a ++ b ++ c ++ d ++ e) f (rows-append (a ++ b ++ c ++ d) e (rows-append (a ++ b ++ c) d (rows-append (a ++ b) c (rows-append a b a_lines b_lines) c_lines) d_lines) e_lines) f_lines) g_lines
 
 -- the lines of a program, by its parts
-pub whole-leads : (alloc : Heap) (p : ProgramParts) → IsProgram p → LeadsTo ProgramLineFollows (empty alloc) (map spaced (program_rows p)) (whole alloc p)
+pub whole-leads : (alloc : Heap) (p : ProgramParts) → IsProgram p → LeadsTo ProgramLineFollows (empty_draft alloc) (map line_of_fields (program_rows p)) (whole alloc p)
 whole-leads alloc p is =
-    let a = counted (codes "cbi-program") 1 ∷ whole_list (codes "texts") text_fields p.texts in
+    let a = word_and_number (codes "cbi-program") 1 ∷ whole_list (codes "texts") text_fields p.texts in
     let b = whole_list (codes "globals") global_fields p.globals in
     let c = whole_list (codes "functions") head_fields (map head_of p.functions) in
-    let d = counted (codes "main") p.main ∷ [] in
+    let d = word_and_number (codes "main") p.main ∷ [] in
     let e = whole_list (codes "sites") site_fields p.sites in
     let f = flat_map body_rows p.functions in
     let g = end_row ∷ [] in
-    let two = joined (empty alloc) (texted alloc p) (globaled alloc p) a b (texts-part alloc p is) (globals-part alloc p is) in
-    let three = joined (empty alloc) (globaled alloc p) (headed alloc p) (a ++ b) c two (heads-part alloc p is) in
-    let four = joined (empty alloc) (headed alloc p) (mained alloc p) (a ++ b ++ c) d three (main-part alloc p is) in
-    let five = joined (empty alloc) (mained alloc p) (opened alloc p) (a ++ b ++ c ++ d) e four (sites-part alloc p is) in
-    let six = joined (empty alloc) (opened alloc p) (closed alloc p) (a ++ b ++ c ++ d ++ e) f five (functions-part alloc p is) in
-    joined (empty alloc) (closed alloc p) (whole alloc p) (a ++ b ++ c ++ d ++ e ++ f) g six (end-part alloc p is)
+    let two = joined (empty_draft alloc) (texted alloc p) (globaled alloc p) a b (texts-part alloc p is) (globals-part alloc p is) in
+    let three = joined (empty_draft alloc) (globaled alloc p) (headed alloc p) (a ++ b) c two (heads-part alloc p is) in
+    let four = joined (empty_draft alloc) (headed alloc p) (mained alloc p) (a ++ b ++ c) d three (main-part alloc p is) in
+    let five = joined (empty_draft alloc) (mained alloc p) (opened alloc p) (a ++ b ++ c ++ d) e four (sites-part alloc p is) in
+    let six = joined (empty_draft alloc) (opened alloc p) (closed alloc p) (a ++ b ++ c ++ d ++ e) f five (functions-part alloc p is) in
+    joined (empty_draft alloc) (closed alloc p) (whole alloc p) (a ++ b ++ c ++ d ++ e ++ f) g six (end-part alloc p is)
   where
-    joined : (from via to : Draft) (x y : List (List (List ℕ))) → LeadsTo ProgramLineFollows from (map spaced x) via → LeadsTo ProgramLineFollows via (map spaced y) to → LeadsTo ProgramLineFollows from (map spaced (x ++ y)) to
-    joined from via to x y p q = subst (λ ls. LeadsTo ProgramLineFollows from ls to) (sym (map-append spaced x y)) (leads-append from via to (map spaced x) (map spaced y) p q)
+    joined : (from via to : Draft) (x y : List (List (List ℕ))) → LeadsTo ProgramLineFollows from (map line_of_fields x) via → LeadsTo ProgramLineFollows via (map line_of_fields y) to → LeadsTo ProgramLineFollows from (map line_of_fields (x ++ y)) to
+    joined from via to x y p q = subst (λ ls. LeadsTo ProgramLineFollows from ls to) (sym (map-append line_of_fields x y)) (leads-append from via to (map line_of_fields x) (map line_of_fields y) p q)
 
 -- the text of a program is read as it
-pub spelled-reads : (alloc : Heap) (text : List ℕ) (p : ProgramParts) → SpellsProgram text p → ReadsLines ProgramLineFollows IsWhole (empty alloc) text (whole alloc p)
+pub spelled-reads : (alloc : Heap) (text : List ℕ) (p : ProgramParts) → SpellsProgram text p → ReadsLines ProgramLineFollows IsWhole (empty_draft alloc) text (whole alloc p)
 spelled-reads alloc text p spells = record {
-  lines = map spaced (program_rows p);
+  lines = map line_of_fields (program_rows p);
   text_is = spells.text_is;
   are_lines = whole-lines alloc p spells.is_program;
   leads = whole-leads alloc p spells.is_program;
@@ -288,4 +288,4 @@ spelled-reads alloc text p spells = record {
 -- a text is that of one program
 pub one-program : (alloc : Heap) (text : List ℕ) (p q : ProgramParts) → SpellsProgram text p → SpellsProgram text q → p ≡ q
 one-program alloc text p q sp sq =
-    ap parts_in (reads-once ProgramLineFollows IsWhole follows-once (empty alloc) (whole alloc p) (whole alloc q) text (spelled-reads alloc text p sp) (spelled-reads alloc text q sq))
+    ap parts_in (reads-once ProgramLineFollows IsWhole follows-once (empty_draft alloc) (whole alloc p) (whole alloc q) text (spelled-reads alloc text p sp) (spelled-reads alloc text q sq))

@@ -3,7 +3,7 @@
 use Rattle.std.specs.Prelude.{◌≡◌, ◌≢◌, ℕ, ◌+◌, ◌-◌, ◌≤◌, ◌<◌, ◌==◌, if◌then◌else◌, true, List, [], ◌∷◌, ◌++◌, length, map, Some, IsTrue, codes, slice_get}
 use Rattle.std.specs.declared.alloc.Global.{Global as Heap}
 use Rattle.std.specs.List.{All}
-use Rattle.cbi_base.specs.Words.{IsName, conversions_of, fields_of, spaced}
+use Rattle.cbi_base.specs.Words.{IsName, conversions_of, fields_of, line_of_fields}
 use Rattle.flow.specs.declared.node.Node.{Node}
 use Rattle.flow.specs.declared.program.Text.{Text}
 use Rattle.flow.specs.declared.program.Global.{Global}
@@ -13,7 +13,7 @@ use Rattle.flow.specs.declared.site.Site.{Site}
 use Rattle.flow.specs.declared.scope.Names.{Names}
 use Rattle.flow.specs.declared.scope.Bounds.{Bounds}
 use Rattle.flow.specs.Words.{text_limit, byte_limit, static_limit, global_limit, function_limit, local_limit, node_limit, site_limit, node_fits, AreLocals}
-use Rattle.flow.specs.Words.{GlobalFits, IsSite, Head, counted, end_row}
+use Rattle.flow.specs.Words.{GlobalFits, IsSite, Head, word_and_number, end_row}
 use Rattle.program_lines.specs.Sums.{bytes_in, cells_in, locals_in, nodes_in}
 use Rattle.program_lines.specs.Rows.{count_of, text_of_row, head_of_row, locals_of_row}
 use Rattle.program_lines.specs.CellRuns.{global_of_row}
@@ -24,8 +24,8 @@ use Rattle.program_file.specs.declared.draft.Due.TheVariants as due
 use Rattle.program_file.specs.declared.draft.Draft.{Draft}
 
 -- nothing is read yet
-abbrev pub empty : Heap → Draft
-empty alloc = record {
+abbrev pub empty_draft : Heap → Draft
+empty_draft alloc = record {
   alloc = alloc;
   due = due.Title;
   count = 0;
@@ -184,7 +184,7 @@ TakesItem {A} IsItem made after = (item : A) × IsItem item × (after ≡ made i
 
 -- a line that is always the same
 abbrev pub IsRow : List (List ℕ) → Due → Draft → List ℕ → Draft → Type 0
-IsRow row next d line after = (line ≡ spaced row) × (after ≡ record d { due = next })
+IsRow row next d line after = (line ≡ line_of_fields row) × (after ≡ record d { due = next })
 
 -- a node, and the head of its function
 abbrev pub IsNextPlaced : Draft → List ℕ → Head × Node → Type 0
@@ -195,7 +195,7 @@ with_placed d placed = with_nodes d placed.0 (d.nodes ++ placed.1 ∷ [])
 
 -- the line that is due
 abbrev pub ProgramLineComes : Due → Draft → List ℕ → Draft → Type 0
-ProgramLineComes due.Title d line after = IsRow (counted (codes "cbi-program") 1) due.Texts d line after
+ProgramLineComes due.Title d line after = IsRow (word_and_number (codes "cbi-program") 1) due.Texts d line after
 ProgramLineComes due.Texts d line after = TakesItem (IsCount (codes "texts") text_limit line) (with_text_count d) after
 ProgramLineComes due.Text d line after = TakesItem (IsNextText d line) (with_text d) after
 ProgramLineComes due.Globals d line after = TakesItem (IsCount (codes "globals") global_limit line) (with_global_count d) after

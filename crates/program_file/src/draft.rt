@@ -2,7 +2,7 @@ ghost use Rattle.std.specs.Prelude.{◌≡◌, codes, length, OnOk};
 ghost use Rattle.cbi_base.specs.LineFaults.{TakenWith};
 ghost use Rattle.flow.specs.Words.{text_limit, global_limit, site_limit, Head};
 ghost use Rattle.program_file.specs.Draft.{TakesItem, IsCount, IsFunctionCount, IsNextText, IsNextGlobal, IsNextHead, IsNextMain, IsNextSite};
-ghost use Rattle.program_file.specs.Draft.{AreNextLocals, IsNextPlaced, IsDue, with_nodes, parts_in, empty, due_after, with_text_count, with_text};
+ghost use Rattle.program_file.specs.Draft.{AreNextLocals, IsNextPlaced, IsDue, with_nodes, parts_in, empty_draft, due_after, with_text_count, with_text};
 ghost use Rattle.program_file.specs.Draft.{with_global_count, with_global, with_function_count, with_head, with_main, with_site_count, with_sites};
 ghost use Rattle.program_file.specs.Draft.{with_site, with_locals, with_placed};
 ghost use Rattle.program_file.specs.declared.draft.Due.TheVariants as due;
@@ -61,7 +61,7 @@ fn due_after(lines: u32, count: u32, item: Due, past: Due) -> Due
 impl Draft {
     /// Nothing is read yet.
     pub fn new(alloc: Global) -> Draft
-        ensures { result ≡ empty alloc }
+        ensures { result ≡ empty_draft alloc }
     {
         Draft {
             alloc,

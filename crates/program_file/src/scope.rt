@@ -1,4 +1,4 @@
-ghost use Rattle.std.specs.Prelude.{◌≡◌, ◌≤◌, length, map, IfOk};
+ghost use Rattle.std.specs.Prelude.{◌≡◌, ◌≤◌, map, IfOk};
 ghost use Rattle.cbi_base.specs.Format.{conversions_of};
 ghost use Rattle.flow.specs.Limits.{byte_limit};
 ghost use Rattle.program_file.specs.Draft.{names_beside};

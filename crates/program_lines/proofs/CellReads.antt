@@ -18,7 +18,7 @@ use Rattle.cbi_base.proofs.NumberLemmas.{same-word, number_of-spelled, signed_of
 use Rattle.flow.specs.declared.program.Cell.{Cell}
 use Rattle.flow.specs.declared.program.Cell.TheVariants.{Number, Null, Text}
 use Rattle.flow.specs.Spelling.{Run, kind_word, cell_word, same_kind, same_cell, with_cell, cell_runs, run_word}
-use Rattle.program_lines.specs.CellRuns.{is_colon, cut_at_colon, lettered, cell_of, run_of, differs, may_come, cells_of, global_of_row}
+use Rattle.program_lines.specs.CellRuns.{is_colon, cut_at_colon, kind_of_letter, cell_of, run_of, is_different_cell, may_come, cells_of, global_of_row}
 
 -- the values of cells, compared
 int_eq-refl : (z : ℤ) → int_eq z z ≡ true
@@ -89,7 +89,7 @@ IsSmallCell (Number kind value) = FitsSigned w64 value
 IsSmallCell Null = Unit {0}
 IsSmallCell (Text index) = index ≤ greatest_u32
 
-lettered-is : (letter : ℕ) (kind : Kind) → lettered letter ≡ Some kind → letter ∷ [] ≡ kind_word kind
+lettered-is : (letter : ℕ) (kind : Kind) → kind_of_letter letter ≡ Some kind → letter ∷ [] ≡ kind_word kind
 lettered-is letter kind h =
     some_choice (letter == 99) _ _ kind h (λ test is. ap (λ b. b ∷ []) (eqb-true letter 99 test) ∙ ap kind_word (some_is is)) (λ _ h.
     some_choice (letter == 105) _ _ kind h (λ test is. ap (λ b. b ∷ []) (eqb-true letter 105 test) ∙ ap kind_word (some_is is)) (λ _ h.
@@ -102,7 +102,7 @@ cell_of-spelled (letter ∷ rest) c h =
     some_choice (letter == 115) _ _ c h (λ test h. mapped Text _ c h (λ index is same.
     ap (λ b. b ∷ rest) (eqb-true letter 115 test) ∙ ap (λ ds. 115 ∷ ds) (number_of-spelled greatest_u32 rest index is).0 ∙ ap cell_word same)) (λ _ h.
     some_choice (is_word (letter ∷ rest) (codes "p")) _ _ c h (λ test is. same-word (letter ∷ rest) _ test ∙ ap cell_word (some_is is)) (λ _ h.
-    option_and_then_some _ (lettered letter) c h (λ kind is_kind h. mapped (Number kind) _ c h (λ value is same.
+    option_and_then_some _ (kind_of_letter letter) c h (λ kind is_kind h. mapped (Number kind) _ c h (λ value is same.
     ap (λ l. l ++ rest) (lettered-is letter kind is_kind) ∙ ap (λ ds. kind_word kind ++ ds) (signed_of-spelled rest value is).0 ∙ ap cell_word same))))
 
 cell_of-word : (c : Cell) → IsSmallCell c → cell_of (cell_word c) ≡ Some c
@@ -129,7 +129,7 @@ run_of-word run few small =
 -- the first run has another cell than this one
 unfoldable pub first-differs : Option Cell → List Run → Bool
 first-differs last [] = true
-first-differs last (run ∷ runs) = differs last run.cell
+first-differs last (run ∷ runs) = is_different_cell last run.cell
 
 -- equal cells in front of runs that begin otherwise are one run
 runs-replicate : (count : ℕ) (c : Cell) (cells : List Cell) → first-differs (Some c) (cell_runs cells) ≡ true → cell_runs (replicate (suc count) c ++ cells) ≡ record { count = suc count; cell = c } ∷ cell_runs cells
@@ -159,7 +159,7 @@ cells_of-spelled room last (field ∷ fields) cells h =
     option_and_then_some _ (run_of field) cells h (λ run is_run h.
     some_choice (may_come room last run) _ _ cells h (λ test h.
     mapped _ (cells_of (room - run.count) (Some run.cell) fields) cells h (λ rest is_rest same.
-    let parts = and_parts (nat_le 1 run.count && nat_le run.count room) (differs last run.cell) test in
+    let parts = and_parts (nat_le 1 run.count && nat_le run.count room) (is_different_cell last run.cell) test in
     let counts = and_parts (nat_le 1 run.count) (nat_le run.count room) parts.0 in
     let more = cells_of-spelled (room - run.count) (Some run.cell) fields rest is_rest in
     let runs = whole run.count run.cell rest (leb-true 1 run.count counts.0) more.1 in
@@ -213,7 +213,7 @@ more-room : (room more : ℕ) (last : Option Cell) (runs : List Run) → room �
 unfolding AreRuns
 more-room room more last [] h are = tt
 more-room room more last (run ∷ runs) h are =
-    let parts = and_parts (nat_le 1 run.count && nat_le run.count room) (differs last run.cell) are.0 in
+    let parts = and_parts (nat_le 1 run.count && nat_le run.count room) (is_different_cell last run.cell) are.0 in
     let counts = and_parts (nat_le 1 run.count) (nat_le run.count room) parts.0 in
     let fits : nat_le run.count more ≡ true = le-leb run.count more (omega (arith, leb-true run.count room counts.1)) in
     (rw (counts.0, fits, parts.1) refl, are.1, more-room (room - run.count) (more - run.count) (Some run.cell) runs (omega arith) are.2)

@@ -14,7 +14,7 @@ use Rattle.flow.specs.declared.node.Node.{Node}
 use Rattle.flow.specs.declared.node.Node.TheVariants.{Push, Null, Local, Global, Text, Load, Store, Move, Member, Span, Math, Order, Sole, Convert, Dup, Drop, Swap, Over, Pass, Fork, Again, Call, Return, Leave, Get, Put, Puts, Format, Alloc, Free, Exit, Abort, Check, Clear, Zero, Spell, Mark, Skip, Test, Choose, Import, Export}
 use Rattle.flow.specs.Spelling.{kind_word, want_word, binary_word, order_word, unary_word, node_fields}
 use Rattle.program_lines.specs.Words.{kind_of, want_of, binary_of, order_of, unary_of}
-use Rattle.program_lines.specs.NodeLines.{node_of, int_of, bare, plain, paired, threefold, worded, push_of, zero_of, outer_node, control_node, threefold_node, bare_node, plain_node, worded_node, paired_node, valued_node}
+use Rattle.program_lines.specs.NodeLines.{node_of, int_of, node_without_fields, node_with_number, node_with_two_numbers, node_with_three_numbers, node_with_word, push_of, zero_of, outer_node, control_node, threefold_node, bare_node, plain_node, worded_node, paired_node, valued_node}
 use Rattle.program_lines.proofs.WordLemmas.{kind_of-word, kind_of-spelled, want_of-word, want_of-spelled, binary_of-word, binary_of-spelled, order_of-word, order_of-spelled, unary_of-word, unary_of-spelled, is_field-kind, is_field-want, is_field-binary, is_field-order, is_field-unary}
 
 -- the numbers of a node have the sizes that its fields have: 32 bits, and a signed number 64
@@ -206,20 +206,20 @@ node-some (Move size next) = λ e. cc
 node-some (Zero index want next) = λ e. cc
 
 -- A line of each kind is spelled so.
-bare-spelled : (word : List ℕ) (made : Node) (fields : List (List ℕ)) (n : Node) → node_fields made ≡ word ∷ [] → bare made fields ≡ Some n → word ∷ fields ≡ node_fields n
+bare-spelled : (word : List ℕ) (made : Node) (fields : List (List ℕ)) (n : Node) → node_fields made ≡ word ∷ [] → node_without_fields made fields ≡ Some n → word ∷ fields ≡ node_fields n
 bare-spelled word made [] n spelled h = sym spelled ∙ ap node_fields (some_is h)
 bare-spelled word made (field ∷ more) n spelled h = absurd cc
 
-plain-spelled : (word : List ℕ) (make : ℕ → Node) (fields : List (List ℕ)) (n : Node) → ((k : ℕ) → node_fields (make k) ≡ word ∷ decimal k ∷ []) → plain make fields ≡ Some n → word ∷ fields ≡ node_fields n
+plain-spelled : (word : List ℕ) (make : ℕ → Node) (fields : List (List ℕ)) (n : Node) → ((k : ℕ) → node_fields (make k) ≡ word ∷ decimal k ∷ []) → node_with_number make fields ≡ Some n → word ∷ fields ≡ node_fields n
 plain-spelled word make fields n spelled h =
     mapped make (one_number fields) n h (λ k is same. ap (λ fs. word ∷ fs) (one_number-spelled fields k is) ∙ sym (spelled k) ∙ ap node_fields same)
 
-pair-spelled : (word : List ℕ) (make : ℕ → ℕ → Node) (fields : List (List ℕ)) (n : Node) → ((i j : ℕ) → node_fields (make i j) ≡ word ∷ decimal i ∷ decimal j ∷ []) → paired make fields ≡ Some n → word ∷ fields ≡ node_fields n
+pair-spelled : (word : List ℕ) (make : ℕ → ℕ → Node) (fields : List (List ℕ)) (n : Node) → ((i j : ℕ) → node_fields (make i j) ≡ word ∷ decimal i ∷ decimal j ∷ []) → node_with_two_numbers make fields ≡ Some n → word ∷ fields ≡ node_fields n
 pair-spelled word make fields n spelled h =
     mapped (λ (pair : ℕ × ℕ). make pair.0 pair.1) (two_numbers fields) n h (λ pair is same.
     ap (λ fs. word ∷ fs) (two_numbers-spelled fields pair is) ∙ sym (spelled pair.0 pair.1) ∙ ap node_fields same)
 
-threefold-spelled : (word : List ℕ) (make : ℕ → ℕ → ℕ → Node) (fields : List (List ℕ)) (n : Node) → ((i j k : ℕ) → node_fields (make i j k) ≡ word ∷ decimal i ∷ decimal j ∷ decimal k ∷ []) → threefold make fields ≡ Some n → word ∷ fields ≡ node_fields n
+threefold-spelled : (word : List ℕ) (make : ℕ → ℕ → ℕ → Node) (fields : List (List ℕ)) (n : Node) → ((i j k : ℕ) → node_fields (make i j k) ≡ word ∷ decimal i ∷ decimal j ∷ decimal k ∷ []) → node_with_three_numbers make fields ≡ Some n → word ∷ fields ≡ node_fields n
 threefold-spelled word make [] n spelled h = absurd cc
 threefold-spelled word make (field ∷ rest) n spelled h =
     option_and_then_some _ (number_of greatest_u32 field) n h (λ first is_first h.
@@ -227,7 +227,7 @@ threefold-spelled word make (field ∷ rest) n spelled h =
     ap (λ f. word ∷ f ∷ rest) (number_of-spelled greatest_u32 field first is_first).0 ∙ ap (λ fs. word ∷ decimal first ∷ fs) (two_numbers-spelled rest pair is)
     ∙ sym (spelled first pair.0 pair.1) ∙ ap node_fields same))
 
-word-spelled : {A : Type 0} (word : List ℕ) (read : List ℕ → Option A) (word_of : A → List ℕ) (make : A → ℕ → Node) (fields : List (List ℕ)) (n : Node) → ((field : List ℕ) (a : A) → read field ≡ Some a → field ≡ word_of a) → ((a : A) (k : ℕ) → node_fields (make a k) ≡ word ∷ word_of a ∷ decimal k ∷ []) → worded read make fields ≡ Some n → word ∷ fields ≡ node_fields n
+word-spelled : {A : Type 0} (word : List ℕ) (read : List ℕ → Option A) (word_of : A → List ℕ) (make : A → ℕ → Node) (fields : List (List ℕ)) (n : Node) → ((field : List ℕ) (a : A) → read field ≡ Some a → field ≡ word_of a) → ((a : A) (k : ℕ) → node_fields (make a k) ≡ word ∷ word_of a ∷ decimal k ∷ []) → node_with_word read make fields ≡ Some n → word ∷ fields ≡ node_fields n
 word-spelled word read word_of make [] n reads spelled h = absurd cc
 word-spelled word read word_of make (field ∷ rest) n reads spelled h =
     option_and_then_some _ (read field) n h (λ a is_a h.

@@ -13,20 +13,20 @@ use Rattle.cbi_base.specs.Words.{IsName, begins_name, is_name_byte, is_lower_dig
 use Rattle.cbi_base.proofs.IdLemmas.{digits-lower, digits-spell}
 use Rattle.cbi_base.proofs.FieldLemmas.{IsField-decimal, IsField-name}
 use Rattle.cbi_base.proofs.NumberLemmas.{same-word, is_word-same, number_of-spelled, one_number-spelled, two_numbers-spelled, small-read}
-use Rattle.flow.specs.Spelling.{Head, bytes_word, counted, head_fields, result_word}
+use Rattle.flow.specs.Spelling.{Head, bytes_word, word_and_number, head_fields, result_word}
 use Rattle.program_lines.specs.Words.{result_of}
 use Rattle.program_lines.specs.Rows.{count_of, is_name, name_of, some_bytes, bytes_of, text_of_row, head_parts, head_of_row, sizes_of, locals_of_row}
 use Rattle.program_lines.proofs.WordLemmas.{result_of-word, result_of-spelled, is_field-result}
 
-pub count_of-spelled : (word : List ℕ) (fields : List (List ℕ)) (n : ℕ) → count_of word fields ≡ Some n → fields ≡ counted word n
+pub count_of-spelled : (word : List ℕ) (fields : List (List ℕ)) (n : ℕ) → count_of word fields ≡ Some n → fields ≡ word_and_number word n
 count_of-spelled word [] n h = absurd cc
 count_of-spelled word (first ∷ rest) n h =
     some_choice (is_word first word) _ _ n h (λ test is. ap (λ w. w ∷ rest) (same-word first word test) ∙ ap (λ fs. word ∷ fs) (one_number-spelled rest n is)) (λ _ none. absurd cc)
 
-pub count_of-fields : (word : List ℕ) (n : ℕ) → n ≤ greatest_u32 → count_of word (counted word n) ≡ Some n
+pub count_of-fields : (word : List ℕ) (n : ℕ) → n ≤ greatest_u32 → count_of word (word_and_number word n) ≡ Some n
 count_of-fields word n h = rw (is_word-same word, small-read n h) refl
 
-pub are_fields-count : (word : List ℕ) (n : ℕ) → IsField word → n ≤ greatest_u32 → AllByRecursion IsField (counted word n)
+pub are_fields-count : (word : List ℕ) (n : ℕ) → IsField word → n ≤ greatest_u32 → AllByRecursion IsField (word_and_number word n)
 are_fields-count word n is h = (is, (IsField-decimal n (omega arith), tt))
 
 pub name_of-spelled : (field name : List ℕ) → name_of field ≡ Some name → (field ≡ name) × IsName name

@@ -7,7 +7,7 @@ use Rattle.cbi_base.specs.Words.{lies_in, greatest_u32}
 use Rattle.cbi_base.specs.declared.scalar.Kind.{Kind}
 use Rattle.cbi_base.specs.declared.scalar.Kind.TheVariants.{Char, Int, Unsigned}
 use Rattle.flow.specs.declared.node.Node.{Node}
-use Rattle.flow.specs.declared.node.Node.TheVariants.{Push, Null, Local, Global, Text, Load, Store, Move, Member, Span, Math, Order, Sole, Convert, Dup, Drop, Swap, Over, Pass, Fork, Again, Call, Return, Leave, Get, Put, Puts, Format, Alloc, Free, Exit, Abort, Check, Clear, Zero, Spell, Mark, Skip, Test, Choose, Import, Export}
+use Rattle.flow.specs.declared.node.Node.TheVariants.{Push, Null, Local, Global, Text, Load, Store, Move, Member, Span, Math, Order, Sole, Convert, Dup, Drop, Swap, Over, Pass, Fork, Again, Call, Get, Put, Puts, Format, Alloc, Free, Check, Clear, Zero, Spell, Mark, Skip, Test, Choose, Import, Export}
 use Rattle.flow.specs.declared.scope.Names.{Names}
 use Rattle.flow.specs.declared.scope.Bounds.{Bounds}
 use Rattle.flow.specs.Words.{view, node_fits, names_fit, leads_rightly, is_node_step, is_format, is_own, has_text, is_local}

@@ -17,8 +17,8 @@ cut_at_colon [] = None
 cut_at_colon (b ∷ bytes) = if is_colon b then Some ([], bytes) else option_map (λ parts. (b ∷ parts.0, parts.1)) (cut_at_colon bytes)
 
 -- the kind with this letter
-abbrev pub lettered : ℕ → Option Kind
-lettered letter = if letter == 99 then Some Char else (if letter == 105 then Some Int else (if letter == 117 then Some Unsigned else None))
+abbrev pub kind_of_letter : ℕ → Option Kind
+kind_of_letter letter = if letter == 99 then Some Char else (if letter == 105 then Some Int else (if letter == 117 then Some Unsigned else None))
 
 -- what a cell holds
 unfoldable pub cell_of : List ℕ → Option Cell
@@ -26,19 +26,19 @@ cell_of [] = None
 cell_of (letter ∷ rest) =
     if letter == 115 then option_map Text (number_of greatest_u32 rest) else
     (if is_word (letter ∷ rest) (codes "p") then Some Null else
-    (lettered letter >>= λ kind. option_map (Number kind) (signed_of rest)))
+    (kind_of_letter letter >>= λ kind. option_map (Number kind) (signed_of rest)))
 
 unfoldable pub run_of : List ℕ → Option Run
 run_of field =
     cut_at_colon field >>= λ parts. number_of greatest_u32 parts.0 >>= λ count. option_map (λ c. record { count = count; cell = c }) (cell_of parts.1)
 
-abbrev pub differs : Option Cell → Cell → Bool
-differs None c = true
-differs (Some last) c = not (same_cell last c)
+abbrev pub is_different_cell : Option Cell → Cell → Bool
+is_different_cell None c = true
+is_different_cell (Some last) c = not (same_cell last c)
 
 -- the run may come after this cell, where there is room for so many cells
 abbrev pub may_come : ℕ → Option Cell → Run → Bool
-may_come room last run = (nat_le 1 run.count && nat_le run.count room) && differs last run.cell
+may_come room last run = (nat_le 1 run.count && nat_le run.count room) && is_different_cell last run.cell
 
 abbrev pub cells_of : ℕ → Option Cell → List (List ℕ) → Option (List Cell)
 cells_of room last [] = Some []

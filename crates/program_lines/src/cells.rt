@@ -2,7 +2,7 @@ ghost use Rattle.std.specs.Prelude.{◌≡◌, ◌==◌, ◌∷◌, ◌++◌, re
 ghost use Rattle.cbi_base.specs.Text.{Lacks};
 ghost use Rattle.std.specs.Option.{option_map};
 ghost use Rattle.flow.specs.Spelling.{same_kind, same_cell};
-ghost use Rattle.program_lines.specs.CellRuns.{cut_at_colon, lettered, cell_of, run_of, differs, may_come, cells_of, global_of_row};
+ghost use Rattle.program_lines.specs.CellRuns.{cut_at_colon, kind_of_letter, cell_of, run_of, is_different_cell, may_come, cells_of, global_of_row};
 
 use cbi_base::{Fields, Kind, Memory, Seq, read_number, read_signed};
 use flow::Cell;
@@ -71,7 +71,7 @@ fn cut_at_colon(field: &[u8]) -> Option<(&[u8], &[u8])>
 }
 
 fn lettered(letter: u8) -> Option<Kind>
-    ensures { result ≡ lettered letter }
+    ensures { result ≡ kind_of_letter letter }
 {
     if letter == b'c' {
         return Some(Kind::Char);
@@ -113,7 +113,7 @@ fn run(field: &[u8]) -> Option<CellRun>
 }
 
 fn differs(last: Option<Cell>, cell: Cell) -> bool
-    ensures { result ≡ differs last cell }
+    ensures { result ≡ is_different_cell last cell }
 {
     match last {
         None => true,

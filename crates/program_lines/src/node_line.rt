@@ -2,7 +2,7 @@ ghost use Rattle.std.specs.Prelude.{◌≡◌};
 ghost use Rattle.cbi_base.specs.Numbers.{one_number};
 ghost use Rattle.program_lines.specs.Words.{kind_of, want_of, binary_of, order_of, unary_of};
 ghost use Rattle.program_lines.specs.NodeLines.{node_of, valued_node, paired_node, worded_node, plain_node, bare_node, threefold_node, control_node};
-ghost use Rattle.program_lines.specs.NodeLines.{outer_node, push_of, zero_of, int_of, worded, threefold};
+ghost use Rattle.program_lines.specs.NodeLines.{outer_node, push_of, zero_of, int_of, node_with_word, node_with_three_numbers};
 ghost use Rattle.flow.specs.declared.node.Node.TheVariants.{Load, Math, Order, Sole, Convert, Move, Format, Spell, Choose};
 
 use crate::operations::{binary, order, unary};
@@ -33,7 +33,7 @@ fn zero(fields: &mut Fields<'_>) -> Option<Node>
 }
 
 fn moving(fields: &mut Fields<'_>) -> Option<Node>
-    ensures { result ≡ worded int_of Move fields.old }
+    ensures { result ≡ node_with_word int_of Move fields.old }
 {
     let size = int(fields.next()?)?;
     let next = one_number(fields)?;
@@ -41,7 +41,7 @@ fn moving(fields: &mut Fields<'_>) -> Option<Node>
 }
 
 fn load(fields: &mut Fields<'_>) -> Option<Node>
-    ensures { result ≡ worded want_of Load fields.old }
+    ensures { result ≡ node_with_word want_of Load fields.old }
 {
     let want = want(fields.next()?)?;
     let next = one_number(fields)?;
@@ -49,7 +49,7 @@ fn load(fields: &mut Fields<'_>) -> Option<Node>
 }
 
 fn math(fields: &mut Fields<'_>) -> Option<Node>
-    ensures { result ≡ worded binary_of Math fields.old }
+    ensures { result ≡ node_with_word binary_of Math fields.old }
 {
     let op = binary(fields.next()?)?;
     let next = one_number(fields)?;
@@ -57,7 +57,7 @@ fn math(fields: &mut Fields<'_>) -> Option<Node>
 }
 
 fn ordering(fields: &mut Fields<'_>) -> Option<Node>
-    ensures { result ≡ worded order_of Order fields.old }
+    ensures { result ≡ node_with_word order_of Order fields.old }
 {
     let op = order(fields.next()?)?;
     let next = one_number(fields)?;
@@ -65,7 +65,7 @@ fn ordering(fields: &mut Fields<'_>) -> Option<Node>
 }
 
 fn sole(fields: &mut Fields<'_>) -> Option<Node>
-    ensures { result ≡ worded unary_of Sole fields.old }
+    ensures { result ≡ node_with_word unary_of Sole fields.old }
 {
     let op = unary(fields.next()?)?;
     let next = one_number(fields)?;
@@ -73,7 +73,7 @@ fn sole(fields: &mut Fields<'_>) -> Option<Node>
 }
 
 fn conversion(fields: &mut Fields<'_>) -> Option<Node>
-    ensures { result ≡ worded kind_of Convert fields.old }
+    ensures { result ≡ node_with_word kind_of Convert fields.old }
 {
     let kind = kind(fields.next()?)?;
     let next = one_number(fields)?;
@@ -81,7 +81,7 @@ fn conversion(fields: &mut Fields<'_>) -> Option<Node>
 }
 
 fn format(fields: &mut Fields<'_>) -> Option<Node>
-    ensures { result ≡ threefold Format fields.old }
+    ensures { result ≡ node_with_three_numbers Format fields.old }
 {
     let text = read_number(fields.next()?)?;
     let (count, next) = two_numbers(fields)?;
@@ -89,7 +89,7 @@ fn format(fields: &mut Fields<'_>) -> Option<Node>
 }
 
 fn spell(fields: &mut Fields<'_>) -> Option<Node>
-    ensures { result ≡ threefold Spell fields.old }
+    ensures { result ≡ node_with_three_numbers Spell fields.old }
 {
     let index = read_number(fields.next()?)?;
     let (text, next) = two_numbers(fields)?;
@@ -97,7 +97,7 @@ fn spell(fields: &mut Fields<'_>) -> Option<Node>
 }
 
 fn choose(fields: &mut Fields<'_>) -> Option<Node>
-    ensures { result ≡ threefold Choose fields.old }
+    ensures { result ≡ node_with_three_numbers Choose fields.old }
 {
     let weight = read_number(fields.next()?)?;
     let (fast, slow) = two_numbers(fields)?;

@@ -4,21 +4,21 @@ use Rattle.std.specs.List.{flat_map}
 use Rattle.std.proofs.Math.Seq.{take-length}
 use Rattle.std.proofs.lemmas.Grind.{flat_map-append}
 use Rattle.std.proofs.lemmas.List.{append-nil, map-append}
-use Rattle.cbi_base.specs.Text.{ended, spaced}
+use Rattle.cbi_base.specs.Text.{line_with_newline, line_of_fields}
 use Rattle.flow.specs.declared.program.Cell.{Cell}
 use Rattle.flow.specs.declared.program.ProgramParts.{ProgramParts}
-use Rattle.flow.specs.Spelling.{Run, body_rows, cell_runs, counted, end_row, program_rows, program_text, run_word, same_cell, site_fields, whole_list, with_cell}
+use Rattle.flow.specs.Spelling.{Run, body_rows, cell_runs, word_and_number, end_row, program_rows, program_text, run_word, same_cell, site_fields, whole_list, with_cell}
 use Rattle.program_writer.specs.Written.{back_rows, fields_behind, front_rows, rows_text}
 use Rattle.program_lines.proofs.CellReads.{same_cell-is, same_cell-refl}
 
 -- the fields behind the first one
-pub spaced-first : (field : List ℕ) (fields : List (List ℕ)) → spaced (field ∷ fields) ≡ field ++ fields_behind fields
+pub spaced-first : (field : List ℕ) (fields : List (List ℕ)) → line_of_fields (field ∷ fields) ≡ field ++ fields_behind fields
 spaced-first field [] = sym (append-nil field)
 spaced-first field (next ∷ fields) = ap (λ line. field ++ 32 ∷ line) (spaced-first next fields)
 
 -- rows below other rows
 pub rows_text-append : (a b : List (List (List ℕ))) → rows_text (a ++ b) ≡ rows_text a ++ rows_text b
-rows_text-append a b = ap (flat_map ended) (map-append spaced a b) ∙ flat_map-append ended (map spaced a) (map spaced b)
+rows_text-append a b = ap (flat_map line_with_newline) (map-append line_of_fields a b) ∙ flat_map-append line_with_newline (map line_of_fields a) (map line_of_fields b)
 
 -- the run at hand in front of the runs that are to come
 abbrev pub with_run : ℕ → Cell → List Run → List Run
@@ -100,7 +100,7 @@ run-ends out all new n c d rest some other is_new kept =
 -- a line of a word and the fields behind it
 pub line-joined :
     (word : List ℕ) (fields : List (List ℕ)) (out a b c : List ℕ) → a ≡ out ++ word → b ≡ a ++ fields_behind fields → c ≡ b ++ 10 ∷ [] →
-    c ≡ out ++ ended (spaced (word ∷ fields))
+    c ≡ out ++ line_with_newline (line_of_fields (word ∷ fields))
 line-joined word fields out a b c is_a is_b is_c =
     let more = fields_behind fields in
     let whole : c ≡ ((out ++ word) ++ more) ++ 10 ∷ [] = cc in
@@ -108,27 +108,27 @@ line-joined word fields out a b c is_a is_b is_c =
 
 site-parted :
     (out name f l t more : List ℕ) →
-    ((((out ++ codes "site ") ++ name) ++ 32 ∷ (f ++ 32 ∷ (l ++ 32 ∷ t))) ++ more) ++ 10 ∷ [] ≡ out ++ ended (codes "site" ++ 32 ∷ (name ++ 32 ∷ (f ++ 32 ∷ (l ++ 32 ∷ (t ++ more)))))
+    ((((out ++ codes "site ") ++ name) ++ 32 ∷ (f ++ 32 ∷ (l ++ 32 ∷ t))) ++ more) ++ 10 ∷ [] ≡ out ++ line_with_newline (codes "site" ++ 32 ∷ (name ++ 32 ∷ (f ++ 32 ∷ (l ++ 32 ∷ (t ++ more)))))
 site-parted out name f l t more = simp (append_assoc)
 
 pub site-joined :
     (name f l t : List ℕ) (fields : List (List ℕ)) (out a b c d e : List ℕ) → a ≡ out ++ codes "site " → b ≡ a ++ name →
     c ≡ b ++ 32 ∷ (f ++ 32 ∷ (l ++ 32 ∷ t)) → d ≡ c ++ fields_behind fields → e ≡ d ++ 10 ∷ [] →
-    e ≡ out ++ ended (spaced (codes "site" ∷ name ∷ f ∷ l ∷ t ∷ fields))
+    e ≡ out ++ line_with_newline (line_of_fields (codes "site" ∷ name ∷ f ∷ l ∷ t ∷ fields))
 site-joined name f l t fields out a b c d e is_a is_b is_c is_d is_e =
     let more = fields_behind fields in
     let whole : e ≡ ((((out ++ codes "site ") ++ name) ++ 32 ∷ (f ++ 32 ∷ (l ++ 32 ∷ t))) ++ more) ++ 10 ∷ [] = cc in
-    whole ∙ site-parted out name f l t more ∙ ap (λ x. out ++ ended (codes "site" ++ 32 ∷ (name ++ 32 ∷ (f ++ 32 ∷ (l ++ 32 ∷ x))))) (sym (spaced-first t fields))
+    whole ∙ site-parted out name f l t more ∙ ap (λ x. out ++ line_with_newline (codes "site" ++ 32 ∷ (name ++ 32 ∷ (f ++ 32 ∷ (l ++ 32 ∷ x))))) (sym (spaced-first t fields))
 
 four-joined : (out a b c d : List ℕ) → (((out ++ a) ++ b) ++ c) ++ d ≡ out ++ (((a ++ b) ++ c) ++ d)
 four-joined out a b c d = simp (append_assoc)
 
 -- a line, and three lists of lines
 pub front-joined :
-    (title : List (List ℕ)) (t g h : List (List (List ℕ))) (out a b c d : List ℕ) → a ≡ out ++ ended (spaced title) →
+    (title : List (List ℕ)) (t g h : List (List (List ℕ))) (out a b c d : List ℕ) → a ≡ out ++ line_with_newline (line_of_fields title) →
     b ≡ a ++ rows_text t → c ≡ b ++ rows_text g → d ≡ c ++ rows_text h → d ≡ out ++ rows_text (((title ∷ t) ++ g) ++ h)
 front-joined title t g h out a b c d is_a is_b is_c is_d =
-    let line = ended (spaced title) in
+    let line = line_with_newline (line_of_fields title) in
     let whole : d ≡ (((out ++ line) ++ rows_text t) ++ rows_text g) ++ rows_text h = cc in
     let parts = rows_text-append ((title ∷ t) ++ g) h ∙ ap (λ x. x ++ rows_text h) (rows_text-append (title ∷ t) g) in
     whole ∙ four-joined out line (rows_text t) (rows_text g) (rows_text h) ∙ ap (λ x. out ++ x) (sym parts)
@@ -142,6 +142,6 @@ pub whole-joined :
     b ≡ program_text p
 whole-joined p none a b is_none is_a is_b =
     let parted : program_rows p ≡ front_rows p ++ back_rows p =
-    rows-parted (front_rows p) (counted (codes "main") p.main ∷ []) (whole_list (codes "sites") site_fields p.sites) (flat_map body_rows p.functions) (end_row ∷ []) in
+    rows-parted (front_rows p) (word_and_number (codes "main") p.main ∷ []) (whole_list (codes "sites") site_fields p.sites) (flat_map body_rows p.functions) (end_row ∷ []) in
     is_b ∙ ap (λ x. x ++ rows_text (back_rows p)) (is_a ∙ ap (λ x. x ++ rows_text (front_rows p)) is_none)
     ∙ sym (ap rows_text parted ∙ rows_text-append (front_rows p) (back_rows p))

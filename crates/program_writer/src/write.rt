@@ -1,5 +1,5 @@
-ghost use Rattle.std.specs.Prelude.{◌≡◌, ◌++◌, ◌∷◌, codes, length, map, IfOk, OnOk};
-ghost use Rattle.cbi_base.specs.Text.{ended, spaced};
+ghost use Rattle.std.specs.Prelude.{◌≡◌, ◌++◌, ◌∷◌, codes, map, IfOk, OnOk};
+ghost use Rattle.cbi_base.specs.Text.{line_with_newline, line_of_fields};
 ghost use Rattle.flow.specs.Words.{IsProgram, SpellsProgram, bytes_word, program_text, text_fields, whole_list};
 ghost use Rattle.flow.specs.declared.program.ProgramParts.{ProgramParts};
 ghost use Rattle.program_writer.specs.Written.{back_rows, front_rows, rows_text};
@@ -27,7 +27,7 @@ fn push_bytes(alloc: Global, out: &mut Vec<u8>, bytes: &[u8]) -> Result<(), Memo
 
 // Appends the line of a text.
 fn push_text(alloc: Global, out: &mut Vec<u8>, text: &Text) -> Result<(), Memory>
-    ensures { OnOk result (out.new.items ≡ out.old.items ++ ended (spaced (text_fields text.now))) }
+    ensures { OnOk result (out.new.items ≡ out.old.items ++ line_with_newline (line_of_fields (text_fields text.now))) }
 {
     out.extend_from_slice(b"text ")?;
     push_bytes(alloc, out, text.bytes.as_slice())?;

@@ -1,5 +1,5 @@
-ghost use Rattle.std.specs.Prelude.{◌≡◌, ◌++◌, ◌∷◌, codes, length, map, OnOk};
-ghost use Rattle.cbi_base.specs.Text.{ended, spaced};
+ghost use Rattle.std.specs.Prelude.{◌≡◌, ◌++◌, ◌∷◌, codes, map, OnOk};
+ghost use Rattle.cbi_base.specs.Text.{line_with_newline, line_of_fields};
 ghost use Rattle.flow.specs.Spelling.{cell_runs, cell_word, global_fields, run_word, whole_list};
 ghost use Rattle.program_writer.specs.Written.{fields_behind, rows_text};
 
@@ -59,7 +59,7 @@ fn push_runs(out: &mut Vec<u8>, cells: &[Cell]) -> Result<(), Memory>
 
 // Appends the line of a global.
 fn push_global(out: &mut Vec<u8>, global: &Global) -> Result<(), Memory>
-    ensures { OnOk result (out.new.items ≡ out.old.items ++ ended (spaced (global_fields global.now))) }
+    ensures { OnOk result (out.new.items ≡ out.old.items ++ line_with_newline (line_of_fields (global_fields global.now))) }
 {
     out.extend_from_slice(b"global")?;
     push_runs(out, global.cells.as_slice())?;

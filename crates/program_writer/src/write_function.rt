@@ -1,6 +1,6 @@
 ghost use Rattle.std.specs.Prelude.{◌≡◌, ◌++◌, ◌∷◌, codes, decimal, length, map, OnOk};
 ghost use Rattle.std.specs.List.{flat_map};
-ghost use Rattle.cbi_base.specs.Text.{ended, spaced};
+ghost use Rattle.cbi_base.specs.Text.{line_with_newline, line_of_fields};
 ghost use Rattle.flow.specs.Spelling.{body_rows, head_fields, head_of, locals_fields, result_word, whole_list};
 ghost use Rattle.program_writer.specs.Written.{fields_behind, rows_text};
 
@@ -27,7 +27,7 @@ fn push_numbers(out: &mut Vec<u8>, function: &Function) -> Result<(), Memory>
 
 // Appends what the line of a function says before its nodes.
 fn push_head(out: &mut Vec<u8>, function: &Function) -> Result<(), Memory>
-    ensures { OnOk result (out.new.items ≡ out.old.items ++ ended (spaced (head_fields (head_of function.now)))) }
+    ensures { OnOk result (out.new.items ≡ out.old.items ++ line_with_newline (line_of_fields (head_fields (head_of function.now)))) }
 {
     out.extend_from_slice(b"function ")?;
     out.extend_from_slice(function.name.bytes())?;
@@ -69,7 +69,7 @@ fn push_sizes(out: &mut Vec<u8>, sizes: &[u32]) -> Result<(), Memory>
 
 // Appends the line of the sizes of a function's locals.
 fn push_locals(out: &mut Vec<u8>, sizes: &[u32]) -> Result<(), Memory>
-    ensures { OnOk result (out.new.items ≡ out.old.items ++ ended (spaced (locals_fields sizes.now))) }
+    ensures { OnOk result (out.new.items ≡ out.old.items ++ line_with_newline (line_of_fields (locals_fields sizes.now))) }
 {
     out.extend_from_slice(b"locals")?;
     push_sizes(out, sizes)?;

@@ -1,6 +1,6 @@
 ghost use Rattle.std.specs.Prelude.{◌≡◌, ◌++◌, ◌∷◌, codes, decimal, map, OnOk};
 ghost use Rattle.std.specs.Fmt.{signed_decimal};
-ghost use Rattle.cbi_base.specs.Text.{ended, spaced};
+ghost use Rattle.cbi_base.specs.Text.{line_with_newline, line_of_fields};
 ghost use Rattle.flow.specs.Spelling.{kind_word, node_fields, want_word};
 ghost use Rattle.program_writer.specs.Written.{rows_text};
 
@@ -86,7 +86,7 @@ fn push_zero(out: &mut Vec<u8>, index: u32, want: Want, next: u32) -> Result<(),
 
 // Appends what the line of a node says.
 fn push_fields(out: &mut Vec<u8>, node: Node) -> Result<(), Memory>
-    ensures { OnOk result (out.new.items ≡ out.old.items ++ spaced (node_fields node)) }
+    ensures { OnOk result (out.new.items ≡ out.old.items ++ line_of_fields (node_fields node)) }
 {
     match node {
         Node::Push { kind, value, next } => push_push(out, kind, value, next),
@@ -136,7 +136,7 @@ fn push_fields(out: &mut Vec<u8>, node: Node) -> Result<(), Memory>
 
 // Appends the line of a node.
 fn push_node(out: &mut Vec<u8>, node: Node) -> Result<(), Memory>
-    ensures { OnOk result (out.new.items ≡ out.old.items ++ ended (spaced (node_fields node))) }
+    ensures { OnOk result (out.new.items ≡ out.old.items ++ line_with_newline (line_of_fields (node_fields node))) }
 {
     push_fields(out, node)?;
     out.push(b'\n')?;

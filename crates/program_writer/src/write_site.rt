@@ -1,5 +1,5 @@
-ghost use Rattle.std.specs.Prelude.{◌≡◌, ◌++◌, ◌∷◌, codes, decimal, length, map, OnOk};
-ghost use Rattle.cbi_base.specs.Text.{ended, spaced};
+ghost use Rattle.std.specs.Prelude.{◌≡◌, ◌++◌, ◌∷◌, codes, decimal, map, OnOk};
+ghost use Rattle.cbi_base.specs.Text.{line_with_newline, line_of_fields};
 ghost use Rattle.flow.specs.Spelling.{branch_word, kind_fields, kind_name, partner_fields, site_fields, slot_word, whole_list};
 ghost use Rattle.flow.specs.declared.site.Partner.TheVariants.{Constant};
 ghost use Rattle.program_writer.specs.Written.{fields_behind, rows_text};
@@ -107,7 +107,7 @@ fn push_place(out: &mut Vec<u8>, site: &Site) -> Result<(), Memory>
 
 // Appends the line of a site.
 fn push_site(out: &mut Vec<u8>, site: &Site) -> Result<(), Memory>
-    ensures { OnOk result (out.new.items ≡ out.old.items ++ ended (spaced (site_fields site.now))) }
+    ensures { OnOk result (out.new.items ≡ out.old.items ++ line_with_newline (line_of_fields (site_fields site.now))) }
 {
     out.extend_from_slice(b"site ")?;
     out.extend_from_slice(kind_name(&site.kind))?;

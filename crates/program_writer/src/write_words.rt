@@ -1,7 +1,7 @@
 ghost use Rattle.std.specs.Prelude.{◌≡◌, ◌++◌, ◌∷◌, decimal, OnOk};
 ghost use Rattle.std.specs.Fmt.{signed_decimal};
-ghost use Rattle.cbi_base.specs.Text.{ended, spaced};
-ghost use Rattle.flow.specs.Spelling.{binary_word, counted, kind_word, order_word, unary_word, want_word};
+ghost use Rattle.cbi_base.specs.Text.{line_with_newline, line_of_fields};
+ghost use Rattle.flow.specs.Spelling.{binary_word, word_and_number, kind_word, order_word, unary_word, want_word};
 
 use cbi_base::{Binary, Kind, Memory, Order, Unary, Want, push_decimal};
 
@@ -104,7 +104,7 @@ pub fn unary_word(op: Unary) -> &'static [u8]
 
 /// Appends the line that says how many items a list has.
 pub fn push_count(out: &mut Vec<u8>, word: &[u8], count: usize) -> Result<(), Memory>
-    ensures { OnOk result (out.new.items ≡ out.old.items ++ ended (spaced (counted word.now count))) }
+    ensures { OnOk result (out.new.items ≡ out.old.items ++ line_with_newline (line_of_fields (word_and_number word.now count))) }
 {
     out.extend_from_slice(word)?;
     push_number(out, count as u64)?;

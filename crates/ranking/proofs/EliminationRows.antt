@@ -12,7 +12,7 @@ use Rattle.fractions.specs.declared.tally.Tally.{Tally}
 use Rattle.fractions.specs.Tally.{IsTally, Passes}
 use Rattle.elimination_tallies.specs.declared.labelled.LabelledRun.{LabelledRun}
 use Rattle.elimination_tallies.specs.declared.listed.Listed.{Listed}
-use Rattle.elimination.specs.Elimination.{IsElimination, after, is_taken, passed}
+use Rattle.elimination.specs.Elimination.{IsElimination, runs_after_leader, is_taken, run_as_successful}
 use Rattle.elimination_tallies.specs.Leading.{IsLeader}
 use Rattle.elimination_tallies.specs.Recount.{failing_runs}
 use Rattle.elimination_tallies.proofs.RecountLemmas.{fails-most, recount-failing, recount-tally}
@@ -24,10 +24,10 @@ use Rattle.ranking.specs.Ranking.{AreRowsOf, IsRowOf}
 filtered-most : (p : LabelledRun → Bool) (runs : List LabelledRun) → length (filter p runs) ≤ length runs
 filtered-most p runs = omega (arith, length-filter p runs, count_by-le-length p runs)
 
-after-most : (branches : List Bool) (policy : Policy) (leader : ℕ) (runs : List LabelledRun) → length (after branches policy leader runs) ≤ length runs
+after-most : (branches : List Bool) (policy : Policy) (leader : ℕ) (runs : List LabelledRun) → length (runs_after_leader branches policy leader runs) ≤ length runs
 after-most branches Every leader runs = filtered-most _ runs
 after-most branches Failing leader runs = filtered-most _ runs
-after-most branches Relabel leader runs = omega (arith, length-map runs (λ r. cond (is_taken branches Relabel leader r) (passed r) r))
+after-most branches Relabel leader runs = omega (arith, length-map runs (λ r. cond (is_taken branches Relabel leader r) (run_as_successful r) r))
 
 leader-row : (table : TableParts) (runs : List LabelledRun) (row : Listed) → length runs ≤ 100000 → IsLeader (branches_of table.sites) runs row → IsRowOf table row
 leader-row table runs row few leads =
@@ -43,11 +43,11 @@ rows-fit : (table : TableParts) (policy : Policy) (runs : List LabelledRun) (row
 rows-fit table policy runs [] few is = All-nil (IsRowOf table)
 rows-fit table policy runs (row ∷ more) few is =
     let bs = branches_of table.sites in
-    All-cons (IsRowOf table) row more (leader-row table runs row few is.0) (rows-fit table policy (after bs policy row.predicate runs) more (omega (arith, few, after-most bs policy row.predicate runs)) is.1)
+    All-cons (IsRowOf table) row more (leader-row table runs row few is.0) (rows-fit table policy (runs_after_leader bs policy row.predicate runs) more (omega (arith, few, after-most bs policy row.predicate runs)) is.1)
 
 rows-few : (branches : List Bool) (policy : Policy) (runs : List LabelledRun) (rows : List Listed) → IsElimination branches policy runs rows → length rows ≤ failing_runs runs
 rows-few branches policy runs [] is = omega arith
-rows-few branches policy runs (row ∷ more) is = omega (arith, rows-few branches policy (after branches policy row.predicate runs) more is.1, leader-falls branches policy runs row is.0)
+rows-few branches policy runs (row ∷ more) is = omega (arith, rows-few branches policy (runs_after_leader branches policy row.predicate runs) more is.1, leader-falls branches policy runs row is.0)
 
 pub are-ranked : (table : TableParts) (policy : Policy) (runs : List LabelledRun) (rows : List Listed) → length runs ≤ 100000 → IsElimination (branches_of table.sites) policy runs rows → AreRanked table runs rows
 are-ranked table policy runs rows few is = record {

@@ -11,7 +11,7 @@ use Rattle.std.proofs.lemmas.List.Folds.{list_all-append}
 use Rattle.std.proofs.lemmas.Option.{same_Some}
 use Rattle.csv.specs.Quoting.{needs_byte}
 use Rattle.csv.specs.Writing.{default_writer, field_text, fields_text, is_blank, needs_quotes, quoted, row_text}
-use Rattle.cbi_base.specs.Words.{IsName, is_name_byte, ended, spaced}
+use Rattle.cbi_base.specs.Words.{IsName, is_name_byte, line_with_newline, line_of_fields}
 use Rattle.cbi_base.proofs.FieldLemmas.{decimal-all}
 use Rattle.flow.specs.declared.site.Site.{Site}
 use Rattle.flow.specs.declared.site.SiteKind.{SiteKind}
@@ -46,10 +46,10 @@ name-plain name is = bytes-plain name is.runs
 plain-append : (a b : List ℕ) → IsPlainField a → IsPlainField b → IsPlainField (a ++ b)
 plain-append a b pa pb = list_all-append is_plain a b ∙ and_from (list_all is_plain a) (list_all is_plain b) pa pb
 
-pub spaced-plain : (fields : List (List ℕ)) → ArePlainFields fields → IsPlainField (spaced fields)
+pub spaced-plain : (fields : List (List ℕ)) → ArePlainFields fields → IsPlainField (line_of_fields fields)
 spaced-plain [] are = refl
 spaced-plain (f ∷ []) are = are.0
-spaced-plain (f ∷ g ∷ more) are = plain-append f (32 ∷ spaced (g ∷ more)) are.0 (spaced-plain (g ∷ more) are.1)
+spaced-plain (f ∷ g ∷ more) are = plain-append f (32 ∷ line_of_fields (g ∷ more)) are.0 (spaced-plain (g ∷ more) are.1)
 
 pub scheme-plain : (kind : SiteKind) → IsPlainField (scheme_word kind)
 scheme-plain (Branch word) = refl
@@ -99,7 +99,7 @@ unfolding fields_text
 joined f [] are = append-nil f
 joined f (g ∷ more) are = ap (λ t. f ++ (44 ∷ (t ++ fields_text default_writer more))) (field-plain g are.0) ∙ ap (λ t. f ++ (44 ∷ t)) (joined g more are.1)
 
-pub row-line : (a b : List ℕ) (more : List (List ℕ)) → ArePlainFields (a ∷ b ∷ more) → row_text default_writer (a ∷ b ∷ more) ≡ ended (join_with_byte 44 (a ∷ b ∷ more))
+pub row-line : (a b : List ℕ) (more : List (List ℕ)) → ArePlainFields (a ∷ b ∷ more) → row_text default_writer (a ∷ b ∷ more) ≡ line_with_newline (join_with_byte 44 (a ∷ b ∷ more))
 unfolding is_blank
 row-line a b more are =
     ap (λ t. (t ++ fields_text default_writer (b ∷ more)) ++ 10 ∷ []) (field-plain a are.0) ∙ ap (λ t. t ++ 10 ∷ []) (joined a (b ∷ more) are.1)

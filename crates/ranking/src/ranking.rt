@@ -1,7 +1,7 @@
 ghost use Rattle.std.specs.Prelude.{◌≡◌, IfOk};
-ghost use Rattle.std.specs.List.{enumerate_from, join_with_byte};
-ghost use Rattle.cbi_base.specs.Text.{ended, text_of};
-ghost use Rattle.ranking.specs.Ranking.{AreRowsOf, IsRowOf, header_fields, ranking_text, row_fields};
+ghost use Rattle.std.specs.List.{join_with_byte};
+ghost use Rattle.cbi_base.specs.Text.{line_with_newline};
+ghost use Rattle.ranking.specs.Ranking.{AreRowsOf, IsRowOf, ranking_text, row_fields};
 
 use crate::line::{line_of, push, push_number};
 use crate::place::{place_is_plain, push_place};
@@ -19,7 +19,7 @@ const HEADER: &[u8] =
 // The line of a row.
 fn row_line(alloc: Global, rank: u64, row: &Listed, table: &SiteTable) -> Result<Vec<u8>, Memory>
     requires { IsRowOf table.now row.now }
-    ensures { IfOk result (λ line. line.items ≡ ended (join_with_byte 44 (row_fields table.now rank row.now))) }
+    ensures { IfOk result (λ line. line.items ≡ line_with_newline (join_with_byte 44 (row_fields table.now rank row.now))) }
 {
     place_is_plain(table, row.predicate);
     let mut record = ByteRecord::new(alloc);

@@ -8,7 +8,7 @@ use Rattle.fractions.specs.declared.tally.Tally.{Tally}
 use Rattle.fractions.specs.Tally.{Passes, importance_of}
 use Rattle.affinity.proofs.FallLemmas.{passes-or}
 use Rattle.compound.specs.Candidates.{AreCandidates, ComesBefore, RanksAtLeast, candidate_limit}
-use Rattle.compound.proofs.OrderLemmas.{at-most-trans, importance-positive, less-at-most, not-both}
+use Rattle.compound.proofs.OrderLemmas.{less-at-most, not-both}
 use Rattle.ranking_laws.specs.Laws.{ThereIsOne}
 use Rattle.ranking_laws.proofs.Firsts.{AreFirstOf, IsOrder, first-member, firsts, later-member, one-list}
 

@@ -12,7 +12,7 @@ use Rattle.elimination_tallies.specs.Leading.{IsLeader, Leads, NonePass, NonePas
 use Rattle.elimination_tallies.specs.Predicates.{predicates_in}
 use Rattle.elimination_tallies.specs.Recount.{failing_runs, recount}
 use Rattle.elimination_tallies.proofs.ScanLemmas.{at-most-refl, first-leads, leads-on, none-more}
-use Rattle.elimination.specs.Elimination.{IsElimination, after}
+use Rattle.elimination.specs.Elimination.{IsElimination, runs_after_leader}
 use Rattle.elimination.proofs.EliminationLemmas.{leader-falls}
 use Rattle.elimination.proofs.UniqueLemmas.{one-elimination}
 use Rattle.ranking.specs.Ranking.{ranking_text}
@@ -77,7 +77,7 @@ eliminated (suc most) branches policy runs few =
     elim (leader branches runs) [
       | inr none ↦ ([], none)
       | inl led ↦
-          let rest = eliminated most branches policy (after branches policy led.0.predicate runs) (omega (arith, few, leader-falls branches policy runs led.0 led.1)) in
+          let rest = eliminated most branches policy (runs_after_leader branches policy led.0.predicate runs) (omega (arith, few, leader-falls branches policy runs led.0 led.1)) in
           (led.0 ∷ rest.0, (led.1, rest.1))
     ]
 

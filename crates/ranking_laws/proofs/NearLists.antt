@@ -6,7 +6,7 @@ use Rattle.std.proofs.lemmas.List.Elements.{All-cons, All-nil}
 use Rattle.cbi_base.specs.declared.policy.Policy.TheVariants.{All as Every}
 use Rattle.fractions.specs.Tally.{Passes}
 use Rattle.elimination_tallies.specs.Predicates.{predicates_in}
-use Rattle.elimination.specs.Elimination.{after}
+use Rattle.elimination.specs.Elimination.{runs_after_leader}
 use Rattle.affinity.specs.declared.neighbour.Neighbour.{Neighbour}
 use Rattle.affinity.specs.Falls.{IsFall, IsWorth, Scores, scores_over, share_of}
 use Rattle.affinity.specs.Listing.{IsPlaceOf}
@@ -80,7 +80,7 @@ pub predicates_have_one_near_list : PredicatesHaveOneNearList
 predicates_have_one_near_list branches runs p =
     let count = predicates_in branches in
     let whole = scores_over branches runs in
-    let left = scores_over branches (after branches Every p runs) in
+    let left = scores_over branches (runs_after_leader branches Every p runs) in
     let near = nearest count p whole left count (omega arith) in
     let is : AreNearBy count p whole left near.0 = seen-all count p whole left count near.0 refl near.1 in
     record { one = near.0; is = is; only = λ other are. one-near branches runs p other near.0 are is }

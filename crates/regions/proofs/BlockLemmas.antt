@@ -1,15 +1,15 @@
 -- Where blocks begin, as it is found node after node.
-use Rattle.std.proofs.Common.{◌≡◌, ◌⊎◌, inl, inr, ℕ, zero, suc, ◌+◌, ◌<◌, ◌≤◌, Bool, true, false, ◌||◌, cond, List, [], ◌∷◌, length, set, replicate, refl, sym, ap, ◌∙◌, subst, arith, length-set}
+use Rattle.std.proofs.Common.{◌≡◌, ◌⊎◌, inl, inr, ℕ, ◌+◌, ◌<◌, ◌≤◌, Bool, true, false, ◌||◌, cond, List, [], ◌∷◌, length, set, replicate, refl, sym, ap, ◌∙◌, subst, arith, length-set}
 use Rattle.std.specs.List.{Contains}
 use Rattle.std.proofs.lemmas.Bool.{cases_eq, cases_lt}
 use Rattle.std.proofs.lemmas.List.{length-replicate}
 use Rattle.base_lists.proofs.Every.{first_in, none_in, only_in, second_in, two_in}
 use Rattle.flow.specs.declared.node.View.{View}
-use Rattle.flow.specs.declared.node.View.TheVariants.{Row, Halts, Forks, Turns, Calls, Gives, Quits, Marks, Skips, Tests, Picks, Imports, Exports, Nowhere}
+use Rattle.flow.specs.declared.node.View.TheVariants.{Row, Forks, Turns, Calls, Marks, Skips, Tests, Picks, Imports, Exports}
 use Rattle.flow.specs.Nodes.{led_to}
 use Rattle.regions.specs.Blocks.{IsStart, Entry, After, Joins, NodeLeadsTo, ends_block}
 use Rattle.regions.specs.Flags.{AreFlags, is_in}
-use Rattle.regions.specs.Noted.{Sets, at_entry, noted, noted_all}
+use Rattle.regions.specs.Noted.{Sets, at_entry, successor_noted, noted_all}
 use Rattle.regions.proofs.FlagLemmas.{none_set, set_kept, set_only, set_same}
 
 -- what the sets say of a set of steps from one node to another
@@ -115,7 +115,7 @@ by_flag at E here x led starts false false k earlier lead in_led in_starts e f =
 
 -- one step more
 pub known_more : (at : ℕ → View) (E : ℕ → ℕ → Type 0) (here x n : ℕ) (s : Sets) → Known at E s → Sized n s → Earlier at E here → NodeLeadsTo at here x → x < n →
-    Known at (OneMore E here x) (noted (ends_block (at here)) x s)
+    Known at (OneMore E here x) (successor_noted (ends_block (at here)) x s)
 known_more at E here x n s k sized earlier lead l =
     by_flag at E here x s.led_to s.starts (ends_block (at here)) (is_in s.led_to x) k earlier lead (omega (arith, sized.led_to)) (omega (arith, sized.starts)) refl refl
 
@@ -124,14 +124,14 @@ sized_by : (n x : ℕ) (b : Bool) (led starts : List Bool) → length led ≡ n 
 sized_by n x true led starts e f = record { led_to = length-set led x true ∙ e; starts = length-set starts x true ∙ f }
 sized_by n x false led starts e f = record { led_to = length-set led x true ∙ e; starts = f }
 
-pub sized_more : (n x : ℕ) (ends : Bool) (s : Sets) → Sized n s → Sized n (noted ends x s)
+pub sized_more : (n x : ℕ) (ends : Bool) (s : Sets) → Sized n s → Sized n (successor_noted ends x s)
 sized_more n x ends s z = sized_by n x (ends || is_in s.led_to x) s.led_to s.starts z.led_to z.starts
 
 starts_length : (b : Bool) (x : ℕ) (starts : List Bool) → length (cond b (set starts x true) starts) ≡ length starts
 starts_length true x starts = length-set starts x true
 starts_length false x starts = refl
 
-pub noted_length : (ends : Bool) (x : ℕ) (s : Sets) → length (noted ends x s).starts ≡ length s.starts
+pub noted_length : (ends : Bool) (x : ℕ) (s : Sets) → length (successor_noted ends x s).starts ≡ length s.starts
 noted_length ends x s = starts_length (ends || is_in s.led_to x) x s.starts
 
 -- the steps from the first nodes, so many of them
@@ -190,7 +190,7 @@ known_node at i n s k sized within =
             | inr x ↦ let same = x.0 in (omega arith, rw (x.0, x.1) lead)
           ]
           in
-          rw e (known_same at (OneMore (Before at i) i a) (Before at (i + 1)) (noted (ends_block (at i)) a s) one to from, sized_more n a (ends_block (at i)) s sized)
+          rw e (known_same at (OneMore (Before at i) i a) (Before at (i + 1)) (successor_noted (ends_block (at i)) a s) one to from, sized_more n a (ends_block (at i)) s sized)
       | inr (inr (a, b, e, ends)) ↦
           let lead : NodeLeadsTo at i a = rw e (first_in a (b ∷ [])) in
           let lead' : NodeLeadsTo at i b = rw e (second_in a b []) in
@@ -202,7 +202,7 @@ known_node at i n s k sized within =
             ends = λ place next o same. ends;
           }
           in
-          let two = known_more at (OneMore (Before at i) i a) i b n (noted (ends_block (at i)) a s) one sized' earlier' lead' (within b lead') in
+          let two = known_more at (OneMore (Before at i) i a) i b n (successor_noted (ends_block (at i)) a s) one sized' earlier' lead' (within b lead') in
           let to : (place next : ℕ) → Before at (i + 1) place next → OneMore (OneMore (Before at i) i a) i b place next = λ place next o. elim (split place next o) [
             | inl x ↦ inl (inl x)
             | inr x ↦ elim (two_in a b next (subst (λ (xs : List ℕ). Contains xs next) e x.1)) [ inl y ↦ inl (inr (x.0, y)) | inr y ↦ inr (x.0, y) ]
@@ -215,8 +215,8 @@ known_node at i n s k sized within =
           ]
           in
           rw e (
-            known_same at (OneMore (OneMore (Before at i) i a) i b) (Before at (i + 1)) (noted (ends_block (at i)) b (noted (ends_block (at i)) a s)) two to from,
-            sized_more n b (ends_block (at i)) (noted (ends_block (at i)) a s) sized',
+            known_same at (OneMore (OneMore (Before at i) i a) i b) (Before at (i + 1)) (successor_noted (ends_block (at i)) b (successor_noted (ends_block (at i)) a s)) two to from,
+            sized_more n b (ends_block (at i)) (successor_noted (ends_block (at i)) a s) sized',
           )
     ]
 

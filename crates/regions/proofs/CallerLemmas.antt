@@ -9,7 +9,7 @@ use Rattle.flow.specs.declared.node.Node.{Node}
 use Rattle.flow.specs.declared.node.View.TheVariants.{Calls}
 use Rattle.flow.specs.declared.program.Function.{Function}
 use Rattle.flow.specs.Code.{view_at, view_in}
-use Rattle.regions.specs.Callers.{CallsAmong, Grew, row}
+use Rattle.regions.specs.Callers.{CallsAmong, Grew, function_callers}
 use Rattle.regions.specs.Weighty.{CallsTo, views_of}
 
 -- one growth after another
@@ -37,13 +37,13 @@ grew_same a b E G p to from = record {
 }
 
 -- one list grew at its end
-pub grew_row : (t : List (List ℕ)) (callee caller : ℕ) (old : List ℕ) → callee < length t → row t callee ≡ old →
+pub grew_row : (t : List (List ℕ)) (callee caller : ℕ) (old : List ℕ) → callee < length t → function_callers t callee ≡ old →
     Grew t (set t callee (old ++ caller ∷ [])) (λ g f. (g ≡ callee) × (f ≡ caller))
 grew_row t callee caller old l is =
     let new : List ℕ = old ++ caller ∷ [] in
-    let here : (g : ℕ) → g ≡ callee → row (set t callee new) g ≡ new = λ g e. get_or-set_at t callee g new [] e l in
-    let there : (g : ℕ) → (g ≡ callee → ⊥) → row (set t callee new) g ≡ row t g = λ g ne. get_or-set_other t callee g new [] ne in
-    let was : (g : ℕ) → g ≡ callee → row t g ≡ old = λ g e. ap (λ (n : ℕ). row t n) e ∙ is in
+    let here : (g : ℕ) → g ≡ callee → function_callers (set t callee new) g ≡ new = λ g e. get_or-set_at t callee g new [] e l in
+    let there : (g : ℕ) → (g ≡ callee → ⊥) → function_callers (set t callee new) g ≡ function_callers t g = λ g ne. get_or-set_other t callee g new [] ne in
+    let was : (g : ℕ) → g ≡ callee → function_callers t g ≡ old = λ g e. ap (λ (n : ℕ). function_callers t n) e ∙ is in
     record {
       few = length-set t callee new;
       had = λ g f h. elim (cases_eq g callee) [
@@ -61,13 +61,13 @@ grew_row t callee caller old l is =
     }
 
 -- the list of a function that has one
-pub row_read : (t : List (List ℕ)) (function : ℕ) (list : List ℕ) → function < length t → list ≡ get_or t function list → row t function ≡ list
+pub row_read : (t : List (List ℕ)) (function : ℕ) (list : List ℕ) → function < length t → list ≡ get_or t function list → function_callers t function ≡ list
 row_read t function list l is = get_or_from_slice_get t function list [] (slice_get_read t (length t) function list refl l is)
 
 pub grew_push : (t : List (List ℕ)) (callee caller : ℕ) (old new : List ℕ) → callee < length t → old ≡ get_or t callee old → new ≡ old ++ caller ∷ [] →
     Grew t (set t callee new) (λ g f. (g ≡ callee) × (f ≡ caller))
 grew_push t callee caller old new l is e =
-    let was : row t callee ≡ old = row_read t callee old l is in
+    let was : function_callers t callee ≡ old = row_read t callee old l is in
     subst (λ (r : List ℕ). Grew t (set t callee r) (λ g f. (g ≡ callee) × (f ≡ caller))) (sym e) (grew_row t callee caller old l was)
 
 earlier_or_here : (nodes : List Node) (i g : ℕ) → CallsAmong nodes (i + 1) g → CallsAmong nodes i g ⊎ ((next : ℕ) × (views_of nodes i ≡ Calls g next))

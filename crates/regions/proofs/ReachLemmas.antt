@@ -12,7 +12,7 @@ use Rattle.flow.specs.declared.site.Site.{Site}
 use Rattle.flow.specs.Program.{IsProgram}
 use Rattle.flow.proofs.Tables.{owners_fit}
 use Rattle.flow.specs.declared.program.ProgramParts.{ProgramParts}
-use Rattle.regions.specs.Callers.{Grew, row}
+use Rattle.regions.specs.Callers.{Grew, function_callers}
 use Rattle.regions.specs.Flags.{AreFlags, is_in}
 use Rattle.regions.specs.Reach.{IsReach, Reached}
 use Rattle.regions.specs.Weighty.{CallsTo, HasSite, IsWeighty, Own, Through}
@@ -89,7 +89,7 @@ pub record Spread (p : ProgramParts) (flags : List Bool) (order : List ℕ) (don
   pub own : (g : ℕ) → g < length p.functions → HasSite p.sites g → is_in flags g ≡ true
   pub callers : (place caller : ℕ) → place < done → CallsTo p.functions caller (get_or order place 0) → is_in flags caller ≡ true
 
-no_row : (n g : ℕ) → let empty : List ℕ = [] in row (replicate n empty) g ≡ []
+no_row : (n g : ℕ) → let empty : List ℕ = [] in function_callers (replicate n empty) g ≡ []
 no_row n g =
     let empty : List ℕ = [] in
     elim (cases_lt g n) [
@@ -131,7 +131,7 @@ spread_within p flags order done s l = omega (arith, in_within flags (get_or ord
 -- the callers of one function more were found
 pub spread_more : (p : ProgramParts) (flags : List Bool) (order : List ℕ) (flags' : List Bool) (order' : List ℕ) (done : ℕ) (table : List (List ℕ)) →
     (let empty : List ℕ = [] in Grew (replicate (length p.functions) empty) table (λ g f. CallsTo p.functions f g)) → Spread p flags order done → done < length order →
-    Reached flags order flags' order' (Contains (row table (get_or order done 0))) → Spread p flags' order' (done + 1)
+    Reached flags order flags' order' (Contains (function_callers table (get_or order done 0))) → Spread p flags' order' (done + 1)
 spread_more p flags order flags' order' done table grew s l q =
     let empty : List ℕ = [] in
     let here : ℕ = get_or order done 0 in

@@ -16,12 +16,12 @@ abbrev pub at_entry : ℕ → Sets
 at_entry count = record { led_to = replicate count false; starts = slice_set (replicate count false) 0 true }
 
 -- a node that ends its block, or not, leads to the next one
-abbrev pub noted : Bool → ℕ → Sets → Sets
-noted ends next s = record {
+abbrev pub successor_noted : Bool → ℕ → Sets → Sets
+successor_noted ends next s = record {
   led_to = slice_set s.led_to next true;
   starts = if ends || is_in s.led_to next then slice_set s.starts next true else s.starts;
 }
 
 abbrev pub noted_all : Bool → List ℕ → Sets → Sets
 noted_all ends [] s = s
-noted_all ends (next ∷ rest) s = noted_all ends rest (noted ends next s)
+noted_all ends (next ∷ rest) s = noted_all ends rest (successor_noted ends next s)

@@ -4,7 +4,7 @@ ghost use Rattle.regions.specs.Blocks.{BlocksFit, IsStart, NodeLeadsTo, ends_blo
 ghost use Rattle.regions.specs.Flags.{AreFlags};
 ghost use Rattle.regions.specs.Rows.{EachFits};
 ghost use Rattle.regions.specs.Weighty.{views_of};
-ghost use Rattle.regions.specs.Noted.{at_entry, noted, noted_all, sets_of};
+ghost use Rattle.regions.specs.Noted.{at_entry, successor_noted, noted_all, sets_of};
 
 use cbi_base::Memory;
 use flow::{Node, Program, View, Ways, successors, view_of};
@@ -45,7 +45,7 @@ impl Starts {
     fn note(&mut self, ends: bool, next: u32)
         requires led_to { next < length self.old.led_to.items }
         requires starts { next < length self.old.starts.items }
-        ensures { sets_of self.new ≡ noted ends next (sets_of self.old) }
+        ensures { sets_of self.new ≡ successor_noted ends next (sets_of self.old) }
     {
         if ends || self.led_to[next as usize] {
             self.starts[next as usize] = true;

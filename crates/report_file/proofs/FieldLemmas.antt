@@ -23,7 +23,7 @@ use Rattle.report_file.specs.declared.label.Label.TheVariants.{Fail, Pass, Uncou
 use Rattle.report_file.specs.declared.report.Entry.{Entry}
 use Rattle.report_file.specs.Report.{IsRun, IsOutcome, IsWork, AreCounts, IsEntry, greatest_count, greatest_run, greatest_site, is_positive}
 use Rattle.report_file.specs.Spelling.{run_fields, outcome_fields, label_fields, label_word, work_fields, site_fields}
-use Rattle.report_file.specs.Fields.{run_at, trap_numbered, trap_of, traps, status_of, cut_of, outcome_of, outcome_at, label_in, label_at, count_of, counts_at, work_at, work_with, entry_of_fields, alone}
+use Rattle.report_file.specs.Fields.{run_at, trap_numbered, trap_of, traps, status_of, cut_of, outcome_of, outcome_at, label_in, label_at, count_of, counts_at, work_at, work_with, entry_of_fields, value_at_end}
 
 -- what is read, and the fields behind it
 first-is : {A : Type 0} {a b : A} {x y : List (List ℕ)} → ◌≡◌ {A = Option (A × List (List ℕ))} (Some (a, x)) (Some (b, y)) → a ≡ b
@@ -33,7 +33,7 @@ rest-is : {A : Type 0} {a b : A} {x y : List (List ℕ)} → ◌≡◌ {A = Opti
 rest-is {A} e = ap (λ (p : A × List (List ℕ)). p.1) (some_is e)
 
 -- one thing, with no field behind it
-pub alone-is : {A : Type 0} (p : A × List (List ℕ)) (a : A) → alone p ≡ Some a → (p.0 ≡ a) × (p.1 ≡ [])
+pub alone-is : {A : Type 0} (p : A × List (List ℕ)) (a : A) → value_at_end p ≡ Some a → (p.0 ≡ a) × (p.1 ≡ [])
 alone-is (b, []) a h = (some_is h, refl)
 alone-is (b, field ∷ more) a h = absurd (none_some h)
 
@@ -224,7 +224,7 @@ unfolding entry_of_fields
 entry-spelled [] e h = absurd (none_some h)
 entry-spelled (word ∷ []) e h = absurd (none_some h)
 entry-spelled (word ∷ number ∷ left) e h =
-    some_choice _ _ _ e h (λ test is. option_and_then_some _ _ e is (λ site read_site is. option_and_then_some _ _ e is (λ c read is. option_and_then_some alone (counts_at left) c read (λ p taken one. some_choice (is_positive c) _ _ e is (λ positive same.
+    some_choice _ _ _ e h (λ test is. option_and_then_some _ _ e is (λ site read_site is. option_and_then_some _ _ e is (λ c read is. option_and_then_some value_at_end (counts_at left) c read (λ p taken one. some_choice (is_positive c) _ _ e is (λ positive same.
     let s = number_of-spelled greatest_site number site read_site in
     let spelled = counts-spelled left p.1 p.0 taken in
     let a = alone-is p c one in

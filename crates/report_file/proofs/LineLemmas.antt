@@ -9,7 +9,7 @@ use Rattle.std.proofs.lemmas.Option.{option_and_then_some}
 use Rattle.base_lists.proofs.Tests.{some_choice}
 use Rattle.base_lists.proofs.Options.{none_some, some_is}
 use Rattle.cbi_base.specs.Numbers.{◌>>=◌}
-use Rattle.cbi_base.specs.Words.{IsId, IsIdText, is_lower_digit, text_of_id, IsField, is_field_byte, fields_of, spaced, trap_number}
+use Rattle.cbi_base.specs.Words.{IsId, IsIdText, is_lower_digit, text_of_id, IsField, is_field_byte, fields_of, line_of_fields, trap_number}
 use Rattle.cbi_base.specs.declared.identity.ProgramId.{ProgramId}
 use Rattle.cbi_base.specs.declared.outcome.Outcome.{Outcome}
 use Rattle.cbi_base.specs.declared.outcome.Outcome.TheVariants.{Ended, Trapped, CutTurns, CutOutput}
@@ -23,7 +23,7 @@ use Rattle.report_file.specs.declared.report.Entry.{Entry}
 use Rattle.report_file.specs.Reading.{Reads}
 use Rattle.report_file.specs.Report.{IsRun, IsOutcome, IsWork, IsEntry}
 use Rattle.report_file.specs.Spelling.{program_fields, run_fields, outcome_fields, outcome_line, label_fields, work_fields, site_fields}
-use Rattle.report_file.specs.Fields.{run_at, outcome_at, outcome_in, label_at, work_at, entry_of_fields, program_field, alone}
+use Rattle.report_file.specs.Fields.{run_at, outcome_at, outcome_in, label_at, work_at, entry_of_fields, program_field, value_at_end}
 use Rattle.report_file.proofs.FieldLemmas.{wide, trap-small, alone-is, run-taken, run-spelled, outcome_of-fields, outcome-spelled, label-taken, label-spelled, work-taken, work-spelled, entry-taken, entry-spelled}
 
 -- the fields of a line, of which there is one at least
@@ -31,7 +31,7 @@ abbrev pub IsRow : List (List ℕ) → Type 0
 IsRow [] = ⊥
 IsRow (field ∷ more) = IsField field × AllByRecursion IsField more
 
-pub row-fields : (row : List (List ℕ)) → IsRow row → fields_of (spaced row) ≡ row
+pub row-fields : (row : List (List ℕ)) → IsRow row → fields_of (line_of_fields row) ≡ row
 row-fields [] is = absurd is
 row-fields (field ∷ more) is = fields_of-spaced field more is.0 is.1
 
@@ -43,14 +43,14 @@ line-reads spell Good read row undoes spells line None is = record {
 }
 line-reads spell Good read row undoes spells line (Some answer) is =
     let h = spells (fields_of line) answer (sym is) in record {
-      found = (h.0, sym (join_with_byte-slice_split 32 line) ∙ ap spaced h.1);
+      found = (h.0, sym (join_with_byte-slice_split 32 line) ∙ ap line_of_fields h.1);
       only = λ x good line_is. is ∙ ap read (ap fields_of line_is ∙ row-fields (spell x) (row x good)) ∙ undoes x good;
     }
 
 -- what stands alone is spelled by the whole line
-whole-spelled : {A : Type 0} (spell : A → List (List ℕ)) (Good : A → Type 0) (at : List (List ℕ) → Option (A × List (List ℕ))) → ((fields rest : List (List ℕ)) (x : A) → at fields ≡ Some (x, rest) → Good x × (fields ≡ spell x ++ rest)) → (fields : List (List ℕ)) (x : A) → (at fields >>= alone) ≡ Some x → Good x × (fields ≡ spell x)
+whole-spelled : {A : Type 0} (spell : A → List (List ℕ)) (Good : A → Type 0) (at : List (List ℕ) → Option (A × List (List ℕ))) → ((fields rest : List (List ℕ)) (x : A) → at fields ≡ Some (x, rest) → Good x × (fields ≡ spell x ++ rest)) → (fields : List (List ℕ)) (x : A) → (at fields >>= value_at_end) ≡ Some x → Good x × (fields ≡ spell x)
 whole-spelled {A} spell Good at spells fields x h =
-    option_and_then_some alone (at fields) x h (λ p taken one.
+    option_and_then_some value_at_end (at fields) x h (λ p taken one.
     let s = spells fields p.1 p.0 taken in
     let a = alone-is p x one in
     (subst Good a.0 s.0, s.1 ∙ ap (λ rest. spell p.0 ++ rest) a.1 ∙ append-nil (spell p.0) ∙ ap spell a.0))
@@ -58,9 +58,9 @@ whole-spelled {A} spell Good at spells fields x h =
 pub row-run : (run : ℕ) → IsRun run → IsRow (run_fields run)
 row-run run is = (refl, (IsField-decimal run (omega (arith, is.most)), tt))
 
-pub run-reads : (line : List ℕ) (answer : Option ℕ) → answer ≡ (run_at (fields_of line) >>= alone) → Reads run_fields IsRun line answer
+pub run-reads : (line : List ℕ) (answer : Option ℕ) → answer ≡ (run_at (fields_of line) >>= value_at_end) → Reads run_fields IsRun line answer
 run-reads line answer is =
-    line-reads run_fields IsRun (λ fields. run_at fields >>= alone) row-run (λ run good. ap (λ o. o >>= alone) (run-taken run [] good)) (whole-spelled run_fields IsRun run_at run-spelled) line answer is
+    line-reads run_fields IsRun (λ fields. run_at fields >>= value_at_end) row-run (λ run good. ap (λ o. o >>= value_at_end) (run-taken run [] good)) (whole-spelled run_fields IsRun run_at run-spelled) line answer is
 
 pub row-outcome : (outcome : Outcome) → IsOutcome outcome → IsRow (outcome_line outcome)
 row-outcome (Ended status) is = (refl, (refl, (IsField-signed status (wide status is), tt)))
@@ -76,7 +76,7 @@ outcome_in-spelled (word ∷ rest) outcome h =
     (s.0, ap (λ w. w ∷ rest) (same-word word (codes "outcome") test) ∙ ap (λ fields. codes "outcome" ∷ fields) s.1)) (λ _ is. absurd (none_some is))
 
 outcome_in-line : (outcome : Outcome) → IsOutcome outcome → outcome_in (outcome_line outcome) ≡ Some outcome
-outcome_in-line outcome is = ap (λ o. o >>= alone) (ap outcome_at (sym (append-nil (outcome_fields outcome))) ∙ outcome_of-fields outcome [] is)
+outcome_in-line outcome is = ap (λ o. o >>= value_at_end) (ap outcome_at (sym (append-nil (outcome_fields outcome))) ∙ outcome_of-fields outcome [] is)
 
 pub outcome-reads : (line : List ℕ) (answer : Option Outcome) → answer ≡ outcome_in (fields_of line) → Reads outcome_line IsOutcome line answer
 outcome-reads line answer is = line-reads outcome_line IsOutcome outcome_in row-outcome outcome_in-line outcome_in-spelled line answer is
@@ -86,17 +86,17 @@ row-label Fail = (refl, (refl, tt))
 row-label Pass = (refl, (refl, tt))
 row-label Uncounted = (refl, (refl, tt))
 
-pub label-reads : (line : List ℕ) (answer : Option Label) → answer ≡ (label_at (fields_of line) >>= alone) → Reads label_fields (λ _. Unit {0}) line answer
+pub label-reads : (line : List ℕ) (answer : Option Label) → answer ≡ (label_at (fields_of line) >>= value_at_end) → Reads label_fields (λ _. Unit {0}) line answer
 label-reads line answer is =
-    line-reads label_fields (λ _. Unit {0}) (λ fields. label_at fields >>= alone) (λ label _. row-label label) (λ label _. ap (λ o. o >>= alone) (label-taken label [])) (whole-spelled label_fields (λ _. Unit {0}) label_at (λ fields rest label h. (tt, label-spelled fields rest label h))) line answer is
+    line-reads label_fields (λ _. Unit {0}) (λ fields. label_at fields >>= value_at_end) (λ label _. row-label label) (λ label _. ap (λ o. o >>= value_at_end) (label-taken label [])) (whole-spelled label_fields (λ _. Unit {0}) label_at (λ fields rest label h. (tt, label-spelled fields rest label h))) line answer is
 
 pub row-work : (w : Work) → IsWork w → IsRow (work_fields w)
 row-work w is =
     (refl, (IsField-decimal w.fast (omega (arith, is.fast)), (IsField-decimal w.slow (omega (arith, is.slow)), (IsField-decimal w.tests (omega (arith, is.tests)), tt))))
 
-pub work-reads : (line : List ℕ) (answer : Option Work) → answer ≡ (work_at (fields_of line) >>= alone) → Reads work_fields IsWork line answer
+pub work-reads : (line : List ℕ) (answer : Option Work) → answer ≡ (work_at (fields_of line) >>= value_at_end) → Reads work_fields IsWork line answer
 work-reads line answer is =
-    line-reads work_fields IsWork (λ fields. work_at fields >>= alone) row-work (λ w good. ap (λ o. o >>= alone) (work-taken w [] good)) (whole-spelled work_fields IsWork work_at work-spelled) line answer is
+    line-reads work_fields IsWork (λ fields. work_at fields >>= value_at_end) row-work (λ w good. ap (λ o. o >>= value_at_end) (work-taken w [] good)) (whole-spelled work_fields IsWork work_at work-spelled) line answer is
 
 pub row-site : (e : Entry) → IsEntry e → IsRow (site_fields e)
 row-site e is =
@@ -125,7 +125,7 @@ program_field-spelled (word ∷ field ∷ []) text h =
 program_field-spelled fields text h = absurd (none_some h)
 
 -- the text of the identity that a line spells
-program-line : (line : List ℕ) (id : ProgramId) → IsId id → line ≡ spaced (program_fields id) → program_field (fields_of line) ≡ Some (text_of_id id)
+program-line : (line : List ℕ) (id : ProgramId) → IsId id → line ≡ line_of_fields (program_fields id) → program_field (fields_of line) ≡ Some (text_of_id id)
 program-line line id is line_is = ap program_field (ap fields_of line_is ∙ row-fields (program_fields id) (row-program id is))
 
 pub program-none : (line : List ℕ) → None ≡ program_field (fields_of line) → Reads program_fields IsId line None
@@ -141,9 +141,9 @@ id-found text (Some x) found only =
     let spelled = IsIdText-spells text (found refl) in
     subst (λ id. IsId id × (text ≡ text_of_id id)) (sym (some_is (only spelled.id spelled.is spelled.text_is))) (spelled.is, spelled.text_is)
 
-id-line : (line text : List ℕ) (answer : Option ProgramId) → fields_of line ≡ codes "program" ∷ text ∷ [] → IdFound text answer → IfSome answer (λ id. IsId id × (line ≡ spaced (program_fields id)))
+id-line : (line text : List ℕ) (answer : Option ProgramId) → fields_of line ≡ codes "program" ∷ text ∷ [] → IdFound text answer → IfSome answer (λ id. IsId id × (line ≡ line_of_fields (program_fields id)))
 id-line line text None is h = tt
-id-line line text (Some id) is h = (h.0, sym (join_with_byte-slice_split 32 line) ∙ ap spaced (is ∙ ap (λ t. codes "program" ∷ t ∷ []) h.1))
+id-line line text (Some id) is h = (h.0, sym (join_with_byte-slice_split 32 line) ∙ ap line_of_fields (is ∙ ap (λ t. codes "program" ∷ t ∷ []) h.1))
 
 pub program-some : (line text : List ℕ) (answer : Option ProgramId) → Some text ≡ program_field (fields_of line) → (IsSome answer → IsIdText text) → ((id : ProgramId) → IsId id → text ≡ text_of_id id → answer ≡ Some id) → Reads program_fields IsId line answer
 program-some line text answer some found only = record {

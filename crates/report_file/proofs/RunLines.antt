@@ -3,7 +3,7 @@ use Rattle.std.proofs.Common.{◌≡◌, ℕ, true, List, [], ◌∷◌, ◌++�
 use Rattle.std.specs.List.{AllByRecursion}
 use Rattle.std.proofs.lemmas.List.{append-nil}
 use Rattle.std.proofs.lemmas.Option.{option_and_then_some}
-use Rattle.cbi_base.specs.Text.{IsField, ended, fields_of, spaced}
+use Rattle.cbi_base.specs.Text.{IsField, line_with_newline, fields_of, line_of_fields}
 use Rattle.cbi_base.specs.declared.outcome.Outcome.{Outcome}
 use Rattle.cbi_base.specs.declared.outcome.Outcome.TheVariants.{Ended, Trapped, CutTurns, CutOutput}
 use Rattle.cbi_base.specs.declared.outcome.Work.{Work}
@@ -94,7 +94,7 @@ pub second-reads : (line : List ℕ) (answer : Option RunLine) → answer ≡ se
 second-reads line answer is = line-reads (run_line_fields Second) (IsRunLine Second) second_of (run-row Second) second-read second-spelled line answer is
 
 -- the parts of the line, with spaces between
-run-spaced : (run : ℕ) (outcome : Outcome) (label : Label) (work : Work) → spaced (run_fields run ++ (outcome_fields outcome ++ (label_fields label ++ work_fields work))) ≡ spaced (run_fields run) ++ (32 ∷ (spaced (outcome_fields outcome) ++ (32 ∷ (spaced (label_fields label) ++ (32 ∷ spaced (work_fields work))))))
+run-spaced : (run : ℕ) (outcome : Outcome) (label : Label) (work : Work) → line_of_fields (run_fields run ++ (outcome_fields outcome ++ (label_fields label ++ work_fields work))) ≡ line_of_fields (run_fields run) ++ (32 ∷ (line_of_fields (outcome_fields outcome) ++ (32 ∷ (line_of_fields (label_fields label) ++ (32 ∷ line_of_fields (work_fields work))))))
 run-spaced run (Ended status) label work = refl
 run-spaced run (Trapped trap) label work = refl
 run-spaced run CutTurns label work = refl
@@ -103,11 +103,11 @@ run-spaced run CutOutput label work = refl
 apart : (out r o l w : List ℕ) → (((((((out ++ r) ++ 32 ∷ []) ++ o) ++ 32 ∷ []) ++ l) ++ 32 ∷ []) ++ w) ++ 10 ∷ [] ≡ out ++ ((r ++ (32 ∷ (o ++ (32 ∷ (l ++ (32 ∷ w)))))) ++ 10 ∷ [])
 apart out r o l w = simp append_assoc
 
-pub run-joined : (x : RunLine) (out a b c d e f g h : List ℕ) → a ≡ out ++ spaced (run_fields x.run) → b ≡ a ++ 32 ∷ [] → c ≡ b ++ spaced (outcome_fields x.outcome) → d ≡ c ++ 32 ∷ [] → e ≡ d ++ spaced (label_fields x.label) → f ≡ e ++ 32 ∷ [] → g ≡ f ++ spaced (work_fields x.work) → h ≡ g ++ 10 ∷ [] → h ≡ out ++ ended (spaced (run_line_fields Second x))
+pub run-joined : (x : RunLine) (out a b c d e f g h : List ℕ) → a ≡ out ++ line_of_fields (run_fields x.run) → b ≡ a ++ 32 ∷ [] → c ≡ b ++ line_of_fields (outcome_fields x.outcome) → d ≡ c ++ 32 ∷ [] → e ≡ d ++ line_of_fields (label_fields x.label) → f ≡ e ++ 32 ∷ [] → g ≡ f ++ line_of_fields (work_fields x.work) → h ≡ g ++ 10 ∷ [] → h ≡ out ++ line_with_newline (line_of_fields (run_line_fields Second x))
 run-joined x out a b c d e f g h is_a is_b is_c is_d is_e is_f is_g is_h =
-    let r = spaced (run_fields x.run) in
-    let o = spaced (outcome_fields x.outcome) in
-    let l = spaced (label_fields x.label) in
-    let w = spaced (work_fields x.work) in
+    let r = line_of_fields (run_fields x.run) in
+    let o = line_of_fields (outcome_fields x.outcome) in
+    let l = line_of_fields (label_fields x.label) in
+    let w = line_of_fields (work_fields x.work) in
     let whole : h ≡ (((((((out ++ r) ++ 32 ∷ []) ++ o) ++ 32 ∷ []) ++ l) ++ 32 ∷ []) ++ w) ++ 10 ∷ [] = cc in
     whole ∙ apart out r o l w ∙ ap (λ line. out ++ (line ++ 10 ∷ [])) (sym (run-spaced x.run x.outcome x.label x.work))

@@ -4,7 +4,7 @@ use Rattle.std.specs.Prelude.{map}
 use Rattle.std.specs.List.{AllByRecursion}
 use Rattle.std.proofs.lemmas.List.{append-nil, map-append}
 use Rattle.report_file.proofs.RunLines.{second-not-first}
-use Rattle.cbi_base.specs.Words.{LeadsTo, ReadsLines, IsId, AreLines, Lacks, is_newline, spaced, text_of}
+use Rattle.cbi_base.specs.Words.{LeadsTo, ReadsLines, IsId, AreLines, Lacks, is_newline, line_of_fields, text_of}
 use Rattle.cbi_base.specs.declared.outcome.Outcome.{Outcome}
 use Rattle.cbi_base.proofs.FieldLemmas.{spaced-lacks-newline}
 use Rattle.report_file.specs.declared.draft.Version.{Version}
@@ -63,12 +63,12 @@ SoFar due.Sites d = IsReport d.report × IsPlain d.version d.report × (d.site �
 SoFar due.Nothing d = IsReport d.report × IsPlain d.version d.report
 
 record Holds (due : Due) (d : Draft) (lines : List (List ℕ)) : Type 0 where
-  lines_are : lines ≡ map spaced (rows_at due d)
+  lines_are : lines ≡ map line_of_fields (rows_at due d)
   so_far : SoFar due d
 
 -- one more row
-pub row-more : (lines : List (List ℕ)) (line : List ℕ) (rows : List (List (List ℕ))) (row : List (List ℕ)) → lines ≡ map spaced rows → line ≡ spaced row → lines ++ line ∷ [] ≡ map spaced (rows ++ row ∷ [])
-row-more lines line rows row are is = ap (λ ls. ls ++ line ∷ []) are ∙ ap (λ l. map spaced rows ++ l ∷ []) is ∙ sym (map-append spaced rows (row ∷ []))
+pub row-more : (lines : List (List ℕ)) (line : List ℕ) (rows : List (List (List ℕ))) (row : List (List ℕ)) → lines ≡ map line_of_fields rows → line ≡ line_of_fields row → lines ++ line ∷ [] ≡ map line_of_fields (rows ++ row ∷ [])
+row-more lines line rows row are is = ap (λ ls. ls ++ line ∷ []) are ∙ ap (λ l. map line_of_fields rows ++ l ∷ []) is ∙ sym (map-append line_of_fields rows (row ∷ []))
 
 pub AreEntries-more : (es : List Entry) (e : Entry) → AreEntries es → IsEntry e → AreEntries (es ++ e ∷ [])
 AreEntries-more [] e are is = (is, tt)
@@ -83,9 +83,9 @@ end_of-more site [] e = refl
 end_of-more site (x ∷ xs) e = end_of-more (x.site + 1) xs e
 
 -- after the outcome the label or the work is due
-outcome-step : (d : Draft) (lines : List (List ℕ)) (line : List ℕ) (outcome : Outcome) (v : Version) → d.version ≡ v → Holds due.Outcome d lines → IsOutcome outcome → line ≡ spaced (outcome_line outcome) → Holds (after_outcome v) (with_outcome d outcome) (lines ++ line ∷ [])
+outcome-step : (d : Draft) (lines : List (List ℕ)) (line : List ℕ) (outcome : Outcome) (v : Version) → d.version ≡ v → Holds due.Outcome d lines → IsOutcome outcome → line ≡ line_of_fields (outcome_line outcome) → Holds (after_outcome v) (with_outcome d outcome) (lines ++ line ∷ [])
 outcome-step d lines line outcome version.First is h good line_is = record {
-  lines_are = row-more lines line (start_rows d []) (outcome_line outcome) h.lines_are line_is ∙ ap (λ v. map spaced (start_rows d (outcome_line outcome ∷ label_rows v (label_of outcome true)))) (sym is);
+  lines_are = row-more lines line (start_rows d []) (outcome_line outcome) h.lines_are line_is ∙ ap (λ v. map line_of_fields (start_rows d (outcome_line outcome ∷ label_rows v (label_of outcome true)))) (sym is);
   so_far = (record { entries = h.so_far.0.entries; site = h.so_far.0.site }, h.so_far.1, h.so_far.2, good, λ _. refl);
 }
 outcome-step d lines line outcome version.Second is h good line_is = record {
@@ -94,12 +94,12 @@ outcome-step d lines line outcome version.Second is h good line_is = record {
 }
 
 -- a line of a site
-site-step : (d : Draft) (lines : List (List ℕ)) (line : List ℕ) (e : Entry) → Holds due.Sites d lines → IsNextEntry d.site e → line ≡ spaced (site_fields e) → Holds due.Sites (with_entry d e) (lines ++ line ∷ [])
+site-step : (d : Draft) (lines : List (List ℕ)) (line : List ℕ) (e : Entry) → Holds due.Sites d lines → IsNextEntry d.site e → line ≡ line_of_fields (site_fields e) → Holds due.Sites (with_entry d e) (lines ++ line ∷ [])
 site-step d lines line e h good line_is =
     let r = d.report in
     let is = h.so_far.0 in record {
       lines_are = row-more lines line (rows_at due.Sites d) (site_fields e) h.lines_are line_is
-          ∙ ap (λ rows. map spaced (start_rows d (outcome_line r.outcome ∷ rows))) (append_assoc (label_rows d.version r.label) (site_rows d) (site_fields e ∷ []) ∙ ap (λ sites. label_rows d.version r.label ++ work_fields r.work ∷ sites) (sym (map-append site_fields r.entries (e ∷ []))));
+          ∙ ap (λ rows. map line_of_fields (start_rows d (outcome_line r.outcome ∷ rows))) (append_assoc (label_rows d.version r.label) (site_rows d) (site_fields e ∷ []) ∙ ap (λ sites. label_rows d.version r.label ++ work_fields r.work ∷ sites) (sym (map-append site_fields r.entries (e ∷ []))));
       so_far = (
         record {
           program = is.program;
@@ -118,7 +118,7 @@ end-step : (d : Draft) (lines : List (List ℕ)) (line : List ℕ) → Holds due
 end-step d lines line h line_is =
     let r = d.report in record {
       lines_are = row-more lines line (rows_at due.Sites d) (codes "end" ∷ []) h.lines_are line_is
-          ∙ ap (λ rows. map spaced (start_rows d (outcome_line r.outcome ∷ rows))) (append_assoc (label_rows d.version r.label) (site_rows d) ((codes "end" ∷ []) ∷ []));
+          ∙ ap (λ rows. map line_of_fields (start_rows d (outcome_line r.outcome ∷ rows))) (append_assoc (label_rows d.version r.label) (site_rows d) ((codes "end" ∷ []) ∷ []));
       so_far = (h.so_far.0, h.so_far.1);
     }
 
@@ -144,14 +144,14 @@ step due.Outcome d is lines line after h s =
 step due.Label d is lines line after h s =
     let second = h.so_far.4 in
     subst (λ a. Holds a.due a (lines ++ line ∷ [])) (sym s.after_is) (record {
-      lines_are = row-more lines line (rows_at due.Label d) (label_fields s.value) h.lines_are s.line_is ∙ ap (λ v. map spaced (start_rows d (outcome_line d.report.outcome ∷ label_rows v s.value))) (sym second);
+      lines_are = row-more lines line (rows_at due.Label d) (label_fields s.value) h.lines_are s.line_is ∙ ap (λ v. map line_of_fields (start_rows d (outcome_line d.report.outcome ∷ label_rows v s.value))) (sym second);
       so_far = (record { entries = h.so_far.0.entries; site = h.so_far.0.site }, h.so_far.1, h.so_far.2, h.so_far.3, λ first. absurd (second-not-first (sym second ∙ first)));
     })
 step due.Work d is lines line after h s =
     let fresh = h.so_far.0 in
     subst (λ a. Holds a.due a (lines ++ line ∷ [])) (sym s.after_is) (record {
       lines_are = row-more lines line (rows_at due.Work d) (work_fields s.value) h.lines_are s.line_is
-          ∙ ap (λ es. map spaced (start_rows d (outcome_line d.report.outcome ∷ (label_rows d.version d.report.label ++ work_fields s.value ∷ map site_fields es)))) (sym fresh.entries);
+          ∙ ap (λ es. map line_of_fields (start_rows d (outcome_line d.report.outcome ∷ (label_rows d.version d.report.label ++ work_fields s.value ∷ map site_fields es)))) (sym fresh.entries);
       so_far = (
         record {
           program = h.so_far.1;
@@ -180,7 +180,7 @@ leads-holds (line ∷ more) done from to leads h =
 holds-start : Holds due.Title report_start []
 holds-start = record { lines_are = refl; so_far = record { entries = refl; site = refl } }
 
-spelled-as : (text : List ℕ) (v : Version) (r : Report) → IsReport r → IsPlain v r → text ≡ text_of (map spaced (rows_of_report v r)) → SpellsReport text r
+spelled-as : (text : List ℕ) (v : Version) (r : Report) → IsReport r → IsPlain v r → text ≡ text_of (map line_of_fields (rows_of_report v r)) → SpellsReport text r
 spelled-as text version.First r is plain text_is = Without is (plain refl) text_is
 spelled-as text version.Second r is plain text_is = WithLabel is text_is
 
@@ -203,16 +203,16 @@ at_sites v r entries site = record { due = due.Sites; version = v; site = site; 
 abbrev pub read_whole : Version → Report → Draft
 read_whole v r = record { due = due.Nothing; version = v; site = end_of 0 r.entries; report = r }
 
-sites-lead : (v : Version) (r : Report) (entries more : List Entry) (site : ℕ) → AreEntries more → RiseFrom site more → LeadsTo ReportLineFollows (at_sites v r entries site) (map spaced (map site_fields more ++ (codes "end" ∷ []) ∷ [])) (record (at_sites v r (entries ++ more) (end_of site more)) { due = due.Nothing })
+sites-lead : (v : Version) (r : Report) (entries more : List Entry) (site : ℕ) → AreEntries more → RiseFrom site more → LeadsTo ReportLineFollows (at_sites v r entries site) (map line_of_fields (map site_fields more ++ (codes "end" ∷ []) ∷ [])) (record (at_sites v r (entries ++ more) (end_of site more)) { due = due.Nothing })
 sites-lead v r entries [] site are rise =
     (record (at_sites v r entries site) { due = due.Nothing }, inr (refl, refl), ap (λ es. record (at_sites v r es site) { due = due.Nothing }) (sym (append-nil entries)))
 sites-lead v r entries (e ∷ more) site are rise = (
   at_sites v r (entries ++ e ∷ []) (e.site + 1),
   inl (record { value = e; is_good = record { is_entry = are.0; rises = rise.0 }; line_is = refl; after_is = refl }),
-  subst (λ es. LeadsTo ReportLineFollows (at_sites v r (entries ++ e ∷ []) (e.site + 1)) (map spaced (map site_fields more ++ (codes "end" ∷ []) ∷ [])) (record (at_sites v r es (end_of (e.site + 1) more)) { due = due.Nothing })) (append_assoc entries (e ∷ []) more) (sites-lead v r (entries ++ e ∷ []) more (e.site + 1) are.1 rise.1),
+  subst (λ es. LeadsTo ReportLineFollows (at_sites v r (entries ++ e ∷ []) (e.site + 1)) (map line_of_fields (map site_fields more ++ (codes "end" ∷ []) ∷ [])) (record (at_sites v r es (end_of (e.site + 1) more)) { due = due.Nothing })) (append_assoc entries (e ∷ []) more) (sites-lead v r (entries ++ e ∷ []) more (e.site + 1) are.1 rise.1),
 )
 
-second-leads : (r : Report) → IsReport r → LeadsTo ReportLineFollows report_start (map spaced (rows_of_report version.Second r)) (read_whole version.Second r)
+second-leads : (r : Report) → IsReport r → LeadsTo ReportLineFollows report_start (map line_of_fields (rows_of_report version.Second r)) (read_whole version.Second r)
 second-leads r is =
     let s1 = with_version report_start version.Second in
     let s2 = with_program s1 r.program in
@@ -244,7 +244,7 @@ second-leads r is =
       ),
     )
 
-first-leads : (r : Report) → IsReport r → LeadsTo ReportLineFollows report_start (map spaced (rows_of_report version.First r)) (read_whole version.First (record r { label = label_of r.outcome true }))
+first-leads : (r : Report) → IsReport r → LeadsTo ReportLineFollows report_start (map line_of_fields (rows_of_report version.First r)) (read_whole version.First (record r { label = label_of r.outcome true }))
 first-leads r is =
     let s1 = with_version report_start version.First in
     let s2 = with_program s1 r.program in
@@ -271,11 +271,11 @@ first-leads r is =
       ),
     )
 
-lacks-row : (row : List (List ℕ)) → IsRow row → Lacks is_newline (spaced row)
+lacks-row : (row : List (List ℕ)) → IsRow row → Lacks is_newline (line_of_fields row)
 lacks-row [] is = absurd is
 lacks-row (field ∷ more) is = spaced-lacks-newline (field ∷ more) is
 
-pub rows-lines : (rows : List (List (List ℕ))) → AllByRecursion IsRow rows → AreLines (map spaced rows)
+pub rows-lines : (rows : List (List (List ℕ))) → AllByRecursion IsRow rows → AreLines (map line_of_fields rows)
 rows-lines [] are = tt
 rows-lines (row ∷ more) are = (lacks-row row are.0, rows-lines more are.1)
 
@@ -296,7 +296,7 @@ pub spelled-reads : (text : List ℕ) (r : Report) → SpellsReport text r → I
 spelled-reads text r (WithLabel is text_is) = record {
   version = version.Second;
   reads = record {
-    lines = map spaced (rows_of_report version.Second r);
+    lines = map line_of_fields (rows_of_report version.Second r);
     text_is = text_is;
     are_lines = rows-lines (rows_of_report version.Second r) (are-rows version.Second r is);
     leads = second-leads r is;
@@ -306,10 +306,10 @@ spelled-reads text r (WithLabel is text_is) = record {
 spelled-reads text r (Without is plain text_is) = record {
   version = version.First;
   reads = record {
-    lines = map spaced (rows_of_report version.First r);
+    lines = map line_of_fields (rows_of_report version.First r);
     text_is = text_is;
     are_lines = rows-lines (rows_of_report version.First r) (are-rows version.First r is);
-    leads = subst (λ label. LeadsTo ReportLineFollows report_start (map spaced (rows_of_report version.First r)) (read_whole version.First (record r { label = label }))) (sym plain) (first-leads r is);
+    leads = subst (λ label. LeadsTo ReportLineFollows report_start (map line_of_fields (rows_of_report version.First r)) (read_whole version.First (record r { label = label }))) (sym plain) (first-leads r is);
     over = refl;
   };
 }

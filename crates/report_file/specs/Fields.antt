@@ -19,9 +19,9 @@ use Rattle.report_file.specs.declared.report.Entry.{Entry}
 use Rattle.report_file.specs.Report.{greatest_count, greatest_run, greatest_site, is_positive}
 
 -- the one thing in a line, with no field behind it
-abbrev pub alone : {A : Type 0} → A × List (List ℕ) → Option A
-alone (a, []) = Some a
-alone (a, field ∷ more) = None
+abbrev pub value_at_end : {A : Type 0} → A × List (List ℕ) → Option A
+value_at_end (a, []) = Some a
+value_at_end (a, field ∷ more) = None
 
 abbrev pub count_of : List ℕ → Option ℕ
 count_of field = number_of greatest_count field
@@ -100,14 +100,14 @@ entry_of_fields (word ∷ []) = None
 entry_of_fields (word ∷ number ∷ rest) =
     if is_word word (codes "site") then (do
       site ← number_of greatest_site number
-      counts ← counts_at rest >>= alone
+      counts ← counts_at rest >>= value_at_end
       if is_positive counts then Some (record { site = site; counts = counts }) else None)
     else None
 
 -- the outcome whose line has these fields, and the text of the identity
 abbrev pub outcome_in : List (List ℕ) → Option Outcome
 outcome_in [] = None
-outcome_in (word ∷ rest) = if is_word word (codes "outcome") then outcome_at rest >>= alone else None
+outcome_in (word ∷ rest) = if is_word word (codes "outcome") then outcome_at rest >>= value_at_end else None
 
 abbrev pub program_field : List (List ℕ) → Option (List ℕ)
 program_field [] = None

@@ -1,6 +1,6 @@
 -- The grammar of reports, line by line, both versions as one: which line may come next, and what is due after it.
 use Rattle.std.specs.Prelude.{◌≡◌, ◌⊎◌, ℕ, ◌+◌, ◌≤◌, true, List, [], ◌∷◌, ◌++◌, codes, replicate}
-use Rattle.cbi_base.specs.Words.{IsId, spaced}
+use Rattle.cbi_base.specs.Words.{IsId, line_of_fields}
 use Rattle.cbi_base.specs.declared.identity.ProgramId.{ProgramId}
 use Rattle.cbi_base.specs.declared.outcome.Outcome.{Outcome}
 use Rattle.cbi_base.specs.declared.outcome.Outcome.TheVariants.{CutTurns}
@@ -22,12 +22,12 @@ use Rattle.report_file.specs.Spelling.{label_fields, outcome_line, program_field
 pub record Sets {A : Type 0} (spell : A → List (List ℕ)) (Good : A → Type 0) (next : A → Draft) (line : List ℕ) (after : Draft) : Type 0 where
   pub value : A
   pub is_good : Good value
-  pub line_is : line ≡ spaced (spell value)
+  pub line_is : line ≡ line_of_fields (spell value)
   pub after_is : after ≡ next value
 
 -- nothing is read yet
-abbrev pub empty : Report
-empty = record {
+abbrev pub empty_report : Report
+empty_report = record {
   program = record { bytes = replicate 32 0 };
   run = 0;
   outcome = CutTurns;
@@ -37,7 +37,7 @@ empty = record {
 }
 
 abbrev pub report_start : Draft
-report_start = record { due = due.Title; version = version.Second; site = 0; report = empty }
+report_start = record { due = due.Title; version = version.Second; site = 0; report = empty_report }
 
 abbrev pub with_version : Draft → Version → Draft
 with_version d version = record d { due = due.Program; version = version }

@@ -5,7 +5,7 @@ use Rattle.report_file.specs.declared.draft.Version.{Version}
 use Rattle.report_file.specs.declared.draft.Version.TheVariants.{First, Second}
 use Rattle.report_file.specs.declared.report.Report.{Report}
 use Rattle.report_file.specs.declared.run_line.RunLine.{RunLine}
-use Rattle.report_file.specs.Fields.{alone, label_at, outcome_at, run_at, work_at}
+use Rattle.report_file.specs.Fields.{value_at_end, label_at, outcome_at, run_at, work_at}
 use Rattle.report_file.specs.Label.{label_of}
 use Rattle.report_file.specs.Report.{IsOutcome, IsRun, IsWork}
 use Rattle.report_file.specs.Spelling.{label_fields, outcome_fields, run_fields, site_fields, work_fields}
@@ -27,7 +27,7 @@ first_run_line fields = do
   (run, behind_run) ← run_at fields
   (outcome, behind_outcome) ← outcome_at behind_run
   (work, behind_work) ← work_at behind_outcome
-  alone (record { run = run; outcome = outcome; label = label_of outcome true; work = work }, behind_work)
+  value_at_end (record { run = run; outcome = outcome; label = label_of outcome true; work = work }, behind_work)
 
 abbrev pub second_of : List (List ℕ) → Option RunLine
 second_of fields = do
@@ -35,7 +35,7 @@ second_of fields = do
   (outcome, behind_outcome) ← outcome_at behind_run
   (label, behind_label) ← label_at behind_outcome
   (work, behind_work) ← work_at behind_label
-  alone (record { run = run; outcome = outcome; label = label; work = work }, behind_work)
+  value_at_end (record { run = run; outcome = outcome; label = label; work = work }, behind_work)
 
 -- the line of a report's run, and the lines of its sites
 abbrev pub line_of : Report → RunLine

@@ -1,7 +1,7 @@
 -- The text of a report, and the lines that it shares with a collection.
 use Rattle.std.specs.Prelude.{◌≡◌, ℕ, true, List, [], ◌∷◌, ◌++◌, map, codes, decimal}
 use Rattle.std.specs.Fmt.{signed_decimal}
-use Rattle.cbi_base.specs.Words.{text_of_id, spaced, text_of, trap_number}
+use Rattle.cbi_base.specs.Words.{text_of_id, line_of_fields, text_of, trap_number}
 use Rattle.cbi_base.specs.declared.identity.ProgramId.{ProgramId}
 use Rattle.cbi_base.specs.declared.outcome.Outcome.{Outcome}
 use Rattle.cbi_base.specs.declared.outcome.Outcome.TheVariants.{Ended, Trapped, CutTurns, CutOutput}
@@ -62,7 +62,7 @@ rows_of_report version r =
     ++ work_fields r.work ∷ (map site_fields r.entries ++ (codes "end" ∷ []) ∷ []))
 
 abbrev pub versioned_text : Version → Report → List ℕ
-versioned_text version r = text_of (map spaced (rows_of_report version r))
+versioned_text version r = text_of (map line_of_fields (rows_of_report version r))
 
 -- the lines before those of the sites, in the second version
 abbrev pub head_rows : Report → List (List (List ℕ))

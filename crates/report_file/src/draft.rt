@@ -1,4 +1,4 @@
-ghost use Rattle.std.specs.Prelude.{◌≡◌, ◌⊎◌, List, ℕ, OnOk};
+ghost use Rattle.std.specs.Prelude.{◌≡◌, ◌⊎◌, ℕ, OnOk};
 ghost use Rattle.cbi_base.specs.Words.{TakenWith, IsId};
 ghost use Rattle.report_file.specs.Grammar.{Sets, SiteFollows, ReportEndFollows, report_start, with_version, with_program, with_run, with_outcome};
 ghost use Rattle.report_file.specs.Grammar.{with_label, with_work, after_outcome};

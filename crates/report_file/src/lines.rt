@@ -1,9 +1,9 @@
 ghost use Rattle.std.specs.Prelude.{◌≡◌, ◌≤◌, ℤ, IfSome, option_map};
-ghost use Rattle.cbi_base.specs.Words.{number_of, fields_of, IsId};
-ghost use Rattle.report_file.specs.Fields.{alone, counts_at, cut_of, entry_of_fields, label_at, label_in, outcome_at, outcome_in, outcome_of};
+ghost use Rattle.cbi_base.specs.Words.{number_of, IsId};
+ghost use Rattle.report_file.specs.Fields.{value_at_end, counts_at, cut_of, entry_of_fields, label_at, label_in, outcome_at, outcome_in, outcome_of};
 ghost use Rattle.report_file.specs.Fields.{program_field, run_at, status_of, trap_numbered, trap_of, work_at};
 ghost use Rattle.report_file.specs.Reading.{Reads};
-ghost use Rattle.report_file.specs.Report.{IsEntry, IsOutcome, IsRun, IsWork, greatest_count, greatest_run, is_positive};
+ghost use Rattle.report_file.specs.Report.{IsEntry, IsOutcome, IsRun, IsWork, is_positive};
 ghost use Rattle.report_file.specs.Spelling.{label_fields, outcome_line, program_fields, run_fields, site_fields, title_fields, work_fields};
 
 use crate::draft::Version;
@@ -253,7 +253,7 @@ fn program_field<'a>(fields: &mut Fields<'a>) -> Option<&'a [u8]>
 
 /// The value, where no field is left behind it.
 pub fn alone<T: Drop>(value: T, fields: &Fields<'_>) -> Option<T>
-    ensures { result ≡ alone (value, fields.now) }
+    ensures { result ≡ value_at_end (value, fields.now) }
 {
     if fields.is_empty() { Some(value) } else { None }
 }

@@ -1,5 +1,5 @@
 ghost use Rattle.std.specs.Prelude.{◌≡◌, ◌++◌, map, IfOk, OnOk};
-ghost use Rattle.cbi_base.specs.Text.{ended, spaced, text_of};
+ghost use Rattle.cbi_base.specs.Text.{line_with_newline, line_of_fields, text_of};
 ghost use Rattle.report_file.specs.Reading.{Reads};
 ghost use Rattle.report_file.specs.RunLine.{IsRunLine, first_run_line, line_of, line_rows, run_line_fields, second_of};
 ghost use Rattle.report_file.specs.declared.draft.Version.TheVariants as version;
@@ -65,7 +65,7 @@ pub fn run_line_in(version: Version, line: &[u8]) -> Option<RunLine>
 
 // The line of the report's run.
 fn push_run_line(out: &mut Vec<u8>, report: &Report) -> Result<(), Memory>
-    ensures { OnOk result (out.new.items ≡ out.old.items ++ ended (spaced (run_line_fields version.Second (line_of report.now)))) }
+    ensures { OnOk result (out.new.items ≡ out.old.items ++ line_with_newline (line_of_fields (run_line_fields version.Second (line_of report.now)))) }
 {
     push_run(out, report.run)?;
     out.push(b' ')?;
@@ -80,7 +80,7 @@ fn push_run_line(out: &mut Vec<u8>, report: &Report) -> Result<(), Memory>
 
 /// The lines of a report in a collection: that of its run, and those of its sites.
 pub fn report_lines(alloc: Global, report: &Report) -> Result<Vec<u8>, Memory>
-    ensures { IfOk result (λ text. text.items ≡ text_of (map spaced (line_rows report.now))) }
+    ensures { IfOk result (λ text. text.items ≡ text_of (map line_of_fields (line_rows report.now))) }
 {
     let mut out = Vec::new(alloc);
     push_run_line(&mut out, report)?;

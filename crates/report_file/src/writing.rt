@@ -1,5 +1,5 @@
 ghost use Rattle.std.specs.Prelude.{◌≡◌, ◌++◌, ◌∷◌, decimal, map, IfOk, OnOk};
-ghost use Rattle.cbi_base.specs.Text.{ended, spaced, text_of};
+ghost use Rattle.cbi_base.specs.Text.{line_with_newline, line_of_fields, text_of};
 ghost use Rattle.report_file.specs.Spelling.{head_rows, label_fields, outcome_fields, outcome_line, program_fields, report_text, run_fields, site_fields};
 ghost use Rattle.report_file.specs.Spelling.{title_fields, work_fields};
 ghost use Rattle.report_file.specs.declared.draft.Version.TheVariants as version;
@@ -19,7 +19,7 @@ fn push_number(out: &mut Vec<u8>, number: u64) -> Result<(), Memory>
 
 /// Appends `run R`.
 pub fn push_run(out: &mut Vec<u8>, run: u32) -> Result<(), Memory>
-    ensures { OnOk result (out.new.items ≡ out.old.items ++ spaced (run_fields run)) }
+    ensures { OnOk result (out.new.items ≡ out.old.items ++ line_of_fields (run_fields run)) }
 {
     out.extend_from_slice(b"run")?;
     push_number(out, u64::from(run))
@@ -27,7 +27,7 @@ pub fn push_run(out: &mut Vec<u8>, run: u32) -> Result<(), Memory>
 
 /// Appends the two words of an outcome.
 pub fn push_outcome(out: &mut Vec<u8>, outcome: Outcome) -> Result<(), Memory>
-    ensures { OnOk result (out.new.items ≡ out.old.items ++ spaced (outcome_fields outcome)) }
+    ensures { OnOk result (out.new.items ≡ out.old.items ++ line_of_fields (outcome_fields outcome)) }
 {
     match outcome {
         Outcome::Ended { status } => {
@@ -49,7 +49,7 @@ pub fn push_outcome(out: &mut Vec<u8>, outcome: Outcome) -> Result<(), Memory>
 
 /// Appends `label L`.
 pub fn push_label(out: &mut Vec<u8>, label: Label) -> Result<(), Memory>
-    ensures { OnOk result (out.new.items ≡ out.old.items ++ spaced (label_fields label)) }
+    ensures { OnOk result (out.new.items ≡ out.old.items ++ line_of_fields (label_fields label)) }
 {
     match label {
         Label::Fail => Ok(out.extend_from_slice(b"label fail")?),
@@ -60,7 +60,7 @@ pub fn push_label(out: &mut Vec<u8>, label: Label) -> Result<(), Memory>
 
 /// Appends `work FAST SLOW TESTS`.
 pub fn push_work(out: &mut Vec<u8>, work: Work) -> Result<(), Memory>
-    ensures { OnOk result (out.new.items ≡ out.old.items ++ spaced (work_fields work)) }
+    ensures { OnOk result (out.new.items ≡ out.old.items ++ line_of_fields (work_fields work)) }
 {
     out.extend_from_slice(b"work")?;
     push_number(out, work.fast)?;
@@ -70,7 +70,7 @@ pub fn push_work(out: &mut Vec<u8>, work: Work) -> Result<(), Memory>
 
 // Appends the line of a site.
 fn push_entry(out: &mut Vec<u8>, entry: Entry) -> Result<(), Memory>
-    ensures { OnOk result (out.new.items ≡ out.old.items ++ ended (spaced (site_fields entry))) }
+    ensures { OnOk result (out.new.items ≡ out.old.items ++ line_with_newline (line_of_fields (site_fields entry))) }
 {
     out.extend_from_slice(b"site")?;
     push_number(out, u64::from(entry.site))?;
@@ -83,7 +83,7 @@ fn push_entry(out: &mut Vec<u8>, entry: Entry) -> Result<(), Memory>
 
 /// Appends the lines of the sites.
 pub fn push_entries(out: &mut Vec<u8>, entries: &[Entry]) -> Result<(), Memory>
-    ensures { OnOk result (out.new.items ≡ out.old.items ++ text_of (map spaced (map site_fields entries.now))) }
+    ensures { OnOk result (out.new.items ≡ out.old.items ++ text_of (map line_of_fields (map site_fields entries.now))) }
 {
     let mut rest = entries;
     while let [entry, after @ ..] = rest {
@@ -95,7 +95,8 @@ pub fn push_entries(out: &mut Vec<u8>, entries: &[Entry]) -> Result<(), Memory>
 
 // Appends the first line and that of the identity.
 fn push_title(out: &mut Vec<u8>, program: &ProgramId) -> Result<(), Memory>
-    ensures { OnOk result (out.new.items ≡ out.old.items ++ (ended (spaced (title_fields version.Second)) ++ ended (spaced (program_fields program.now)))) }
+    ensures { OnOk result (out.new.items ≡ out.old.items
+        ++ (line_with_newline (line_of_fields (title_fields version.Second)) ++ line_with_newline (line_of_fields (program_fields program.now)))) }
 {
     out.extend_from_slice(b"cbi-report 2\nprogram ")?;
     out.extend_from_slice(id_text(program).as_slice())?;
@@ -104,7 +105,7 @@ fn push_title(out: &mut Vec<u8>, program: &ProgramId) -> Result<(), Memory>
 }
 
 fn push_run_line(out: &mut Vec<u8>, run: u32) -> Result<(), Memory>
-    ensures { OnOk result (out.new.items ≡ out.old.items ++ ended (spaced (run_fields run))) }
+    ensures { OnOk result (out.new.items ≡ out.old.items ++ line_with_newline (line_of_fields (run_fields run))) }
 {
     push_run(out, run)?;
     out.push(b'\n')?;
@@ -112,7 +113,7 @@ fn push_run_line(out: &mut Vec<u8>, run: u32) -> Result<(), Memory>
 }
 
 fn push_outcome_line(out: &mut Vec<u8>, outcome: Outcome) -> Result<(), Memory>
-    ensures { OnOk result (out.new.items ≡ out.old.items ++ ended (spaced (outcome_line outcome))) }
+    ensures { OnOk result (out.new.items ≡ out.old.items ++ line_with_newline (line_of_fields (outcome_line outcome))) }
 {
     out.extend_from_slice(b"outcome ")?;
     push_outcome(out, outcome)?;
@@ -121,7 +122,7 @@ fn push_outcome_line(out: &mut Vec<u8>, outcome: Outcome) -> Result<(), Memory>
 }
 
 fn push_label_line(out: &mut Vec<u8>, label: Label) -> Result<(), Memory>
-    ensures { OnOk result (out.new.items ≡ out.old.items ++ ended (spaced (label_fields label))) }
+    ensures { OnOk result (out.new.items ≡ out.old.items ++ line_with_newline (line_of_fields (label_fields label))) }
 {
     push_label(out, label)?;
     out.push(b'\n')?;
@@ -129,7 +130,7 @@ fn push_label_line(out: &mut Vec<u8>, label: Label) -> Result<(), Memory>
 }
 
 fn push_work_line(out: &mut Vec<u8>, work: Work) -> Result<(), Memory>
-    ensures { OnOk result (out.new.items ≡ out.old.items ++ ended (spaced (work_fields work))) }
+    ensures { OnOk result (out.new.items ≡ out.old.items ++ line_with_newline (line_of_fields (work_fields work))) }
 {
     push_work(out, work)?;
     out.push(b'\n')?;
@@ -138,7 +139,7 @@ fn push_work_line(out: &mut Vec<u8>, work: Work) -> Result<(), Memory>
 
 // Appends the lines before those of the sites.
 fn push_head(out: &mut Vec<u8>, report: &Report) -> Result<(), Memory>
-    ensures { OnOk result (out.new.items ≡ out.old.items ++ text_of (map spaced (head_rows report.now))) }
+    ensures { OnOk result (out.new.items ≡ out.old.items ++ text_of (map line_of_fields (head_rows report.now))) }
 {
     push_title(out, &report.program)?;
     push_run_line(out, report.run)?;

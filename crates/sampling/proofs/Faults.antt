@@ -9,11 +9,11 @@ use Rattle.cbi_base.specs.Words.{is_zero, truth_of}
 use Rattle.flow.specs.declared.site.Site.{Site}
 use Rattle.flow.specs.declared.site.SiteKind.{SiteKind}
 use Rattle.flow.specs.declared.site.SiteKind.TheVariants.{Branch, Return, Pair}
-use Rattle.flow.specs.Words.{fork, Now, any_on, State, over, looked, sees_now, number_at, partner_number, seen_by, seen_pair, seen_truth, IsBranch, IsBranchKind}
+use Rattle.flow.specs.Words.{fork, Now, any_on, State, run_ended, seen_at_site, sees_now, number_at, partner_number, seen_by, seen_pair, seen_truth, IsBranch, IsBranchKind}
 
 -- the fork on the same operands stops with the trap
 abbrev pub ForkTraps : List Scalar → Now → Trap → Type 0
-ForkTraps operands d t = (a b : ℕ) (u : State) → fork a b (any_on operands d) u ≡ over (Trapped t) u
+ForkTraps operands d t = (a b : ℕ) (u : State) → fork a b (any_on operands d) u ≡ run_ended (Trapped t) u
 
 abbrev pub Unseen : Option Site → List Scalar → Now → Trap → Type 0
 Unseen site operands d t = (t ≡ fault.Internal) ⊎ (IsBranch site × ForkTraps operands d t)
@@ -26,7 +26,7 @@ truth_fault : (top : Scalar) (below : List Scalar) (d : Now) (t : Trap) → seen
 truth_fault (Number kind value) below d t e = absurd (truth_seen (not (is_zero value)) t e)
 truth_fault (Place object offset) below d t e = cc
 truth_fault Null below d t e = cc
-truth_fault Undefined below d t e = λ a b u. let same : fault.Undefined ≡ t = cc in ap (λ (x : Trap). over (Trapped x) u) same
+truth_fault Undefined below d t e = λ a b u. let same : fault.Undefined ≡ t = cc in ap (λ (x : Trap). run_ended (Trapped x) u) same
 
 pair_fault : (value partner : Option ℤ) (t : Trap) → seen_pair value partner ≡ Err t → t ≡ fault.Internal
 pair_fault None partner t e = cc
@@ -42,6 +42,6 @@ kind_fault (Return callee) (top ∷ below) d t e = cc
 kind_fault (Pair target slot partner) operands d t e = inl (pair_fault (number_at slot d.locals d.objects) (partner_number partner d.locals d.objects) t e)
 
 pub unseen : (site : Option Site) (d : Now) (t : Trap) → sees_now site d ≡ Err t → Unseen site d.operands d t
-unfolding looked
+unfolding seen_at_site
 unseen None d t e = inl cc
 unseen (Some s) d t e = kind_fault s.kind d.operands d t e

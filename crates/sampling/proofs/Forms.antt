@@ -22,7 +22,7 @@ use Rattle.regions.proofs.FlagLemmas.{in_within}
 use Rattle.clone_paths.specs.declared.label.CopyLabel.{CopyLabel}
 use Rattle.clone_paths.specs.declared.label.CopyLabel.TheVariants.{Enter}
 use Rattle.clone_paths.specs.Cloned.{FunctionCloned, MayClone}
-use Rattle.clone_paths.specs.Form.{IsRight}
+use Rattle.clone_paths.specs.Form.{IsAsLabelled}
 use Rattle.sampling.specs.Copies.{AreCopies, Copies}
 
 -- where the blocks of a function begin, and what its copies' nodes are labelled
@@ -46,7 +46,7 @@ pub record IsSheet (weighty : ℕ → Bool) (v w : ℕ → View) (sheet : Sheet)
   pub ends : (place next : ℕ) → ends_block (v place) ≡ true → Contains (led_to (v place)) next → sheet.starts next ≡ true
   pub entry : sheet.label 0 ≡ Some Enter
   pub each : (place : ℕ) (l : CopyLabel) → sheet.label place ≡ Some l →
-      IsRight (record { weighty = weighty; at = v; starts = sheet.starts; label = sheet.label }) l (w place)
+      IsAsLabelled (record { weighty = weighty; at = v; starts = sheet.starts; label = sheet.label }) l (w place)
 
 is_sheet : (weighty : ℕ → Bool) (number : ℕ) (f g : Option Function) (form : FormOf weighty number f g) (b : Bool) (e : weighty number ≡ b) → b ≡ true →
     (f ≡ None → ⊥) → (g ≡ None → ⊥) → IsSheet weighty (view_in f) (view_in g) (sheet_of weighty number f g form b e)

@@ -5,12 +5,12 @@ use Rattle.std.proofs.lemmas.Option.{slice_get_within}
 use Rattle.base_lists.proofs.Every.{none_in}
 use Rattle.flow.specs.declared.node.Node.{Node}
 use Rattle.flow.specs.declared.node.View.{View}
-use Rattle.flow.specs.declared.node.View.TheVariants.{Row, Halts, Forks, Turns, Calls, Gives, Quits, Marks, Skips, Tests, Picks, Imports, Exports, Nowhere}
+use Rattle.flow.specs.declared.node.View.TheVariants.{Turns, Calls, Picks, Imports}
 use Rattle.flow.specs.Words.{view_at, led_to}
 use Rattle.regions.specs.Blocks.{After}
 use Rattle.regions.specs.Weighty.{views_of}
 use Rattle.clone_paths.specs.declared.label.CopyLabel.{CopyLabel}
-use Rattle.clone_paths.specs.declared.label.CopyLabel.TheVariants.{Enter, Gate, Back, In, Out}
+use Rattle.clone_paths.specs.declared.label.CopyLabel.TheVariants.{Enter, Gate, In, Out}
 use Rattle.clone_paths.specs.declared.label.Side.TheVariants.{Fast}
 use Rattle.weights.specs.Paths.{next_nodes}
 use Rattle.clone_paths.specs.Cloned.{NodesCloned, cloning_of}

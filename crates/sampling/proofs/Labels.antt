@@ -1,16 +1,16 @@
 -- What the label of a node says of the node, and of the labels of the nodes to which it leads.
-use Rattle.std.proofs.Common.{◌≡◌, ◌⊎◌, inl, inr, ℕ, zero, suc, Bool, true, false, List, [], ◌∷◌, None, Some, refl, sym, ap, ◌∙◌, subst, arith}
+use Rattle.std.proofs.Common.{◌≡◌, ◌⊎◌, inl, inr, ℕ, suc, Bool, true, false, List, [], ◌∷◌, None, Some, refl, sym, ap, ◌∙◌, subst}
 use Rattle.std.specs.List.{Contains}
 use Rattle.base_lists.proofs.Every.{none_in, only_in, two_in}
 use Rattle.flow.specs.declared.node.View.{View}
-use Rattle.flow.specs.declared.node.View.TheVariants.{Row, Halts, Forks, Turns, Calls, Gives, Quits, Marks, Skips, Tests, Picks, Imports, Exports, Nowhere}
+use Rattle.flow.specs.declared.node.View.TheVariants.{Row, Halts, Forks, Turns, Calls, Gives, Quits, Skips, Picks, Imports, Exports}
 use Rattle.flow.specs.Nodes.{led_to}
 use Rattle.regions.specs.Blocks.{ends_block}
 use Rattle.clone_paths.specs.declared.label.CopyLabel.{CopyLabel}
 use Rattle.clone_paths.specs.declared.label.CopyLabel.TheVariants.{Enter, Gate, Back, In, Out}
 use Rattle.clone_paths.specs.declared.label.Side.{Side}
 use Rattle.clone_paths.specs.declared.label.Side.TheVariants.{Fast, Slow}
-use Rattle.clone_paths.specs.Form.{Cloning, Here, IsOut, IsRight, IsSame, Labelled, Owed, is_last, is_outlet}
+use Rattle.clone_paths.specs.Form.{Cloning, Here, IsOutletInCopy, IsAsLabelled, IsSame, StandsForNode, Owed, is_last, is_outlet}
 use Rattle.sampling.specs.Choices.{calls_weighty, is_choice, is_import, opens_region}
 use Rattle.sampling.specs.FastCopies.{LooksAtNothing, side_of}
 use Rattle.sampling.proofs.Crossing.{Inner, Leaves, Looks, Passes, Passing, Pays, Remains, inner}
@@ -69,7 +69,7 @@ inner_common t side node v q (Pays by place next fast e l) = common side (Skips 
 inner_common t side node v q (Looks site place next slow e l) =
     (subst IsQuiet (sym e) (refl, refl), slow_looks side q slow)
 
-out_common : (t : Cloning) (side : Side) (v q : View) → is_outlet t.weighty v ≡ true → IsOut t v q → IsCommon side q
+out_common : (t : Cloning) (side : Side) (v q : View) → is_outlet t.weighty v ≡ true → IsOutletInCopy t v q → IsCommon side q
 out_common t side Gives q o h = common side Gives q h refl refl tt
 out_common t side Quits q o h = common side Quits q h refl refl tt
 out_common t side (Calls function next) q o h = common side (Calls function h.0) q h.1 refl refl tt
@@ -88,7 +88,7 @@ in_side : (side : Side) (q : View) → MayLook side q → Some side ≡ Some Fas
 in_side Fast q h e = h
 in_side Slow q h e = cc
 
-pub shows : (t : Cloning) (l : CopyLabel) (q : View) → Ends t → IsRight t l q → Shows l q
+pub shows : (t : Cloning) (l : CopyLabel) (q : View) → Ends t → IsAsLabelled t l q → Shows l q
 shows t Enter q ends h = record { choice = ap is_choice h.1; import = ap is_import h.1; looks = no_side q }
 shows t (Gate node) q ends h = record { choice = ap is_choice h.3; import = ap is_import h.3; looks = no_side q }
 shows t (Back node) q ends h = record { choice = ap is_choice h.1; import = ap is_import h.1; looks = no_side q }
@@ -100,7 +100,7 @@ shows t (Out side node) q ends h =
     record { choice = c.0.0; import = c.0.1; looks = in_side side q c.1 }
 
 -- the label of a node in a copy
-pub in_label : (t : Cloning) (side : Side) (place node owed : ℕ) → Labelled t side place node owed → (n o : ℕ) × (t.label place ≡ Some (In side n o))
+pub in_label : (t : Cloning) (side : Side) (place node owed : ℕ) → StandsForNode t side place node owed → (n o : ℕ) × (t.label place ≡ Some (In side n o))
 in_label t side place node owed (Here e) = (node, owed, e)
 in_label t side place node owed (Owed site next fast at starts rest) = in_label t side place next (suc owed) rest
 
@@ -127,7 +127,7 @@ to_two t l q m n x e h k c =
 
 -- to a node of the same copy
 to_inner : (t : Cloning) (side : Side) (l : CopyLabel) (q : View) (m node owed : ℕ) → side_of l ≡ Some side → opens_region q ≡ false →
-    calls_weighty t.weighty q ≡ false → Labelled t side m node owed → Leads t l q m
+    calls_weighty t.weighty q ≡ false → StandsForNode t side m node owed → Leads t l q m
 to_inner t side l q m node owed s o w h =
     let k = in_label t side m node owed h in
     record { label = In side k.0 k.1; is = k.2; gate = sym o; back = sym w; side = λ a b c. sym s }
@@ -174,7 +174,7 @@ inner_leads t side node l v q x s (Looks site place next slow e label) c =
 called : (q : View) (b : Bool) {A : Type 0} → b ≡ true → b ≡ false → A
 called q b e f = cc
 
-out_leads : (t : Cloning) (l : CopyLabel) (v q : View) (x : ℕ) → is_outlet t.weighty v ≡ true → IsOut t v q → Contains (led_to q) x → Leads t l q x
+out_leads : (t : Cloning) (l : CopyLabel) (v q : View) (x : ℕ) → is_outlet t.weighty v ≡ true → IsOutletInCopy t v q → Contains (led_to q) x → Leads t l q x
 out_leads t l Gives q x o h c = to_none q x (ap led_to h) c
 out_leads t l Quits q x o h c = to_none q x (ap led_to h) c
 out_leads t l (Calls function next) q x o h c =
@@ -197,13 +197,13 @@ import_leads t l q m node x e label c =
       side = λ a b k. opened q (ap opens_region e) a;
     }) c
 
-gate_to : (t : Cloning) (side : Side) (node : ℕ) (q : View) (weight fast slow m : ℕ) → q ≡ Picks weight fast slow → Labelled t side m node 0 →
+gate_to : (t : Cloning) (side : Side) (node : ℕ) (q : View) (weight fast slow m : ℕ) → q ≡ Picks weight fast slow → StandsForNode t side m node 0 →
     Leads t (Gate node) q m
 gate_to t side node q weight fast slow m e h =
     let k = in_label t side m node 0 h in
     record { label = In side k.0 k.1; is = k.2; gate = sym (ap opens_region e); back = sym (ap (calls_weighty t.weighty) e); side = λ a b c. cc }
 
-pub leads : (t : Cloning) (l : CopyLabel) (q : View) (x : ℕ) → Ends t → IsRight t l q → Contains (led_to q) x → Leads t l q x
+pub leads : (t : Cloning) (l : CopyLabel) (q : View) (x : ℕ) → Ends t → IsAsLabelled t l q → Contains (led_to q) x → Leads t l q x
 leads t Enter q x ends h c = import_leads t Enter q h.0 0 x h.1 h.2 c
 leads t (Back node) q x ends h c = import_leads t (Back node) q h.0 node x h.1 h.2 c
 leads t (Gate node) q x ends h c =

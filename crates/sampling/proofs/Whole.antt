@@ -14,8 +14,8 @@ use Rattle.flow.specs.Words.{Callee, Code, callee_of, code_of, counts_of, EndsFr
 use Rattle.flow.specs.Words.{IsProgram, parts_of, IsPositive, total_of, Ending, Next, On, Over, State, IsReady}
 use Rattle.flow.proofs.Endings.{goes}
 use Rattle.clone_paths.specs.Cloned.{Cloned, MayClone}
-use Rattle.sampling.specs.Copies.{AreCopies, Copies, sampled}
-use Rattle.sampling.specs.Follows.{Follows, Own, beside}
+use Rattle.sampling.specs.Copies.{AreCopies, Copies, sampled_code}
+use Rattle.sampling.specs.Follows.{Follows, OwnState, sampled_state}
 use Rattle.sampling.specs.Runs.{RunsLike, SampledRuns}
 use Rattle.sampling.specs.Tally.{Tally}
 use Rattle.sampling.proofs.Entering.{Rest, at_entry}
@@ -28,7 +28,7 @@ Faultless full = full.outcome ≡ Trapped Internal → ⊥
 
 -- a run of the sampled program from a state that follows
 abbrev Follow : Copies → ℕ → Ending → Type 0
-Follow t steps full = (s : State) (own : Own) → Follows t s own → run t.full steps s ≡ Some full → Finished t full (On (beside s own))
+Follow t steps full = (s : State) (own : OwnState) → Follows t s own → run t.full steps s ≡ Some full → Finished t full (On (sampled_state s own))
 
 next_by : (t : Copies) (steps : ℕ) (full : Ending) → Faultless full → Follow t steps full → (n m : Next) → Matches t n m → goes t.full steps n ≡ Some full →
     Finished t full m
@@ -41,7 +41,7 @@ follow_run : (t : Copies) → AreCopies t → IsPositive t.full.bank → (full :
 unfolding run
 follow_run t are positive full faultless zero = λ s own f e. cc
 follow_run t are positive full faultless (suc steps) =
-    λ s own f e. next_by t steps full faultless (follow_run t are positive full faultless steps) (step t.full s) (On (beside s own)) (followed t s own are positive f) e
+    λ s own f e. next_by t steps full faultless (follow_run t are positive full faultless steps) (step t.full s) (On (sampled_state s own)) (followed t s own are positive f) e
 
 ends_by : (t : Copies) → AreCopies t → IsPositive t.full.bank → (full : Ending) → Faultless full → (n m : Next) → Matches t n m → EndsFrom t.full n full →
     Finished t full m
@@ -51,7 +51,7 @@ ends_by t are positive full faultless (On s) m h e =
     record { ending = f.ending; ends = h.leads f.ending f.ends; is_sample = f.is_sample }
 
 -- before the main function is entered
-abbrev own_start : Copies → Own
+abbrev own_start : Copies → OwnState
 own_start t = record {
   node = 0;
   copy = None;
@@ -72,7 +72,7 @@ start_rest t count true = (refl, tt)
 start_rest t count false = refl
 
 begins : (t : Copies) (main turns : ℕ) (input : List ℕ) (made : Option Objects) → AreCopies t → IsPositive t.full.bank →
-    Matches t (begin_with t.full main input turns made) (begin_with (sampled t) main input turns made)
+    Matches t (begin_with t.full main input turns made) (begin_with (sampled_code t) main input turns made)
 begins t main turns input None are positive =
     over_both t (at_start t.full input turns no_objects) (own_start t) (t.full.bank 0) (Trapped StackOverflow) (start_tally t.full.bank positive)
 begins t main turns input (Some objects) are positive =
@@ -81,13 +81,13 @@ begins t main turns input (Some objects) are positive =
     (start_rest t (t.full.bank 0) (t.weighty main)))
 
 -- the sampled program's code, but for its nodes
-same_code : (p : ProgramParts) (gs : List Function) (bank : ℕ → ℕ) (c : Pair p gs) → sampled (copies_of p gs bank c) ≡ code_of (record p { functions = gs }) bank
+same_code : (p : ProgramParts) (gs : List Function) (bank : ℕ → ℕ) (c : Pair p gs) → sampled_code (copies_of p gs bank c) ≡ code_of (record p { functions = gs }) bank
 same_code p gs bank c =
     let t = copies_of p gs bank c in
     let callees : t.full.callee ≡ (λ (function : ℕ). callee_of (slice_get gs function)) =
     fun_ext (λ (function : ℕ). sym (same_callee p gs c function (slice_get p.functions function) (slice_get gs function) refl refl))
     in
-    ap (λ (callee : ℕ → Option Callee). let code : Code = record (sampled t) { callee = callee } in code) callees
+    ap (λ (callee : ℕ → Option Callee). let code : Code = record (sampled_code t) { callee = callee } in code) callees
 
 with_functions : (p : ProgramParts) (gs : List Function) (input : List ℕ) (bank : ℕ → ℕ) (turns : ℕ) (full : Ending) → IsProgram p → MayClone p → IsReady p →
     Pair p gs → IsPositive bank → MachineEnds p input bank turns full → Faultless full → RunsLike p (record p { functions = gs }) input bank turns full
@@ -96,7 +96,7 @@ with_functions p gs input bank turns full is may ready c positive ends faultless
     let are = are_copies p gs bank c is may ready in
     let made = each_made (program_objects p) no_objects in
     let f = ends_by t are positive full faultless (begin_with t.full p.main input turns made)
-    (begin_with (sampled t) p.main input turns made) (begins t p.main turns input made are positive) ends
+    (begin_with (sampled_code t) p.main input turns made) (begins t p.main turns input made are positive) ends
     in
     record {
       ending = f.ending;

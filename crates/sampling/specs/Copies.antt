@@ -1,15 +1,12 @@
 -- A program and its sampled program as the machine sees them, side by side.
-use Rattle.std.specs.Prelude.{◌≡◌, ℕ, Bool, true, false, Option, None, Some, Contains}
+use Rattle.std.specs.Prelude.{◌≡◌, ℕ, Bool, true, false, Option, Some, Contains}
 use Rattle.flow.specs.declared.node.View.{View}
-use Rattle.flow.specs.declared.node.View.TheVariants.{Forks, Calls, Marks}
-use Rattle.flow.specs.declared.site.Site.{Site}
-use Rattle.flow.specs.declared.site.SiteKind.{SiteKind}
-use Rattle.flow.specs.declared.site.SiteKind.TheVariants.{Branch}
+use Rattle.flow.specs.declared.node.View.TheVariants.{Calls, Marks}
 use Rattle.flow.specs.Words.{Code, led_to, BranchesFork, IsPlain}
 use Rattle.regions.specs.Blocks.{ends_block}
 use Rattle.clone_paths.specs.declared.label.CopyLabel.{CopyLabel}
 use Rattle.clone_paths.specs.declared.label.CopyLabel.TheVariants.{Enter}
-use Rattle.clone_paths.specs.Form.{Cloning, IsRight}
+use Rattle.clone_paths.specs.Form.{Cloning, IsAsLabelled}
 
 -- the code of the program, and which functions are weighty; by function, where blocks begin, what the nodes of the sampled program are labelled,
 -- and their views
@@ -21,8 +18,8 @@ pub record Copies : Type 0 where
   pub at : ℕ → ℕ → View
 
 -- the code of the sampled program: all but the nodes are the same
-abbrev pub sampled : Copies → Code
-sampled t = record t.full { at = t.at }
+abbrev pub sampled_code : Copies → Code
+sampled_code t = record t.full { at = t.at }
 
 abbrev pub cloning : Copies → ℕ → Cloning
 cloning t function = record { weighty = t.weighty; at = t.full.at function; starts = t.starts function; label = t.label function }
@@ -37,5 +34,5 @@ pub record AreCopies (t : Copies) : Type 0 where
       Contains (led_to (t.full.at function place)) next → t.starts function next ≡ true
   pub entry : (function : ℕ) → t.weighty function ≡ true → t.label function 0 ≡ Some Enter
   pub each : (function place : ℕ) (l : CopyLabel) → t.weighty function ≡ true → t.label function place ≡ Some l
-      → IsRight (cloning t function) l (t.at function place)
+      → IsAsLabelled (cloning t function) l (t.at function place)
   pub branches : BranchesFork t.full.at t.full.site

@@ -6,7 +6,7 @@ use Rattle.weights.specs.Paths.{IsPath, marks_on}
 use Rattle.clone_paths.specs.declared.label.CopyLabel.TheVariants.{Back}
 use Rattle.clone_paths.specs.declared.label.Side.{Side}
 use Rattle.clone_paths.specs.declared.label.Side.TheVariants.{Fast, Slow}
-use Rattle.clone_paths.specs.Form.{Labelled, MayOwe}
+use Rattle.clone_paths.specs.Form.{StandsForNode, MayOwe}
 use Rattle.sampling.specs.Copies.{Copies, cloning}
 use Rattle.sampling.specs.Tally.{Tally}
 
@@ -16,20 +16,20 @@ pub record Spot : Type 0 where
   pub copy : Option ℕ
 
 -- what the sampled program's state has of its own: the node, the copy of the countdown, where the other functions wait, and the watch
-pub record Own : Type 0 where
+pub record OwnState : Type 0 where
   pub node : ℕ
   pub copy : Option ℕ
   pub spots : List Spot
   pub watch : Watch
 
-abbrev pub refit : List Frame → List Spot → List Frame
-refit [] spots = []
-refit (f ∷ below) [] = []
-refit (f ∷ below) (spot ∷ spots) = record f { node = spot.node; copy = spot.copy } ∷ refit below spots
+abbrev pub frames_at_spots : List Frame → List Spot → List Frame
+frames_at_spots [] spots = []
+frames_at_spots (f ∷ below) [] = []
+frames_at_spots (f ∷ below) (spot ∷ spots) = record f { node = spot.node; copy = spot.copy } ∷ frames_at_spots below spots
 
 -- the state of the sampled program beside this one
-abbrev pub beside : State → Own → State
-beside s own = record s { node = own.node; copy = own.copy; below = refit s.below own.spots; watch = own.watch }
+abbrev pub sampled_state : State → OwnState → State
+sampled_state s own = record s { node = own.node; copy = own.copy; below = frames_at_spots s.below own.spots; watch = own.watch }
 
 -- no path from the node within its region visits as many sites as the countdown says
 abbrev pub IsAbove : Copies → ℕ → ℕ → ℕ → Type 0
@@ -51,7 +51,7 @@ Returns t below spots = ⊥
 -- a function that runs, or waits for a weightless one: a weighty one is in a copy of itself, where its copy of the countdown is the countdown in
 -- force and what is owed, and all functions below it wait for a weighty one; a weightless one is at the same node
 pub data RunsBeside (t : Copies) (countdown function node place : ℕ) (copy : Option ℕ) (Below Waits : Type 0) : Type 0 where
-  Copied : (side : Side) (owed : ℕ) → t.weighty function ≡ true → MayOwe side owed → Labelled (cloning t function) side place node owed →
+  Copied : (side : Side) (owed : ℕ) → t.weighty function ≡ true → MayOwe side owed → StandsForNode (cloning t function) side place node owed →
       copy ≡ Some (countdown + owed) → MayRun side t countdown function node → Below → RunsBeside t countdown function node place copy Below Waits
   Weightless : t.weighty function ≡ false → place ≡ node → copy ≡ None → Waits → RunsBeside t countdown function node place copy Below Waits
 
@@ -63,7 +63,7 @@ Waits t countdown shared (f ∷ below) (spot ∷ spots) =
 Waits t countdown shared below spots = ⊥
 
 -- the sampled program's state beside this one follows it, with this countdown in force
-pub record Follows (t : Copies) (s : State) (own : Own) : Type 0 where
+pub record Follows (t : Copies) (s : State) (own : OwnState) : Type 0 where
   pub countdown : ℕ
   pub tally : Tally t.full.bank s.watch.seen own.watch.seen countdown own.watch.drawn
   pub stands : RunsBeside t countdown s.function s.node own.node own.copy (Returns t s.below own.spots)

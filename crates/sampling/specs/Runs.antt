@@ -1,9 +1,9 @@
 -- What a sampled program comes to: the theorem of sampling (PLDI 2003 section 2).
-use Rattle.std.specs.Prelude.{◌≡◌, ℕ, List, slice_get}
+use Rattle.std.specs.Prelude.{◌≡◌, ℕ, List}
 use Rattle.cbi_base.specs.declared.outcome.Outcome.TheVariants.{Trapped}
 use Rattle.cbi_base.specs.declared.trap.Trap.TheVariants.{Internal}
 use Rattle.flow.specs.declared.program.ProgramParts.{ProgramParts}
-use Rattle.flow.specs.Words.{view_in, counts_of, run_result, MachineEnds, IsProgram, IsPositive, samples, Ending, IsReady}
+use Rattle.flow.specs.Words.{counts_of, run_result, MachineEnds, IsProgram, IsPositive, samples, Ending, IsReady}
 use Rattle.clone_paths.specs.Cloned.{Cloned, MayClone}
 
 -- how a sampled run ends, beside how the full one does: the same outcome and output, and the samples of what the full one observed

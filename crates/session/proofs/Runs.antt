@@ -1,13 +1,12 @@
 -- The report of a run among the others.
 use Rattle.std.proofs.Common.{◌≡◌, ◌≢◌, ◌+◌, ℕ, Bool, true, false, cond, ◌==◌, ⊎_elim, List, [], ◌∷◌, ◌++◌, None, Some, ap, sym, subst, ◌∙◌, refl, arith}
 use Rattle.std.specs.Prelude.{nat_lt}
-use Rattle.std.proofs.lemmas.Bool.Decides.{nat_tests}
 use Rattle.base_lists.proofs.Options.{answers_none, none_some, some_is}
 use Rattle.base_lists.proofs.Numbers.{number_itself, other_number}
 use Rattle.report_file.specs.declared.label.Label.{Label}
 use Rattle.report_file.specs.declared.report.Report.{Report}
 use Rattle.report_file.specs.Report.{IsReport}
-use Rattle.collector.specs.Collected.{next_after, relabelled, report_at, with_report, without_report}
+use Rattle.collector.specs.Collected.{next_after, report_relabelled, report_at, with_report, without_report}
 use Rattle.collector.specs.Collecting.{IsCollection}
 use Rattle.collector.specs.Merging.{AreReports}
 use Rattle.collector.specs.Order.{IsOneOfReports}
@@ -95,12 +94,12 @@ pub without-with : (r : Report) (reports : List Report) → report_at r.run repo
 without-with r [] absent = ap (λ b. cond b [] (r ∷ [])) (number_itself r.run)
 without-with r (x ∷ more) absent = without-with-by (nat_lt r.run x.run) (r.run == x.run) r x more refl absent (without-with r more)
 
-without-relabelled-by : (b : Bool) (run : ℕ) (label : Label) (x : Report) (more : List Report) → (run == x.run) ≡ b → without_report run (relabelled run label more) ≡ without_report run more → without_report run (cond b (with_label label x ∷ more) (x ∷ relabelled run label more)) ≡ cond b more (x ∷ without_report run more)
+without-relabelled-by : (b : Bool) (run : ℕ) (label : Label) (x : Report) (more : List Report) → (run == x.run) ≡ b → without_report run (report_relabelled run label more) ≡ without_report run more → without_report run (cond b (with_label label x ∷ more) (x ∷ report_relabelled run label more)) ≡ cond b more (x ∷ without_report run more)
 without-relabelled-by true run label x more test rest = ap (λ b. cond b more (with_label label x ∷ without_report run more)) test
 without-relabelled-by false run label x more test rest =
-    ap (λ b. cond b (relabelled run label more) (x ∷ without_report run (relabelled run label more))) test ∙ ap (λ ys. x ∷ ys) rest
+    ap (λ b. cond b (report_relabelled run label more) (x ∷ without_report run (report_relabelled run label more))) test ∙ ap (λ ys. x ∷ ys) rest
 
-pub without-relabelled : (run : ℕ) (label : Label) (reports : List Report) → without_report run (relabelled run label reports) ≡ without_report run reports
+pub without-relabelled : (run : ℕ) (label : Label) (reports : List Report) → without_report run (report_relabelled run label reports) ≡ without_report run reports
 without-relabelled run label [] = refl
 without-relabelled run label (x ∷ more) = without-relabelled-by (run == x.run) run label x more refl (without-relabelled run label more)
 

@@ -12,8 +12,8 @@ pub record SessionState : Type 0 where
   pub policy : Policy
 
 -- the session with other reports
-abbrev pub holding : SessionState → List Report → SessionState
-holding s reports = record s { held = record s.held { reports = reports } }
+abbrev pub session_with_reports : SessionState → List Report → SessionState
+session_with_reports s reports = record s { held = record s.held { reports = reports } }
 
 -- what is kept of the runs of these reports
 pub record AreKept (branches : List Bool) (reports : List Report) (kept : Kept) : Type 0 where

@@ -2,7 +2,7 @@ ghost use Rattle.std.specs.Prelude.{◌≡◌, IfSome};
 ghost use Rattle.std.specs.Option.{option_copied};
 ghost use Rattle.collector.specs.Collected.{report_at, without_report};
 ghost use Rattle.session.specs.Session.{AreKept};
-ghost use Rattle.elimination_tallies.specs.Recount.{fails};
+ghost use Rattle.elimination_tallies.specs.Recount.{is_failing};
 ghost use Rattle.elimination_tallies.specs.Runs.{AreEntriesOf};
 ghost use Rattle.elimination_tallies.specs.Tallies.{one_if};
 
@@ -36,7 +36,7 @@ fn report_of(collection: &Collection, run: u32) -> Option<&Report>
 
 // How many failing runs a run with this label is.
 fn fails(label: Label) -> u32
-    ensures { result ≡ one_if (fails label) }
+    ensures { result ≡ one_if (is_failing label) }
 {
     match label {
         Label::Fail => 1,

@@ -1,10 +1,10 @@
 ghost use Rattle.std.specs.Prelude.{◌≡◌, ◌<◌, [], false, is_some, IfNone, IfOk, IfSome, OnErr};
-ghost use Rattle.collector.specs.Collected.{Adds, relabelled, report_at, without_report};
+ghost use Rattle.collector.specs.Collected.{Adds, report_relabelled, report_at, without_report};
 ghost use Rattle.collector.specs.Collecting.{IsCollection};
 ghost use Rattle.collector.specs.Sites.{branches_of};
 ghost use Rattle.elimination.specs.Elimination.{IsElimination};
 ghost use Rattle.report_file.specs.Report.{IsReport};
-ghost use Rattle.session.specs.Session.{SessionState, holding};
+ghost use Rattle.session.specs.Session.{SessionState, session_with_reports};
 ghost use Rattle.elimination_tallies.specs.Leading.{IsLeader, NonePasses};
 ghost use Rattle.elimination_tallies.specs.Predicates.{predicates_in};
 ghost use Rattle.elimination_tallies.specs.Recount.{recount, runs_of};
@@ -90,7 +90,7 @@ impl Session {
     /// Takes the report of a run away; false exactly where the run isn't held.
     pub fn remove(&mut self, run: u32) -> bool
         ensures found { result ≡ is_some (report_at run self.old.held.reports) }
-        ensures after { self.new ≡ holding self.old (without_report run self.old.held.reports) }
+        ensures after { self.new ≡ session_with_reports self.old (without_report run self.old.held.reports) }
         ensures absent { result ≡ false → self.new ≡ self.old }
     {
         take_out(&self.collection, &mut self.kept, run);
@@ -100,7 +100,7 @@ impl Session {
     /// Gives the report of a run another label; false exactly where the run isn't held.
     pub fn relabel(&mut self, run: u32, label: Label) -> bool
         ensures found { result ≡ is_some (report_at run self.old.held.reports) }
-        ensures after { self.new ≡ holding self.old (relabelled run label self.old.held.reports) }
+        ensures after { self.new ≡ session_with_reports self.old (report_relabelled run label self.old.held.reports) }
         ensures absent { result ≡ false → self.new ≡ self.old }
     {
         take_out(&self.collection, &mut self.kept, run);

@@ -1,6 +1,6 @@
 -- Which line a line among the edits is, by its second byte.
 use Rattle.std.proofs.Common.{◌≡◌, ◌≢◌, ◌⊎◌, ℕ, ⊎_elim, List, get_or, ap, ◌∙◌, refl, arith}
-use Rattle.cbi_base.specs.Text.{spaced}
+use Rattle.cbi_base.specs.Text.{line_of_fields}
 use Rattle.session_edits.specs.declared.draft.Draft.{Draft}
 use Rattle.session_edits.specs.declared.edit.Edit.{Edit}
 use Rattle.session_edits.specs.declared.edit.Edit.TheVariants.{Add, Remove, Relabel, Rank}
@@ -13,7 +13,7 @@ second-add d line next f = ap (λ l. get_or l 1 0) f.line_is
 pub second-site : (d : Draft) (line : List ℕ) (next : Draft) → AddedSiteFollows d line next → get_or line 1 0 ≡ 105
 second-site d line next f = ap (λ l. get_or l 1 0) f.line_is
 
-second-fields : (change : Edit) → IsChange change → get_or (spaced (edit_fields change)) 1 0 ≡ 101
+second-fields : (change : Edit) → IsChange change → get_or (line_of_fields (edit_fields change)) 1 0 ≡ 101
 second-fields (Add report) is = absurd is
 second-fields (Remove run) is = refl
 second-fields (Relabel run label) is = refl

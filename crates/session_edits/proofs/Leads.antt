@@ -4,10 +4,10 @@ use Rattle.std.specs.Prelude.{map}
 use Rattle.std.specs.List.{AllByRecursion, flat_map}
 use Rattle.std.proofs.lemmas.List.{append-nil, map-append}
 use Rattle.std.specs.Global.{Global}
-use Rattle.cbi_base.specs.Words.{LeadsTo, ReadsLines, spaced}
+use Rattle.cbi_base.specs.Words.{LeadsTo, ReadsLines, line_of_fields}
 use Rattle.cbi_base.specs.declared.identity.ProgramId.{ProgramId}
 use Rattle.cbi_base.proofs.FieldLemmas.{IsField-decimal}
-use Rattle.report_file.specs.declared.draft.Version.TheVariants.{First, Second}
+use Rattle.report_file.specs.declared.draft.Version.TheVariants.{Second}
 use Rattle.report_file.specs.declared.report.Entry.{Entry}
 use Rattle.report_file.specs.declared.report.Report.{Report}
 use Rattle.report_file.specs.Report.{AreEntries, IsReport, RiseFrom}
@@ -21,7 +21,7 @@ use Rattle.session_edits.specs.declared.draft.Due.TheVariants as due
 use Rattle.session_edits.specs.declared.draft.Reading.{Reading}
 use Rattle.session_edits.specs.declared.edit.Edit.{Edit}
 use Rattle.session_edits.specs.declared.edit.Edit.TheVariants.{Add, Remove, Relabel, Rank}
-use Rattle.session_edits.specs.Grammar.{AddFollows, EditLineFollows, EditsEnd, Goes, added, begin, begun, closed, edits_start}
+use Rattle.session_edits.specs.Grammar.{AddFollows, EditLineFollows, EditsEnd, Goes, current_addition, draft_before_edits, report_of_run_line, report_closed, edits_start}
 use Rattle.session_edits.specs.Spelling.{AreEdits, IsEdit, SpellsEdits, byte_limit, edit_rows, edits_rows, rank_limit, ranks_in}
 use Rattle.session_edits.proofs.Room.{lead-on}
 
@@ -36,13 +36,13 @@ at alloc program edits current site ranks = record { alloc = alloc; due = due.Ed
 abbrev with_entries : Report → List Entry → Report
 with_entries r entries = record r { entries = entries }
 
-sites-lead : (alloc : Global) (program : ProgramId) (edits : List Edit) (r : Report) (ranks : ℕ) (done more : List Entry) (site : ℕ) → AreEntries more → RiseFrom site more → LeadsTo Goes (at alloc program edits (Some (with_entries r done)) site ranks) (map spaced (map site_fields more)) (at alloc program edits (Some (with_entries r (done ++ more))) (end_of site more) ranks)
+sites-lead : (alloc : Global) (program : ProgramId) (edits : List Edit) (r : Report) (ranks : ℕ) (done more : List Entry) (site : ℕ) → AreEntries more → RiseFrom site more → LeadsTo Goes (at alloc program edits (Some (with_entries r done)) site ranks) (map line_of_fields (map site_fields more)) (at alloc program edits (Some (with_entries r (done ++ more))) (end_of site more) ranks)
 sites-lead alloc program edits r ranks done [] site are rise = ap (λ es. at alloc program edits (Some (with_entries r es)) site ranks) (sym (append-nil done))
 sites-lead alloc program edits r ranks done (e ∷ more) site are rise =
     let rest = sites-lead alloc program edits r ranks (done ++ e ∷ []) more (e.site + 1) are.1 rise.1 in (
       at alloc program edits (Some (with_entries r (done ++ e ∷ []))) (e.site + 1) ranks,
       inr (inl (record { report = with_entries r done; value = e; is_current = refl; is_next = record { is_entry = are.0; rises = rise.0 }; line_is = refl; after_is = refl })),
-      subst (λ es. LeadsTo Goes (at alloc program edits (Some (with_entries r (done ++ e ∷ []))) (e.site + 1) ranks) (map spaced (map site_fields more)) (at alloc program edits (Some (with_entries r es)) (end_of (e.site + 1) more) ranks)) (append_assoc done (e ∷ []) more) rest,
+      subst (λ es. LeadsTo Goes (at alloc program edits (Some (with_entries r (done ++ e ∷ []))) (e.site + 1) ranks) (map line_of_fields (map site_fields more)) (at alloc program edits (Some (with_entries r es)) (end_of (e.site + 1) more) ranks)) (append_assoc done (e ∷ []) more) rest,
     )
 
 -- where the lines of edits lead: all of them are there
@@ -51,28 +51,28 @@ record Arrives (alloc : Global) (program : ProgramId) (from : Draft) (lines : Li
   current : Option Report
   site : ℕ
   leads : LeadsTo Goes from lines (at alloc program edits current site ranks)
-  whole_is : edits ++ added current ≡ all
+  whole_is : edits ++ current_addition current ≡ all
 
 is-run-line : (r : Report) → IsReport r → IsRunLine Second (line_of r)
 is-run-line r is = record { run = is.run; outcome = is.outcome; work = is.work; label = λ e. absurd (second-not-first e) }
 
-edit-leads : (alloc : Global) (program : ProgramId) (edits : List Edit) (current : Option Report) (site ranks : ℕ) (e : Edit) → IsEdit program e → ranks + ranks_in (e ∷ []) ≤ rank_limit → Arrives alloc program (at alloc program edits current site ranks) (map spaced (edit_rows e)) ((edits ++ added current) ++ e ∷ []) (ranks + ranks_in (e ∷ []))
+edit-leads : (alloc : Global) (program : ProgramId) (edits : List Edit) (current : Option Report) (site ranks : ℕ) (e : Edit) → IsEdit program e → ranks + ranks_in (e ∷ []) ≤ rank_limit → Arrives alloc program (at alloc program edits current site ranks) (map line_of_fields (edit_rows e)) ((edits ++ current_addition current) ++ e ∷ []) (ranks + ranks_in (e ∷ []))
 edit-leads alloc program edits current site ranks (Add r) is few =
-    let whole = edits ++ added current in
+    let whole = edits ++ current_addition current in
     let x = line_of r in
-    let read = with_entries (begun program x) r.entries in
+    let read = with_entries (report_of_run_line program x) r.entries in
     let same : read ≡ r = ap (λ p. record r { program = p }) (sym is.1) in
-    let first = at alloc program whole (Some (begun program x)) 0 ranks in
-    let line : AddFollows (at alloc program edits current site ranks) (spaced (codes "add" ∷ run_line_fields Second x)) first = record { value = x; is_line = is-run-line r is.0; line_is = refl; after_is = refl } in
-    let sites = sites-lead alloc program whole (begun program x) ranks [] r.entries 0 is.0.entries is.0.rising in record {
+    let first = at alloc program whole (Some (report_of_run_line program x)) 0 ranks in
+    let line : AddFollows (at alloc program edits current site ranks) (line_of_fields (codes "add" ∷ run_line_fields Second x)) first = record { value = x; is_line = is-run-line r is.0; line_is = refl; after_is = refl } in
+    let sites = sites-lead alloc program whole (report_of_run_line program x) ranks [] r.entries 0 is.0.entries is.0.rising in record {
       edits = whole;
       current = Some read;
       site = end_of 0 r.entries;
-      leads = (first, inl line, subst (λ n. LeadsTo Goes first (map spaced (map site_fields r.entries)) (at alloc program whole (Some read) (end_of 0 r.entries) n)) (omega arith) sites);
+      leads = (first, inl line, subst (λ n. LeadsTo Goes first (map line_of_fields (map site_fields r.entries)) (at alloc program whole (Some read) (end_of 0 r.entries) n)) (omega arith) sites);
       whole_is = ap (λ y. whole ++ Add y ∷ []) same;
     }
 edit-leads alloc program edits current site ranks (Remove run) is few =
-    let whole = edits ++ added current in record {
+    let whole = edits ++ current_addition current in record {
       edits = whole ++ Remove run ∷ [];
       current = None;
       site = site;
@@ -80,7 +80,7 @@ edit-leads alloc program edits current site ranks (Remove run) is few =
       whole_is = append-nil (whole ++ Remove run ∷ []);
     }
 edit-leads alloc program edits current site ranks (Relabel run label) is few =
-    let whole = edits ++ added current in record {
+    let whole = edits ++ current_addition current in record {
       edits = whole ++ Relabel run label ∷ [];
       current = None;
       site = site;
@@ -88,7 +88,7 @@ edit-leads alloc program edits current site ranks (Relabel run label) is few =
       whole_is = append-nil (whole ++ Relabel run label ∷ []);
     }
 edit-leads alloc program edits current site ranks Rank is few =
-    let whole = edits ++ added current in record {
+    let whole = edits ++ current_addition current in record {
       edits = whole ++ Rank ∷ [];
       current = None;
       site = site;
@@ -102,16 +102,16 @@ ranks-first (Remove run) more = omega arith
 ranks-first (Relabel run label) more = omega arith
 ranks-first Rank more = omega arith
 
-edits-lead : (alloc : Global) (program : ProgramId) (edits : List Edit) (current : Option Report) (site ranks : ℕ) (more : List Edit) → AreEdits program more → ranks + ranks_in more ≤ rank_limit → Arrives alloc program (at alloc program edits current site ranks) (map spaced (flat_map edit_rows more)) ((edits ++ added current) ++ more) (ranks + ranks_in more)
+edits-lead : (alloc : Global) (program : ProgramId) (edits : List Edit) (current : Option Report) (site ranks : ℕ) (more : List Edit) → AreEdits program more → ranks + ranks_in more ≤ rank_limit → Arrives alloc program (at alloc program edits current site ranks) (map line_of_fields (flat_map edit_rows more)) ((edits ++ current_addition current) ++ more) (ranks + ranks_in more)
 edits-lead alloc program edits current site ranks [] are few = record {
   edits = edits;
   current = current;
   site = site;
   leads = ap (λ n. at alloc program edits current site n) (omega arith);
-  whole_is = sym (append-nil (edits ++ added current));
+  whole_is = sym (append-nil (edits ++ current_addition current));
 }
 edits-lead alloc program edits current site ranks (e ∷ more) are few =
-    let whole = edits ++ added current in
+    let whole = edits ++ current_addition current in
     let from = at alloc program edits current site ranks in
     let count = ranks-first e more in
     let one = edit-leads alloc program edits current site ranks e are.0 (omega (arith, count)) in
@@ -119,11 +119,11 @@ edits-lead alloc program edits current site ranks (e ∷ more) are few =
     let rest = edits-lead alloc program one.edits one.current one.site (ranks + ranks_in (e ∷ [])) more are.1 (omega (arith, count)) in
     let sum : (ranks + ranks_in (e ∷ [])) + ranks_in more ≡ ranks + ranks_in (e ∷ more) = omega (arith, count) in
     let to : ℕ → Draft = λ n. at alloc program rest.edits rest.current rest.site n in
-    let behind = leads-append (map spaced (edit_rows e)) (map spaced (flat_map edit_rows more)) from via (to ((ranks + ranks_in (e ∷ [])) + ranks_in more)) one.leads rest.leads in record {
+    let behind = leads-append (map line_of_fields (edit_rows e)) (map line_of_fields (flat_map edit_rows more)) from via (to ((ranks + ranks_in (e ∷ [])) + ranks_in more)) one.leads rest.leads in record {
       edits = rest.edits;
       current = rest.current;
       site = rest.site;
-      leads = subst (λ n. LeadsTo Goes from (map spaced (flat_map edit_rows (e ∷ more))) (to n)) sum (subst (λ lines. LeadsTo Goes from lines (to ((ranks + ranks_in (e ∷ [])) + ranks_in more))) (sym (map-append spaced (edit_rows e) (flat_map edit_rows more))) behind);
+      leads = subst (λ n. LeadsTo Goes from (map line_of_fields (flat_map edit_rows (e ∷ more))) (to n)) sum (subst (λ lines. LeadsTo Goes from lines (to ((ranks + ranks_in (e ∷ [])) + ranks_in more))) (sym (map-append line_of_fields (edit_rows e) (flat_map edit_rows more))) behind);
       whole_is = rest.whole_is ∙ ap (λ xs. xs ++ more) one.whole_is ∙ append_assoc whole (e ∷ []) more;
     }
 
@@ -156,14 +156,14 @@ spelled-reads alloc program text edits spells =
     let s1 = at alloc program [] None 0 0 in
     let all = edits-lead alloc program [] None 0 0 edits spells.are_edits (omega (arith, spells.few_ranks)) in
     let s2 = at alloc program all.edits all.current all.site (0 + ranks_in edits) in
-    let to : Draft = record (closed s2) { due = due.Nothing } in
+    let to : Draft = record (report_closed s2) { due = due.Nothing } in
     let end_row : List (List ℕ) = codes "end" ∷ [] in
     let rows = flat_map edit_rows edits in
-    let last : LeadsTo Goes s2 (map spaced (end_row ∷ [])) to = (to, inr (inr (inr (inr (record { line_is = refl; after_is = refl })))), refl) in
-    let body : LeadsTo Goes s1 (map spaced (rows ++ end_row ∷ [])) to = subst (λ lines. LeadsTo Goes s1 lines to) (sym (map-append spaced rows (end_row ∷ []))) (leads-append (map spaced rows) (map spaced (end_row ∷ [])) s1 s2 to all.leads last) in
-    let lines = map spaced (edits_rows edits) in
-    let goes : LeadsTo Goes (begin alloc program) lines to = (s1, record { line_is = refl; after_is = refl }, body) in
-    let on = lead-on lines byte_limit (begin alloc program) to goes (subst (λ t. length t ≤ byte_limit) spells.text_is spells.few_bytes) in record {
+    let last : LeadsTo Goes s2 (map line_of_fields (end_row ∷ [])) to = (to, inr (inr (inr (inr (record { line_is = refl; after_is = refl })))), refl) in
+    let body : LeadsTo Goes s1 (map line_of_fields (rows ++ end_row ∷ [])) to = subst (λ lines. LeadsTo Goes s1 lines to) (sym (map-append line_of_fields rows (end_row ∷ []))) (leads-append (map line_of_fields rows) (map line_of_fields (end_row ∷ [])) s1 s2 to all.leads last) in
+    let lines = map line_of_fields (edits_rows edits) in
+    let goes : LeadsTo Goes (draft_before_edits alloc program) lines to = (s1, record { line_is = refl; after_is = refl }, body) in
+    let on = lead-on lines byte_limit (draft_before_edits alloc program) to goes (subst (λ t. length t ≤ byte_limit) spells.text_is spells.few_bytes) in record {
       to = record { room = on.left; draft = to };
       reads = record {
         lines = lines;

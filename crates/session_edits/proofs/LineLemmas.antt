@@ -1,14 +1,12 @@
 -- The lines of edits are read as they are spelled.
 use Rattle.std.proofs.Common.{◌≡◌, ◌≢◌, ℕ, List, [], ◌∷◌, ◌++◌, Option, None, Some, IfSome, codes, decimal, ap, sym, subst, ◌∙◌, refl, arith}
-use Rattle.std.specs.Option.{option_map}
 use Rattle.std.proofs.lemmas.Bool.{leb-true, le-leb}
 use Rattle.std.proofs.lemmas.Option.{option_and_then_some}
 use Rattle.base_lists.proofs.Tests.{some_choice}
-use Rattle.base_lists.proofs.Options.{mapped, none_some, some_is}
-use Rattle.cbi_base.specs.Words.{greatest_u32, fields_of, spaced}
+use Rattle.base_lists.proofs.Options.{none_some, some_is}
+use Rattle.cbi_base.specs.Words.{greatest_u32, fields_of, line_of_fields}
 use Rattle.cbi_base.proofs.FieldLemmas.{IsField-decimal}
 use Rattle.cbi_base.proofs.NumberLemmas.{same-word, number_of-decimal, number_of-spelled}
-use Rattle.report_file.specs.declared.label.Label.{Label}
 use Rattle.report_file.specs.declared.draft.Version.TheVariants.{Second}
 use Rattle.report_file.specs.declared.run_line.RunLine.{RunLine}
 use Rattle.report_file.specs.Fields.{label_in}
@@ -16,7 +14,7 @@ use Rattle.report_file.specs.Reading.{Reads}
 use Rattle.report_file.specs.Report.{IsRun}
 use Rattle.report_file.specs.RunLine.{IsRunLine, run_line_fields}
 use Rattle.report_file.specs.Spelling.{label_word}
-use Rattle.report_file.proofs.FieldLemmas.{alone-is, label-spelled, label-taken, label_in-spelled, label_in-word}
+use Rattle.report_file.proofs.FieldLemmas.{alone-is, label_in-spelled, label_in-word}
 use Rattle.report_file.proofs.LineLemmas.{IsRow, line-reads, row-label}
 use Rattle.session_edits.specs.declared.edit.Edit.{Edit}
 use Rattle.session_edits.specs.declared.edit.Edit.TheVariants.{Add, Remove, Relabel, Rank}
@@ -26,18 +24,18 @@ use Rattle.session_edits.specs.Spelling.{IsChange, add_fields, edit_fields}
 behind-same : (a b : List ℕ) → codes "add " ++ a ≡ codes "add " ++ b → a ≡ b
 behind-same a b is = cc
 
-add-found : (line rest : List ℕ) (answer : Option RunLine) → line ≡ codes "add " ++ rest → IfSome answer (λ x. IsRunLine Second x × (rest ≡ spaced (run_line_fields Second x))) → IfSome answer (λ x. IsRunLine Second x × (line ≡ spaced (add_fields x)))
+add-found : (line rest : List ℕ) (answer : Option RunLine) → line ≡ codes "add " ++ rest → IfSome answer (λ x. IsRunLine Second x × (rest ≡ line_of_fields (run_line_fields Second x))) → IfSome answer (λ x. IsRunLine Second x × (line ≡ line_of_fields (add_fields x)))
 add-found line rest None is found = tt
 add-found line rest (Some x) is found = (found.0, is ∙ ap (λ l. codes "add " ++ l) found.1)
 
 pub add-reads : (line rest : List ℕ) (answer : Option RunLine) → line ≡ codes "add " ++ rest → Reads (run_line_fields Second) (IsRunLine Second) rest answer → Reads add_fields (IsRunLine Second) line answer
 add-reads line rest answer is reads = record {
   found = add-found line rest answer is reads.found;
-  only = λ x good line_is. reads.only x good (behind-same rest (spaced (run_line_fields Second x)) (sym is ∙ line_is));
+  only = λ x good line_is. reads.only x good (behind-same rest (line_of_fields (run_line_fields Second x)) (sym is ∙ line_is));
 }
 
 pub add-none : (line : List ℕ) → ((rest : List ℕ) → line ≢ codes "add " ++ rest) → Reads add_fields (IsRunLine Second) line None
-add-none line never = record { found = tt; only = λ x good line_is. absurd (never (spaced (run_line_fields Second x)) line_is) }
+add-none line never = record { found = tt; only = λ x good line_is. absurd (never (line_of_fields (run_line_fields Second x)) line_is) }
 
 run-read : (run : ℕ) → IsRun run → run_in (decimal run) ≡ Some run
 unfolding run_in

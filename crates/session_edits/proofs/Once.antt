@@ -2,7 +2,7 @@
 use Rattle.std.proofs.Common.{◌≡◌, ◌+◌, ℕ, List, [], ◌∷◌, ◌++◌, Some, ap, sym, ◌∙◌, refl, arith}
 use Rattle.std.specs.Global.{Global}
 use Rattle.base_lists.proofs.Options.{some_is}
-use Rattle.cbi_base.specs.Words.{LeadsOnce, fields_of, spaced}
+use Rattle.cbi_base.specs.Words.{LeadsOnce, fields_of, line_of_fields}
 use Rattle.cbi_base.specs.declared.identity.ProgramId.{ProgramId}
 use Rattle.cbi_base.proofs.LineLemmas.{reads-once}
 use Rattle.report_file.specs.declared.draft.Version.TheVariants.{Second}
@@ -22,21 +22,21 @@ use Rattle.session_edits.specs.declared.draft.Due.TheVariants as due
 use Rattle.session_edits.specs.declared.draft.Reading.{Reading}
 use Rattle.session_edits.specs.declared.edit.Edit.{Edit}
 use Rattle.session_edits.specs.Fields.{change_in}
-use Rattle.session_edits.specs.Grammar.{AddFollows, AddedSiteFollows, ChangeFollows, EditLineComes, EditLineFollows, EditsEnd, begun, closed, edits_start, whole}
+use Rattle.session_edits.specs.Grammar.{AddFollows, AddedSiteFollows, ChangeFollows, EditLineComes, EditLineFollows, EditsEnd, report_of_run_line, report_closed, edits_start, edits_so_far}
 use Rattle.session_edits.specs.Spelling.{IsChange, SpellsEdits, add_fields, edit_fields}
 use Rattle.session_edits.proofs.Choices.{by-kind, only-add, only-change, only-end, only-rank, only-site, second-add, second-change, second-end, second-rank, second-site}
 use Rattle.session_edits.proofs.Leads.{spelled-reads}
 use Rattle.session_edits.proofs.LineLemmas.{add-reads, change-reads}
 
-run-once : (line : List ℕ) (x y : RunLine) → IsRunLine Second x → IsRunLine Second y → line ≡ spaced (add_fields x) → line ≡ spaced (add_fields y) → x ≡ y
+run-once : (line : List ℕ) (x y : RunLine) → IsRunLine Second x → IsRunLine Second y → line ≡ line_of_fields (add_fields x) → line ≡ line_of_fields (add_fields y) → x ≡ y
 run-once line x y is_x is_y line_x line_y =
-    let rest = spaced (run_line_fields Second x) in
+    let rest = line_of_fields (run_line_fields Second x) in
     let answer = second_of (fields_of rest) in
     once add_fields (IsRunLine Second) line answer (add-reads line rest answer line_x (second-reads rest answer refl)) x y is_x is_y line_x line_y
 
 add-same : (d : Draft) (line : List ℕ) (a b : Draft) → AddFollows d line a → AddFollows d line b → a ≡ b
 add-same d line a b s t =
-    s.after_is ∙ ap (λ (x : RunLine). record d { edits = whole d; current = Some (begun d.program x); site = 0 }) (run-once line s.value t.value s.is_line t.is_line s.line_is t.line_is) ∙ sym t.after_is
+    s.after_is ∙ ap (λ (x : RunLine). record d { edits = edits_so_far d; current = Some (report_of_run_line d.program x); site = 0 }) (run-once line s.value t.value s.is_line t.is_line s.line_is t.line_is) ∙ sym t.after_is
 
 site-same : (d : Draft) (line : List ℕ) (a b : Draft) → AddedSiteFollows d line a → AddedSiteFollows d line b → a ≡ b
 site-same d line a b s t =
@@ -50,7 +50,7 @@ site-same d line a b s t =
 change-same : (d : Draft) (line : List ℕ) (a b : Draft) → ChangeFollows d line a → ChangeFollows d line b → a ≡ b
 change-same d line a b s t =
     let change : s.value ≡ t.value = once edit_fields IsChange line (change_in (fields_of line)) (change-reads line (change_in (fields_of line)) refl) s.value t.value s.is_change t.is_change s.line_is t.line_is in
-    s.after_is ∙ ap (λ (e : Edit). record (closed d) { edits = whole d ++ e ∷ [] }) change ∙ sym t.after_is
+    s.after_is ∙ ap (λ (e : Edit). record (report_closed d) { edits = edits_so_far d ++ e ∷ [] }) change ∙ sym t.after_is
 
 comes-once : (now : Due) (d : Draft) (line : List ℕ) (a b : Draft) → EditLineComes now d line a → EditLineComes now d line b → a ≡ b
 comes-once due.Title d line a b s t = s.after_is ∙ sym t.after_is

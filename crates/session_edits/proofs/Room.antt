@@ -1,12 +1,12 @@
 -- Lines lead on where they come one after another and there is room for all of them.
 use Rattle.std.proofs.Common.{◌≡◌, ◌+◌, ◌-◌, ◌≤◌, ℕ, List, [], ◌∷◌, length, ap, refl, length-append, arith}
-use Rattle.cbi_base.specs.Words.{LeadsTo, ended, text_of}
+use Rattle.cbi_base.specs.Words.{LeadsTo, line_with_newline, text_of}
 use Rattle.session_edits.specs.declared.draft.Draft.{Draft}
 use Rattle.session_edits.specs.declared.draft.Reading.{Reading}
 use Rattle.session_edits.specs.Grammar.{EditLineFollows, Goes}
 
 text-length : (line : List ℕ) (more : List (List ℕ)) → length (text_of (line ∷ more)) ≡ length line + 1 + length (text_of more)
-text-length line more = omega (arith, length-append {A = ℕ} (ended line) (text_of more), length-append {A = ℕ} line (10 ∷ []))
+text-length line more = omega (arith, length-append {A = ℕ} (line_with_newline line) (text_of more), length-append {A = ℕ} line (10 ∷ []))
 
 pub record LeadWithin (from : Draft) (lines : List (List ℕ)) (to : Draft) (room : ℕ) : Type 0 where
   pub leads : LeadsTo Goes from lines to

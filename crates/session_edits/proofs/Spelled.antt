@@ -5,7 +5,7 @@ use Rattle.std.specs.List.{flat_map}
 use Rattle.std.proofs.lemmas.List.{append-nil, map-append}
 use Rattle.std.proofs.lemmas.Grind.{flat_map-append}
 use Rattle.std.specs.Global.{Global}
-use Rattle.cbi_base.specs.Words.{LeadsTo, ReadsLines, IsId, spaced, text_of}
+use Rattle.cbi_base.specs.Words.{LeadsTo, ReadsLines, IsId, line_of_fields, text_of}
 use Rattle.cbi_base.specs.declared.identity.ProgramId.{ProgramId}
 use Rattle.report_file.specs.declared.draft.Version.TheVariants.{Second}
 use Rattle.report_file.specs.declared.report.Entry.{Entry}
@@ -21,7 +21,7 @@ use Rattle.session_edits.specs.declared.draft.Due.TheVariants as due
 use Rattle.session_edits.specs.declared.draft.Reading.{Reading}
 use Rattle.session_edits.specs.declared.edit.Edit.{Edit}
 use Rattle.session_edits.specs.declared.edit.Edit.TheVariants.{Add, Remove, Relabel, Rank}
-use Rattle.session_edits.specs.Grammar.{EditLineComes, EditLineFollows, EditsEnd, Goes, added, begin, begun, closed, edits_start, whole}
+use Rattle.session_edits.specs.Grammar.{EditLineComes, EditLineFollows, EditsEnd, Goes, current_addition, draft_before_edits, report_of_run_line, report_closed, edits_start, edits_so_far}
 use Rattle.session_edits.specs.Spelling.{AreEdits, IsChange, IsEdit, SpellsEdits, add_fields, edit_fields, edit_rows, edits_rows, rank_limit, ranks_in, site_rows}
 use Rattle.session_edits.proofs.Choices.{by-kind}
 use Rattle.session_edits.proofs.Room.{lead-within}
@@ -50,7 +50,7 @@ ranks-more (Relabel run label ∷ xs) ys = ranks-more xs ys
 ranks-more (Rank ∷ xs) ys = omega (arith, ranks-more xs ys)
 
 -- the report that goes on is whole
-closed-kept : (program : ProgramId) (edits : List Edit) (current : Option Report) (site ranks : ℕ) → Kept program edits current site ranks → Kept program (edits ++ added current) None site ranks
+closed-kept : (program : ProgramId) (edits : List Edit) (current : Option Report) (site ranks : ℕ) → Kept program edits current site ranks → Kept program (edits ++ current_addition current) None site ranks
 closed-kept program edits None site ranks k = subst (λ xs. Kept program xs None site ranks) (sym (append-nil edits)) k
 closed-kept program edits (Some r) site ranks k = record {
   is_id = k.is_id;
@@ -60,7 +60,7 @@ closed-kept program edits (Some r) site ranks k = record {
   few = k.few;
 }
 
-add-kept : (program : ProgramId) (edits : List Edit) (ranks : ℕ) (site : ℕ) (x : RunLine) → Kept program edits None site ranks → IsRunLine Second x → Kept program edits (Some (begun program x)) 0 ranks
+add-kept : (program : ProgramId) (edits : List Edit) (ranks : ℕ) (site : ℕ) (x : RunLine) → Kept program edits None site ranks → IsRunLine Second x → Kept program edits (Some (report_of_run_line program x)) 0 ranks
 add-kept program edits ranks site x k is = record {
   is_id = k.is_id;
   are = k.are;
@@ -129,8 +129,8 @@ abbrev title_rows : List (List (List ℕ)) → List (List (List ℕ))
 title_rows rows = (codes "cbi-edits" ∷ codes "1" ∷ []) ∷ rows
 
 -- the rows with one row more
-add-rows : (program : ProgramId) (edits : List Edit) (x : RunLine) → flat_map edit_rows (edits ++ Add (begun program x) ∷ []) ≡ flat_map edit_rows edits ++ add_fields x ∷ []
-add-rows program edits x = flat_map-append edit_rows edits (Add (begun program x) ∷ [])
+add-rows : (program : ProgramId) (edits : List Edit) (x : RunLine) → flat_map edit_rows (edits ++ Add (report_of_run_line program x) ∷ []) ≡ flat_map edit_rows edits ++ add_fields x ∷ []
+add-rows program edits x = flat_map-append edit_rows edits (Add (report_of_run_line program x) ∷ [])
 
 more-rows : (r : Report) (e : Entry) → flat_map edit_rows (Add (with_entry r e) ∷ []) ≡ flat_map edit_rows (Add r ∷ []) ++ site_fields e ∷ []
 more-rows r e =
@@ -154,7 +154,7 @@ alone-rows edits e none =
 
 abbrev rows_at : Due → Draft → List (List (List ℕ))
 rows_at due.Title d = []
-rows_at due.Edits d = title_rows (flat_map edit_rows (whole d))
+rows_at due.Edits d = title_rows (flat_map edit_rows (edits_so_far d))
 rows_at due.Nothing d = edits_rows d.edits
 
 -- nothing was read
@@ -171,10 +171,10 @@ SoFar due.Nothing d = Kept d.program d.edits None d.site d.ranks
 
 record Holds (program : ProgramId) (due : Due) (d : Draft) (lines : List (List ℕ)) : Type 0 where
   program_is : d.program ≡ program
-  lines_are : lines ≡ map spaced (rows_at due d)
+  lines_are : lines ≡ map line_of_fields (rows_at due d)
   so_far : SoFar due d
 
-closed-so : (d : Draft) → Kept d.program d.edits d.current d.site d.ranks → Kept d.program (whole d) None d.site d.ranks
+closed-so : (d : Draft) → Kept d.program d.edits d.current d.site d.ranks → Kept d.program (edits_so_far d) None d.site d.ranks
 closed-so d k = closed-kept d.program d.edits d.current d.site d.ranks k
 
 blank-kept : (program : ProgramId) (edits : List Edit) (current : Option Report) (site ranks : ℕ) → IsId program → edits ≡ [] → current ≡ None → ranks ≡ 0 → Kept program edits current site ranks
@@ -187,40 +187,40 @@ title-step program d lines line h line_is =
     let blank = h.so_far in record {
       program_is = h.program_is;
       lines_are = row-more lines line [] (codes "cbi-edits" ∷ codes "1" ∷ []) h.lines_are line_is
-          ∙ ap (λ xs. map spaced (title_rows (flat_map edit_rows xs))) (sym (ap (λ xs. xs ++ added d.current) blank.edits ∙ ap added blank.current));
+          ∙ ap (λ xs. map line_of_fields (title_rows (flat_map edit_rows xs))) (sym (ap (λ xs. xs ++ current_addition d.current) blank.edits ∙ ap current_addition blank.current));
       so_far = blank-kept d.program d.edits d.current d.site d.ranks blank.is_id blank.edits blank.current blank.ranks;
     }
 
-add-step : (program : ProgramId) (d : Draft) (lines : List (List ℕ)) (line : List ℕ) (x : RunLine) → Holds program due.Edits d lines → IsRunLine Second x → line ≡ spaced (add_fields x) → Holds program due.Edits (record d { edits = whole d; current = Some (begun d.program x); site = 0 }) (lines ++ line ∷ [])
+add-step : (program : ProgramId) (d : Draft) (lines : List (List ℕ)) (line : List ℕ) (x : RunLine) → Holds program due.Edits d lines → IsRunLine Second x → line ≡ line_of_fields (add_fields x) → Holds program due.Edits (record d { edits = edits_so_far d; current = Some (report_of_run_line d.program x); site = 0 }) (lines ++ line ∷ [])
 add-step program d lines line x h is line_is = record {
   program_is = h.program_is;
-  lines_are = row-more lines line (rows_at due.Edits d) (add_fields x) h.lines_are line_is ∙ ap (λ rows. map spaced (title_rows rows)) (sym (add-rows d.program (whole d) x));
-  so_far = add-kept d.program (whole d) d.ranks d.site x (closed-so d h.so_far) is;
+  lines_are = row-more lines line (rows_at due.Edits d) (add_fields x) h.lines_are line_is ∙ ap (λ rows. map line_of_fields (title_rows rows)) (sym (add-rows d.program (edits_so_far d) x));
+  so_far = add-kept d.program (edits_so_far d) d.ranks d.site x (closed-so d h.so_far) is;
 }
 
-site-step : (program : ProgramId) (d : Draft) (lines : List (List ℕ)) (line : List ℕ) (r : Report) (e : Entry) → Holds program due.Edits d lines → d.current ≡ Some r → IsNextEntry d.site e → line ≡ spaced (site_fields e) → Holds program due.Edits (record d { current = Some (with_entry r e); site = e.site + 1 }) (lines ++ line ∷ [])
+site-step : (program : ProgramId) (d : Draft) (lines : List (List ℕ)) (line : List ℕ) (r : Report) (e : Entry) → Holds program due.Edits d lines → d.current ≡ Some r → IsNextEntry d.site e → line ≡ line_of_fields (site_fields e) → Holds program due.Edits (record d { current = Some (with_entry r e); site = e.site + 1 }) (lines ++ line ∷ [])
 site-step program d lines line r e h is next line_is = record {
   program_is = h.program_is;
   lines_are = row-more lines line (rows_at due.Edits d) (site_fields e) h.lines_are line_is
-      ∙ ap (λ rows. map spaced (title_rows rows)) (ap (λ c. flat_map edit_rows (d.edits ++ added c) ++ site_fields e ∷ []) is ∙ sym (site-more d.edits r e));
+      ∙ ap (λ rows. map line_of_fields (title_rows rows)) (ap (λ c. flat_map edit_rows (d.edits ++ current_addition c) ++ site_fields e ∷ []) is ∙ sym (site-more d.edits r e));
   so_far = site-kept d.program d.edits r d.site d.ranks e (subst (λ c. Kept d.program d.edits c d.site d.ranks) is h.so_far) next;
 }
 
-change-step : (program : ProgramId) (d : Draft) (lines : List (List ℕ)) (line : List ℕ) (e : Edit) → Holds program due.Edits d lines → IsChange e → line ≡ spaced (edit_fields e) → Holds program due.Edits (record (closed d) { edits = whole d ++ e ∷ [] }) (lines ++ line ∷ [])
+change-step : (program : ProgramId) (d : Draft) (lines : List (List ℕ)) (line : List ℕ) (e : Edit) → Holds program due.Edits d lines → IsChange e → line ≡ line_of_fields (edit_fields e) → Holds program due.Edits (record (report_closed d) { edits = edits_so_far d ++ e ∷ [] }) (lines ++ line ∷ [])
 change-step program d lines line e h is line_is = record {
   program_is = h.program_is;
-  lines_are = row-more lines line (rows_at due.Edits d) (edit_fields e) h.lines_are line_is ∙ ap (λ rows. map spaced (title_rows rows)) (sym (alone-rows (whole d) e (change-sites e is)));
-  so_far = change-kept d.program (whole d) d.site d.ranks e (closed-so d h.so_far) is;
+  lines_are = row-more lines line (rows_at due.Edits d) (edit_fields e) h.lines_are line_is ∙ ap (λ rows. map line_of_fields (title_rows rows)) (sym (alone-rows (edits_so_far d) e (change-sites e is)));
+  so_far = change-kept d.program (edits_so_far d) d.site d.ranks e (closed-so d h.so_far) is;
 }
 
-rank-step : (program : ProgramId) (d : Draft) (lines : List (List ℕ)) (line : List ℕ) → Holds program due.Edits d lines → d.ranks < rank_limit → line ≡ codes "rank" → Holds program due.Edits (record (closed d) { edits = whole d ++ Rank ∷ []; ranks = d.ranks + 1 }) (lines ++ line ∷ [])
+rank-step : (program : ProgramId) (d : Draft) (lines : List (List ℕ)) (line : List ℕ) → Holds program due.Edits d lines → d.ranks < rank_limit → line ≡ codes "rank" → Holds program due.Edits (record (report_closed d) { edits = edits_so_far d ++ Rank ∷ []; ranks = d.ranks + 1 }) (lines ++ line ∷ [])
 rank-step program d lines line h room line_is = record {
   program_is = h.program_is;
-  lines_are = row-more lines line (rows_at due.Edits d) (edit_fields Rank) h.lines_are line_is ∙ ap (λ rows. map spaced (title_rows rows)) (sym (alone-rows (whole d) Rank refl));
-  so_far = rank-kept d.program (whole d) d.site d.ranks (closed-so d h.so_far) room;
+  lines_are = row-more lines line (rows_at due.Edits d) (edit_fields Rank) h.lines_are line_is ∙ ap (λ rows. map line_of_fields (title_rows rows)) (sym (alone-rows (edits_so_far d) Rank refl));
+  so_far = rank-kept d.program (edits_so_far d) d.site d.ranks (closed-so d h.so_far) room;
 }
 
-end-step : (program : ProgramId) (d : Draft) (lines : List (List ℕ)) (line : List ℕ) → Holds program due.Edits d lines → line ≡ codes "end" → Holds program due.Nothing (record (closed d) { due = due.Nothing }) (lines ++ line ∷ [])
+end-step : (program : ProgramId) (d : Draft) (lines : List (List ℕ)) (line : List ℕ) → Holds program due.Edits d lines → line ≡ codes "end" → Holds program due.Nothing (record (report_closed d) { due = due.Nothing }) (lines ++ line ∷ [])
 end-step program d lines line h line_is = record {
   program_is = h.program_is;
   lines_are = row-more lines line (rows_at due.Edits d) (codes "end" ∷ []) h.lines_are line_is;
@@ -241,11 +241,11 @@ step program due.Title d is lines line after h s =
     so-after program lines line due.Edits (record d { due = due.Edits }) after refl s.after_is (title-step program d lines line h s.line_is)
 step program due.Edits d is lines line after h s =
     by-kind d line after
-    (λ f. so-after program lines line due.Edits (record d { edits = whole d; current = Some (begun d.program f.value); site = 0 }) after is f.after_is (add-step program d lines line f.value h f.is_line f.line_is))
+    (λ f. so-after program lines line due.Edits (record d { edits = edits_so_far d; current = Some (report_of_run_line d.program f.value); site = 0 }) after is f.after_is (add-step program d lines line f.value h f.is_line f.line_is))
     (λ f. so-after program lines line due.Edits (record d { current = Some (with_entry f.report f.value); site = f.value.site + 1 }) after is f.after_is (site-step program d lines line f.report f.value h f.is_current f.is_next f.line_is))
-    (λ f. so-after program lines line due.Edits (record (closed d) { edits = whole d ++ f.value ∷ [] }) after is f.after_is (change-step program d lines line f.value h f.is_change f.line_is))
-    (λ f. so-after program lines line due.Edits (record (closed d) { edits = whole d ++ Rank ∷ []; ranks = d.ranks + 1 }) after is f.after_is (rank-step program d lines line h f.room f.line_is))
-    (λ f. so-after program lines line due.Nothing (record (closed d) { due = due.Nothing }) after refl f.after_is (end-step program d lines line h f.line_is)) s
+    (λ f. so-after program lines line due.Edits (record (report_closed d) { edits = edits_so_far d ++ f.value ∷ [] }) after is f.after_is (change-step program d lines line f.value h f.is_change f.line_is))
+    (λ f. so-after program lines line due.Edits (record (report_closed d) { edits = edits_so_far d ++ Rank ∷ []; ranks = d.ranks + 1 }) after is f.after_is (rank-step program d lines line h f.room f.line_is))
+    (λ f. so-after program lines line due.Nothing (record (report_closed d) { due = due.Nothing }) after refl f.after_is (end-step program d lines line h f.line_is)) s
 step program due.Nothing d is lines line after h s = absurd s
 
 leads-holds : (program : ProgramId) (lines done : List (List ℕ)) (from to : Draft) → LeadsTo Goes from lines to → Holds program from.due from done → Holds program to.due to (done ++ lines)
@@ -257,9 +257,9 @@ leads-holds program (line ∷ more) done from to leads h =
 pub reads-spelled : (program : ProgramId) (text : List ℕ) (alloc : Global) (from to : Reading) → IsId program → from ≡ edits_start alloc program → ReadsLines EditLineFollows EditsEnd from text to → SpellsEdits program text to.draft.edits
 reads-spelled program text alloc from to is_id is reads =
     let d = to.draft in
-    let first : Holds program due.Title (begin alloc program) [] = record { program_is = refl; lines_are = refl; so_far = record { is_id = is_id; edits = refl; current = refl; ranks = refl } } in
+    let first : Holds program due.Title (draft_before_edits alloc program) [] = record { program_is = refl; lines_are = refl; so_far = record { is_id = is_id; edits = refl; current = refl; ranks = refl } } in
     let within = lead-within reads.lines (edits_start alloc program) to (subst (λ r. LeadsTo EditLineFollows r reads.lines to) is reads.leads) in
-    let h = leads-holds program reads.lines [] (begin alloc program) d within.leads first in
+    let h = leads-holds program reads.lines [] (draft_before_edits alloc program) d within.leads first in
     let over : Holds program due.Nothing d reads.lines = subst (λ x. Holds program x d reads.lines) reads.over h in record {
       are_edits = subst (λ p. AreEdits p d.edits) over.program_is over.so_far.are;
       few_ranks = omega (arith, over.so_far.ranks_are, over.so_far.few);

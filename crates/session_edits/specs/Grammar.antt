@@ -1,7 +1,7 @@
 -- The grammar of edits, line by line: which line may come next, and what is due after it.
 use Rattle.std.specs.Prelude.{◌≡◌, ◌⊎◌, ◌+◌, ◌-◌, ◌<◌, ℕ, List, [], ◌∷◌, ◌++◌, length, Option, None, Some, codes}
 use Rattle.std.specs.Global.{Global}
-use Rattle.cbi_base.specs.Text.{spaced}
+use Rattle.cbi_base.specs.Text.{line_of_fields}
 use Rattle.cbi_base.specs.declared.identity.ProgramId.{ProgramId}
 use Rattle.report_file.specs.declared.draft.Version.TheVariants.{Second}
 use Rattle.report_file.specs.declared.report.Entry.{Entry}
@@ -19,37 +19,37 @@ use Rattle.session_edits.specs.declared.edit.Edit.{Edit}
 use Rattle.session_edits.specs.declared.edit.Edit.TheVariants.{Add, Rank}
 
 -- nothing is read yet
-abbrev pub begin : Global → ProgramId → Draft
-begin alloc program = record { alloc = alloc; due = due.Title; program = program; edits = []; current = None; site = 0; ranks = 0 }
+abbrev pub draft_before_edits : Global → ProgramId → Draft
+draft_before_edits alloc program = record { alloc = alloc; due = due.Title; program = program; edits = []; current = None; site = 0; ranks = 0 }
 
 abbrev pub edits_start : Global → ProgramId → Reading
-edits_start alloc program = record { room = byte_limit; draft = begin alloc program }
+edits_start alloc program = record { room = byte_limit; draft = draft_before_edits alloc program }
 
 -- the edits so far, with the report that goes on
-abbrev pub added : Option Report → List Edit
-added None = []
-added (Some report) = Add report ∷ []
+abbrev pub current_addition : Option Report → List Edit
+current_addition None = []
+current_addition (Some report) = Add report ∷ []
 
-abbrev pub whole : Draft → List Edit
-whole d = d.edits ++ added d.current
+abbrev pub edits_so_far : Draft → List Edit
+edits_so_far d = d.edits ++ current_addition d.current
 
-abbrev pub closed : Draft → Draft
-closed d = record d { edits = whole d; current = None }
+abbrev pub report_closed : Draft → Draft
+report_closed d = record d { edits = edits_so_far d; current = None }
 
 pub record TitleFollows (d : Draft) (line : List ℕ) (after : Draft) : Type 0 where
   pub line_is : line ≡ codes "cbi-edits 1"
   pub after_is : after ≡ record d { due = due.Edits }
 
 -- a report of the program whose sites are still to come
-abbrev pub begun : ProgramId → RunLine → Report
-begun program x = record { program = program; run = x.run; outcome = x.outcome; label = x.label; work = x.work; entries = [] }
+abbrev pub report_of_run_line : ProgramId → RunLine → Report
+report_of_run_line program x = record { program = program; run = x.run; outcome = x.outcome; label = x.label; work = x.work; entries = [] }
 
 -- the line of a run that is added
 pub record AddFollows (d : Draft) (line : List ℕ) (after : Draft) : Type 0 where
   pub value : RunLine
   pub is_line : IsRunLine Second value
-  pub line_is : line ≡ spaced (add_fields value)
-  pub after_is : after ≡ record d { edits = whole d; current = Some (begun d.program value); site = 0 }
+  pub line_is : line ≡ line_of_fields (add_fields value)
+  pub after_is : after ≡ record d { edits = edits_so_far d; current = Some (report_of_run_line d.program value); site = 0 }
 
 -- the line of a site of the run before it
 pub record AddedSiteFollows (d : Draft) (line : List ℕ) (after : Draft) : Type 0 where
@@ -57,25 +57,25 @@ pub record AddedSiteFollows (d : Draft) (line : List ℕ) (after : Draft) : Type
   pub value : Entry
   pub is_current : d.current ≡ Some report
   pub is_next : IsNextEntry d.site value
-  pub line_is : line ≡ spaced (site_fields value)
+  pub line_is : line ≡ line_of_fields (site_fields value)
   pub after_is : after ≡ record d { current = Some (record report { entries = report.entries ++ value ∷ [] }); site = value.site + 1 }
 
 -- the line of a removal or a relabelling
 pub record ChangeFollows (d : Draft) (line : List ℕ) (after : Draft) : Type 0 where
   pub value : Edit
   pub is_change : IsChange value
-  pub line_is : line ≡ spaced (edit_fields value)
-  pub after_is : after ≡ record (closed d) { edits = whole d ++ value ∷ [] }
+  pub line_is : line ≡ line_of_fields (edit_fields value)
+  pub after_is : after ≡ record (report_closed d) { edits = edits_so_far d ++ value ∷ [] }
 
 -- the line of a ranking, where one more may come
 pub record RankFollows (d : Draft) (line : List ℕ) (after : Draft) : Type 0 where
   pub room : d.ranks < rank_limit
   pub line_is : line ≡ codes "rank"
-  pub after_is : after ≡ record (closed d) { edits = whole d ++ Rank ∷ []; ranks = d.ranks + 1 }
+  pub after_is : after ≡ record (report_closed d) { edits = edits_so_far d ++ Rank ∷ []; ranks = d.ranks + 1 }
 
 pub record EditsEndFollows (d : Draft) (line : List ℕ) (after : Draft) : Type 0 where
   pub line_is : line ≡ codes "end"
-  pub after_is : after ≡ record (closed d) { due = due.Nothing }
+  pub after_is : after ≡ record (report_closed d) { due = due.Nothing }
 
 -- the line that is due
 abbrev pub EditLineComes : Due → Draft → List ℕ → Draft → Type 0

@@ -7,15 +7,15 @@ use Rattle.report_file.specs.declared.report.Report.{Report}
 use Rattle.session_edits.specs.declared.edit.Edit.{Edit}
 use Rattle.session_edits.specs.declared.edit.Edit.TheVariants.{Add, Remove, Relabel, Rank}
 
-abbrev pub removes : ℕ → Edit → Bool
-removes run (Add report) = false
-removes run (Remove other) = run == other
-removes run (Relabel other label) = false
-removes run Rank = false
+abbrev pub is_removal_of : ℕ → Edit → Bool
+is_removal_of run (Add report) = false
+is_removal_of run (Remove other) = run == other
+is_removal_of run (Relabel other label) = false
+is_removal_of run Rank = false
 
 -- the edits behind the last removal of the run, or all of them where nothing removes it
 abbrev pub behind_removal : ℕ → List Edit → List Edit
-behind_removal run edits = reverse (take_while (λ (e : Edit). not (removes run e)) (reverse edits))
+behind_removal run edits = reverse (take_while (λ (e : Edit). not (is_removal_of run e)) (reverse edits))
 
 -- the label of the last relabelling of the run, or this one where nothing relabels it
 abbrev pub last_label : ℕ → Label → List Edit → Label

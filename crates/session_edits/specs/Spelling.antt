@@ -1,7 +1,7 @@
 -- The text of a list of edits: the line of each, and behind that of an added report those of its sites.
 use Rattle.std.specs.Prelude.{◌≡◌, ℕ, ◌+◌, ◌≤◌, List, [], ◌∷◌, ◌++◌, length, map, codes, decimal}
 use Rattle.std.specs.List.{flat_map}
-use Rattle.cbi_base.specs.Text.{spaced, text_of}
+use Rattle.cbi_base.specs.Text.{line_of_fields, text_of}
 use Rattle.cbi_base.specs.declared.identity.ProgramId.{ProgramId}
 use Rattle.report_file.specs.declared.draft.Version.TheVariants.{Second}
 use Rattle.report_file.specs.declared.run_line.RunLine.{RunLine}
@@ -35,7 +35,7 @@ abbrev pub edits_rows : List Edit → List (List (List ℕ))
 edits_rows edits = (codes "cbi-edits" ∷ codes "1" ∷ []) ∷ (flat_map edit_rows edits ++ (codes "end" ∷ []) ∷ [])
 
 abbrev pub edits_text : List Edit → List ℕ
-edits_text edits = text_of (map spaced (edits_rows edits))
+edits_text edits = text_of (map line_of_fields (edits_rows edits))
 
 -- what an edit of runs of this program may say
 abbrev pub IsEdit : ProgramId → Edit → Type 0

@@ -8,7 +8,7 @@ ghost use Rattle.session_edits.specs.Grammar.{
   EditsEndFollows,
   RankFollows,
   TitleFollows,
-  closed,
+  report_closed,
   edits_start,
 };
 ghost use Rattle.session_edits.specs.declared.draft.Draft.{Draft};
@@ -68,7 +68,7 @@ impl Draft {
 
     // The report that goes on is whole.
     fn close(&mut self) -> Result<(), Memory>
-        ensures { OnOk result (self.new ≡ closed self.old) }
+        ensures { OnOk result (self.new ≡ report_closed self.old) }
     {
         let Some(report) = self.current.take() else {
             return Ok(());

@@ -1,5 +1,5 @@
 ghost use Rattle.std.specs.Prelude.{◌≡◌, ◌≢◌, ◌++◌, ℕ, List, MatchOption, codes, slice_index};
-ghost use Rattle.report_file.specs.Fields.{alone, label_in};
+ghost use Rattle.report_file.specs.Fields.{value_at_end, label_in};
 ghost use Rattle.report_file.specs.Reading.{Reads};
 ghost use Rattle.report_file.specs.RunLine.{IsRunLine};
 ghost use Rattle.report_file.specs.declared.draft.Version.TheVariants as version;
@@ -54,7 +54,7 @@ fn label_in(field: &[u8]) -> Option<Label>
 
 // The edit, where no field is left behind it.
 fn alone(edit: Edit, fields: &Fields<'_>) -> Option<Edit>
-    ensures { result ≡ alone (edit, fields.now) }
+    ensures { result ≡ value_at_end (edit, fields.now) }
 {
     if fields.is_empty() { Some(edit) } else { None }
 }

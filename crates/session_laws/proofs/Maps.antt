@@ -6,7 +6,7 @@ use Rattle.std.proofs.lemmas.List.{append-nil}
 use Rattle.base_lists.proofs.Numbers.{number_itself, other_number}
 use Rattle.report_file.specs.declared.label.Label.{Label}
 use Rattle.report_file.specs.declared.report.Report.{Report}
-use Rattle.collector.specs.Collected.{Adds, relabelled, report_at, with_report, without_report}
+use Rattle.collector.specs.Collected.{Adds, report_relabelled, report_at, with_report, without_report}
 use Rattle.collector.specs.Order.{IsOneOfReports}
 use Rattle.collector.specs.declared.answers.Added.{Added}
 use Rattle.collector.specs.declared.answers.Added.TheVariants.{New, Repeated}
@@ -41,18 +41,18 @@ above-relabelled-by : (b : Bool) (low : ℕ) (label : Label) (x : Report) (more 
 above-relabelled-by true low label x more rest above others = above
 above-relabelled-by false low label x more rest above others = (above.0, others)
 
-above-relabelled : (low run : ℕ) (label : Label) (reports : List Report) → AreAbove low reports → AreAbove low (relabelled run label reports)
+above-relabelled : (low run : ℕ) (label : Label) (reports : List Report) → AreAbove low reports → AreAbove low (report_relabelled run label reports)
 above-relabelled low run label [] above = tt
-above-relabelled low run label (x ∷ more) above = above-relabelled-by (run == x.run) low label x more (relabelled run label more) above (above-relabelled low run label more above.1)
+above-relabelled low run label (x ∷ more) above = above-relabelled-by (run == x.run) low label x more (report_relabelled run label more) above (above-relabelled low run label more above.1)
 
 rising-relabelled-by : (b : Bool) (label : Label) (x : Report) (more rest : List Report) → AreRising (x ∷ more) → AreAbove x.run rest → AreRising rest → AreRising (cond b (with_label label x ∷ more) (x ∷ rest))
 rising-relabelled-by true label x more rest rising above others = rising
 rising-relabelled-by false label x more rest rising above others = (above, others)
 
-rising-relabelled : (run : ℕ) (label : Label) (reports : List Report) → AreRising reports → AreRising (relabelled run label reports)
+rising-relabelled : (run : ℕ) (label : Label) (reports : List Report) → AreRising reports → AreRising (report_relabelled run label reports)
 rising-relabelled run label [] rising = tt
 rising-relabelled run label (x ∷ more) rising =
-    rising-relabelled-by (run == x.run) label x more (relabelled run label more) rising (above-relabelled x.run run label more rising.0) (rising-relabelled run label more rising.1)
+    rising-relabelled-by (run == x.run) label x more (report_relabelled run label more) rising (above-relabelled x.run run label more rising.0) (rising-relabelled run label more rising.1)
 
 abbrev reports_of : Held → List Report
 reports_of c = c.reports
@@ -94,11 +94,11 @@ removed-step run gone reports rising which =
     ap (λ n. report_at run (without_report n reports)) (sym same) ∙ at-without run reports rising ∙ sym (ap (λ b. cond b None (report_at run reports)) here))
     (λ (other : run ≢ gone). at-without-other run gone reports other ∙ sym (step-other run (Remove gone) (report_at run reports) other)) which
 
-relabelled-step : (run other : ℕ) (label : Label) (reports : List Report) → (run ≡ other) ⊎ (run ≢ other) → report_at run (relabelled other label reports) ≡ step run (Relabel other label) (report_at run reports)
+relabelled-step : (run other : ℕ) (label : Label) (reports : List Report) → (run ≡ other) ⊎ (run ≢ other) → report_at run (report_relabelled other label reports) ≡ step run (Relabel other label) (report_at run reports)
 relabelled-step run other label reports which =
     ⊎_elim (λ (same : run ≡ other).
     let here : (run == other) ≡ true = grind (arith, nat_tests) in
-    ap (λ n. report_at run (relabelled n label reports)) (sym same) ∙ at-relabelled run label reports ∙ sym (ap (λ b. cond b (option_map (with_label label) (report_at run reports)) (report_at run reports)) here))
+    ap (λ n. report_at run (report_relabelled n label reports)) (sym same) ∙ at-relabelled run label reports ∙ sym (ap (λ b. cond b (option_map (with_label label) (report_at run reports)) (report_at run reports)) here))
     (λ (apart : run ≢ other). at-relabelled-other run other label reports apart ∙ sym (step-other run (Relabel other label) (report_at run reports) apart)) which
 
 taken-step : (c next : Held) (e : Edit) (run : ℕ) → TakesEdit c e next → AreRising c.reports → report_at run next.reports ≡ step run e (report_at run c.reports)

@@ -9,7 +9,7 @@ use Rattle.std.proofs.lemmas.List.Sums.{take_while-cons}
 use Rattle.base_lists.proofs.Numbers.{other_number}
 use Rattle.report_file.specs.declared.label.Label.{Label}
 use Rattle.report_file.specs.declared.report.Report.{Report}
-use Rattle.session_edits.specs.Held.{behind_removal, first_added, last_label, removes, report_held}
+use Rattle.session_edits.specs.Held.{behind_removal, first_added, last_label, is_removal_of, report_held}
 use Rattle.session_edits.specs.declared.edit.Edit.{Edit}
 use Rattle.session_edits.specs.declared.edit.Edit.TheVariants.{Add, Remove, Relabel, Rank}
 use Rattle.session_laws.specs.Accepted.{AreApart, IsOf}
@@ -53,7 +53,7 @@ first-more run (Relabel other label ∷ xs) ys = first-more run xs ys
 first-more run (Rank ∷ xs) ys = first-more run xs ys
 
 abbrev stays : ℕ → Edit → Bool
-stays run e = not (removes run e)
+stays run e = not (is_removal_of run e)
 
 behind-tests : (b : Bool) (run : ℕ) (xs : List Edit) (e : Edit) → reverse (cond b (e ∷ take_while (stays run) (reverse xs)) []) ≡ cond b (behind_removal run xs ++ e ∷ []) []
 behind-tests true run xs e = reverse-append (e ∷ []) (take_while (stays run) (reverse xs))

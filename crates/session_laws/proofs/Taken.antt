@@ -3,7 +3,7 @@ use Rattle.std.proofs.Common.{◌≡◌, ◌≢◌, ◌+◌, ℕ, List, [], ◌�
 use Rattle.std.specs.Prelude.{map}
 use Rattle.base_lists.proofs.Options.{none_some, some_is}
 use Rattle.report_file.specs.declared.report.Report.{Report}
-use Rattle.collector.specs.Collected.{Adds, IsOurs, report_at}
+use Rattle.collector.specs.Collected.{Adds, IsOfCollection, report_at}
 use Rattle.collector.specs.Sites.{first_bad}
 use Rattle.collector.specs.Merging.{AddsAll}
 use Rattle.collector.specs.declared.answers.Added.{Added}
@@ -34,7 +34,7 @@ accepts-once (e ∷ more) c a b s t =
     accepts-once more s.0 a b s.2 (subst (λ (h : Held). Accepts h more b) (takes-once c t.0 s.0 e t.1 s.1) t.2)
 
 -- a report that is refused isn't added
-both-ours : (c : Held) (r : Report) (site : ℕ) → first_bad c.branches r.entries ≡ Some site → IsOurs c r → ⊥
+both-ours : (c : Held) (r : Report) (site : ℕ) → first_bad c.branches r.entries ≡ Some site → IsOfCollection c r → ⊥
 both-ours c r site bad ours = none_some (sym ours.sites ∙ bad)
 
 refused-new : (c next : Held) (r : Report) (fault : AddFault) → fault ≢ Memory → Adds c r (Err fault) c → Adds c r (Ok New) next → ⊥

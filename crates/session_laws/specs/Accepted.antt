@@ -1,7 +1,7 @@
 -- Which edits a collection accepts, one after another, and what they leave.
 use Rattle.std.specs.Prelude.{◌≡◌, ◌≢◌, ℕ, List, [], ◌∷◌, None, Ok, Err, IsSome}
 use Rattle.report_file.specs.declared.report.Report.{Report}
-use Rattle.collector.specs.Collected.{Adds, relabelled, report_at, without_report}
+use Rattle.collector.specs.Collected.{Adds, report_relabelled, report_at, without_report}
 use Rattle.collector.specs.Spelling.{RunsFrom}
 use Rattle.collector.specs.declared.answers.Added.{Added}
 use Rattle.collector.specs.declared.answers.AddFault.{AddFault}
@@ -20,7 +20,7 @@ pub record AreHeldOf (edits : List Edit) (reports : List Report) : Type 0 where
 abbrev pub TakesEdit : Held → Edit → Held → Type 0
 TakesEdit c (Add report) after = (what : Added) × Adds c report (Ok what) after
 TakesEdit c (Remove run) after = IsSome (report_at run c.reports) × (after ≡ record c { reports = without_report run c.reports })
-TakesEdit c (Relabel run label) after = IsSome (report_at run c.reports) × (after ≡ record c { reports = relabelled run label c.reports })
+TakesEdit c (Relabel run label) after = IsSome (report_at run c.reports) × (after ≡ record c { reports = report_relabelled run label c.reports })
 TakesEdit c Rank after = after ≡ c
 
 -- it accepts each edit, one after another

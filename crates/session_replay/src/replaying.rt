@@ -3,7 +3,7 @@ ghost use Rattle.cbi_base.specs.declared.policy.Policy.{Policy};
 ghost use Rattle.collector.specs.Sites.{branches_of};
 ghost use Rattle.report_file.specs.Report.{IsReport};
 ghost use Rattle.session_edits.specs.Spelling.{AreEdits, IsEdit};
-ghost use Rattle.session_laws.specs.Accepted.{Accepts, TakesEdit};
+ghost use Rattle.session_laws.specs.Accepted.{TakesEdit};
 ghost use Rattle.session_replay.specs.Replay.{AreAccepted, AreRankings, FaultsAt, Ranks, StopsAt, Writes, no_runs};
 
 use crate::fault::EditFault;

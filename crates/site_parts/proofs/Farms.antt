@@ -4,7 +4,7 @@ use Rattle.std.specs.List.{count_by}
 use Rattle.std.specs.Option.{option_map}
 use Rattle.std.proofs.lemmas.Bool.{eq-eqb, eqb-true}
 use Rattle.std.proofs.lemmas.List.Sums.{sum_by-cons}
-use Rattle.flow.specs.Words.{PartFits, code_of, counts_at, counts_from, counts_of, is_first, is_second, is_third, begin, Ending}
+use Rattle.flow.specs.Words.{PartFits, code_of, counts_at, counts_from, counts_of, is_first, is_second, is_third, run_start, Ending}
 use Rattle.cbi_base.specs.declared.observation.Observation.{Observation}
 use Rattle.cbi_base.specs.declared.observation.Seen.{Seen}
 use Rattle.cbi_base.specs.declared.outcome.Counts.{Counts}
@@ -18,10 +18,10 @@ use Rattle.std.proofs.lemmas.Option.{slice_get_within}
 use Rattle.base_lists.proofs.Tests.{same_tests}
 use Rattle.flow.specs.declared.choice.Part.{Part}
 use Rattle.site_parts.specs.Laws.{AreSideBySide, CountsOfParts, EntriesOfParts, FarmsCountTheWhole, part_at}
-use Rattle.site_parts.specs.Part.{has, number_in, part_of, part_visits, whole_number}
+use Rattle.site_parts.specs.Part.{is_site_in_part, number_in, part_of, part_visits, whole_number}
 use Rattle.site_parts.specs.Program.{part_program}
 use Rattle.site_parts.specs.Runs.{part_ending}
-use Rattle.site_parts.specs.Widened.{widened, widened_entry}
+use Rattle.site_parts.specs.Widened.{widened_entries, widened_entry}
 use Rattle.site_parts.proofs.Lists.{item_at}
 use Rattle.site_parts.proofs.Numbers.{has_whole, number_back, whole_back}
 use Rattle.site_parts.proofs.Once.{is_part_at, stands_once}
@@ -37,21 +37,21 @@ counted_more : (site : ℕ) (such : Seen → Bool) (v : Observation) (more : Lis
 counted_more site such v more = sum_by-cons (λ (o : Observation). cond (o.site == site && such o.seen) 1 0) v more
 
 -- a kept visit is of the site exactly where it is of that site's number in the part
-same_number : (part : Part) (site number : ℕ) → PartFits part → has part site ≡ true → (number_in part site == number) ≡ (site == whole_number part number)
+same_number : (part : Part) (site number : ℕ) → PartFits part → is_site_in_part part site ≡ true → (number_in part site == number) ≡ (site == whole_number part number)
 same_number part site number is h =
     let back = whole_back part site is h in
     same_tests (number_in part site == number) (site == whole_number part number)
     (λ e. eq-eqb site (whole_number part number) (sym back ∙ ap (whole_number part) (eqb-true (number_in part site) number e)))
     (λ e. eq-eqb (number_in part site) number (ap (number_in part) (eqb-true site (whole_number part number) e) ∙ number_back part number is))
 
-other_site : (part : Part) (site number : ℕ) (b : Bool) → PartFits part → has part site ≡ false → (site == whole_number part number) ≡ b → b ≡ false
+other_site : (part : Part) (site number : ℕ) (b : Bool) → PartFits part → is_site_in_part part site ≡ false → (site == whole_number part number) ≡ b → b ≡ false
 other_site part site number false is h e = refl
 other_site part site number true is h e =
     let same = eqb-true site (whole_number part number) e in
-    let yes : has part site ≡ true = ap (has part) same ∙ has_whole part number is in
+    let yes : is_site_in_part part site ≡ true = ap (is_site_in_part part) same ∙ has_whole part number is in
     absurd cc
 
-counted_by : (part : Part) (number : ℕ) (such : Seen → Bool) (v : Observation) (more : List Observation) (b : Bool) → PartFits part → has part v.site ≡ b →
+counted_by : (part : Part) (number : ℕ) (such : Seen → Bool) (v : Observation) (more : List Observation) (b : Bool) → PartFits part → is_site_in_part part v.site ≡ b →
     counted number such (part_visits part more) ≡ counted (whole_number part number) such more →
     counted number such (part_visits part (v ∷ more)) ≡ counted (whole_number part number) such (v ∷ more)
 counted_by part number such v more true is h rest =
@@ -70,7 +70,7 @@ counted_by part number such v more false is h rest =
 same_count : (part : Part) (number : ℕ) (such : Seen → Bool) (visits : List Observation) → PartFits part →
     counted number such (part_visits part visits) ≡ counted (whole_number part number) such visits
 same_count part number such [] is = refl
-same_count part number such (v ∷ more) is = counted_by part number such v more (has part v.site) is refl (same_count part number such more is)
+same_count part number such (v ∷ more) is = counted_by part number such v more (is_site_in_part part v.site) is refl (same_count part number such more is)
 
 counts_same : (part : Part) (number : ℕ) (visits : List Observation) → PartFits part → counts_at (part_visits part visits) number ≡ counts_at visits (whole_number part number)
 counts_same part number visits is =
@@ -99,12 +99,12 @@ counts_of_parts part sites visits number is =
     ∙ sym (counted_at sites visits whole (slice_get sites whole) refl)
 
 -- entries that are widened
-among_widened : (part : Part) (e : Entry) (entries : List Entry) → Among e entries → Among (widened_entry part e) (widened part entries)
+among_widened : (part : Part) (e : Entry) (entries : List Entry) → Among e entries → Among (widened_entry part e) (widened_entries part entries)
 among_widened part e [] among = absurd among
 among_widened part e (x ∷ more) (inl same) = inl (ap (widened_entry part) same)
 among_widened part e (x ∷ more) (inr later) = inr (among_widened part e more later)
 
-before_widened : (part : Part) (e : Entry) (entries : List Entry) → Among e (widened part entries) → (x : Entry) × Among x entries × (e ≡ widened_entry part x)
+before_widened : (part : Part) (e : Entry) (entries : List Entry) → Among e (widened_entries part entries) → (x : Entry) × Among x entries × (e ≡ widened_entry part x)
 before_widened part e [] among = absurd among
 before_widened part e (x ∷ more) (inl same) = (x, inl refl, same)
 before_widened part e (x ∷ more) (inr later) = let b = before_widened part e more later in (b.0, inr b.1, b.2)
@@ -124,7 +124,7 @@ entries_of_parts count sites visits some few = record {
       let all = among-all (counts_of (part_of part sites) (part_visits part visits)) once.number e.counts there is.1 in (
         once.index,
         once.within,
-        subst (λ (n : ℕ). let y : Entry = record { site = n; counts = e.counts } in Among y (widened (part_at count once.index) (part_entries (part_at count once.index) sites visits))) once.is
+        subst (λ (n : ℕ). let y : Entry = record { site = n; counts = e.counts } in Among y (widened_entries (part_at count once.index) (part_entries (part_at count once.index) sites visits))) once.is
             (among_widened part x (part_entries part sites visits) all),
       );
   only = λ e index within among.
@@ -141,9 +141,9 @@ side_by_side : (count : ℕ) (f g : ℕ → List Entry) (whole : List Entry) →
 side_by_side count f g whole same are = record {
   each = λ e among.
       let a = are.each e among in
-      (a.0, a.1, subst (λ (entries : List Entry). Among e (widened (part_at count a.0) entries)) (same a.0 a.1) a.2);
+      (a.0, a.1, subst (λ (entries : List Entry). Among e (widened_entries (part_at count a.0) entries)) (same a.0 a.1) a.2);
   only = λ e index within among.
-      are.only e index within (subst (λ (entries : List Entry). Among e (widened (part_at count index) entries)) (sym (same index within)) among);
+      are.only e index within (subst (λ (entries : List Entry). Among e (widened_entries (part_at count index) entries)) (sym (same index within)) among);
 }
 
 pub farms_count : FarmsCountTheWhole
@@ -152,7 +152,7 @@ farms_count p count input bank turns whole of_part plain ready some few ends sou
     let part = part_at count index in
     let q = part_program part p in
     ap (λ (e : Ending). e.seen)
-    (one_end_from (code_of q bank) (begin q input bank turns) (part_ending part whole) (of_part index)
+    (one_end_from (code_of q bank) (run_start q input bank turns) (part_ending part whole) (of_part index)
     ((runs_in_part part p (is_part_at count index few within) plain ready).there input bank turns whole ends sound) (each index within))
     in
     side_by_side count (λ index. part_entries (part_at count index) p.sites whole.seen)

@@ -8,21 +8,21 @@ use Rattle.cbi_base.specs.Scalars.{truth_of}
 use Rattle.flow.specs.declared.site.Site.{Site}
 use Rattle.flow.specs.declared.site.SiteKind.{SiteKind}
 use Rattle.flow.specs.declared.site.SiteKind.TheVariants.{Branch, Return, Pair}
-use Rattle.flow.specs.Words.{branch, fork, Now, any_on, left_operands, State, over, sees_now, looked, number_at, partner_number, seen_by, seen_pair, seen_truth}
+use Rattle.flow.specs.Words.{branch_on_truth, fork, Now, any_on, left_operands, State, run_ended, sees_now, seen_at_site, number_at, partner_number, seen_by, seen_pair, seen_truth}
 use Rattle.flow.specs.Words.{IsBranch, IsBranchKind}
 
 -- the fork on these operands stops with the trap
 abbrev pub ForkTraps : List Scalar → Now → Trap → Type 0
-ForkTraps operands d t = (a b : ℕ) (s : State) → fork a b (any_on operands d) s ≡ over (Trapped t) s
+ForkTraps operands d t = (a b : ℕ) (s : State) → fork a b (any_on operands d) s ≡ run_ended (Trapped t) s
 
 abbrev pub Unlooked : Option Site → Now → Trap → Type 0
 Unlooked site d t = (t ≡ Internal) ⊎ (IsBranch site × ForkTraps d.operands d t)
 
 -- a condition that has no truth
-truth_lacks : (truth : Result Bool Trap) (rest : Now) (t : Trap) → seen_truth truth ≡ Err t → (a b : ℕ) (s : State) → branch a b rest truth s ≡ over (Trapped t) s
+truth_lacks : (truth : Result Bool Trap) (rest : Now) (t : Trap) → seen_truth truth ≡ Err t → (a b : ℕ) (s : State) → branch_on_truth a b rest truth s ≡ run_ended (Trapped t) s
 truth_lacks (Ok true) rest t e = cc
 truth_lacks (Ok false) rest t e = cc
-truth_lacks (Err u) rest t e = λ a b s. let same : u ≡ t = cc in ap (λ (x : Trap). over (Trapped x) s) same
+truth_lacks (Err u) rest t e = λ a b s. let same : u ≡ t = cc in ap (λ (x : Trap). run_ended (Trapped x) s) same
 
 pair_lacks : (value partner : Option ℤ) (t : Trap) → seen_pair value partner ≡ Err t → t ≡ Internal
 pair_lacks None partner t e = cc
@@ -37,6 +37,6 @@ kind_lacks (Return callee) (top ∷ below) d t e = cc
 kind_lacks (Pair target slot partner) operands d t e = inl (pair_lacks (number_at slot d.locals d.objects) (partner_number partner d.locals d.objects) t e)
 
 pub unlooked : (site : Option Site) (d : Now) (t : Trap) → sees_now site d ≡ Err t → Unlooked site d t
-unfolding looked
+unfolding seen_at_site
 unlooked None d t e = inl cc
 unlooked (Some s) d t e = kind_lacks s.kind d.operands d t e

@@ -12,7 +12,7 @@ use Rattle.collector.specs.Sites.{branches_of, first_bad, has_site, is_branch, t
 use Rattle.flow.specs.declared.choice.Part.{Part}
 use Rattle.site_parts.specs.Laws.{FitsWhenWidened, MayWidenWhatFits}
 use Rattle.site_parts.specs.Part.{part_of, whole_number}
-use Rattle.site_parts.specs.Widened.{MayWiden, widened, widened_entry}
+use Rattle.site_parts.specs.Widened.{MayWiden, widened_entries, widened_entry}
 use Rattle.site_parts.proofs.Lists.{item_at}
 
 branch_at : (part : Part) (sites : List Site) (number : ℕ) → PartFits part → slice_get (branches_of (part_of part sites)) number ≡ slice_get (branches_of sites) (whole_number part number)
@@ -35,11 +35,11 @@ fit_by true site rest h e = e
 fit_by false site rest h e = absurd cc
 
 fit_all : (part : Part) (sites : List Site) (entries : List Entry) → PartFits part → first_bad (branches_of (part_of part sites)) entries ≡ None →
-    first_bad (branches_of sites) (widened part entries) ≡ None
+    first_bad (branches_of sites) (widened_entries part entries) ≡ None
 fit_all part sites [] is e = refl
 fit_all part sites (x ∷ more) is e =
     let f = first_fits (has_site (branches_of (part_of part sites)) x) x.site (first_bad (branches_of (part_of part sites)) more) e in
-    fit_by (has_site (branches_of sites) (widened_entry part x)) (whole_number part x.site) (first_bad (branches_of sites) (widened part more))
+    fit_by (has_site (branches_of sites) (widened_entry part x)) (whole_number part x.site) (first_bad (branches_of sites) (widened_entries part more))
     (sym (same_site part sites x is) ∙ f.0) (fit_all part sites more is f.1)
 
 pub fits_when_widened : FitsWhenWidened

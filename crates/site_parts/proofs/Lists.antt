@@ -7,7 +7,7 @@ use Rattle.std.proofs.lemmas.List.Elements.{All-cons, All-head, All-nil, All-tai
 use Rattle.std.proofs.lemmas.Nat.{same_from_place}
 use Rattle.flow.specs.Sites.{PartFits}
 use Rattle.flow.specs.declared.choice.Part.{Part}
-use Rattle.site_parts.specs.Part.{has, item_in, number_in, part_of, whole_number}
+use Rattle.site_parts.specs.Part.{is_site_in_part, item_in, number_in, part_of, whole_number}
 use Rattle.site_parts.proofs.Numbers.{has_whole, whole_back}
 
 -- those among the items that have the numbers from this one on
@@ -22,7 +22,7 @@ record IsNext (part : Part) (start first : ℕ) : Type 0 where
   least : start ≤ whole_number part first
   near : whole_number part first < start + part.count
 
-next_is : (part : Part) (start first : ℕ) → PartFits part → IsNext part start first → has part start ≡ true → whole_number part first ≡ start
+next_is : (part : Part) (start first : ℕ) → PartFits part → IsNext part start first → is_site_in_part part start ≡ true → whole_number part first ≡ start
 next_is part start first is next h =
     let back : whole_number part (number_in part start) ≡ start = whole_back part start is h in
     let rest = whole_number part first - start in
@@ -31,9 +31,9 @@ next_is part start first is next h =
     let same = same_from_place first 0 (number_in part start) rest part.count (omega (arith, is.some)) small e in
     omega (arith, same.1, next.least)
 
-next_later : (part : Part) (start first : ℕ) → PartFits part → IsNext part start first → has part start ≡ false → start < whole_number part first
+next_later : (part : Part) (start first : ℕ) → PartFits part → IsNext part start first → is_site_in_part part start ≡ false → start < whole_number part first
 next_later part start first is next h =
-    let other : whole_number part first ≡ start → ⊥ = λ e. let yes : has part start ≡ true = subst (λ (n : ℕ). has part n ≡ true) e (has_whole part first is) in cc in
+    let other : whole_number part first ≡ start → ⊥ = λ e. let yes : is_site_in_part part start ≡ true = subst (λ (n : ℕ). is_site_in_part part n ≡ true) e (has_whole part first is) in cc in
     omega (arith, next.least, other)
 
 more_than : (part : Part) (first more : ℕ) → whole_number part (first + more) ≡ whole_number part first + more * part.count
@@ -49,7 +49,7 @@ Found part items =
     slice_get (part_from part start items) more ≡ slice_get items place
 
 found_by : {A : Type 0} (part : Part) (x : A) (items : List A) (b : Bool) (start first more place : ℕ) → PartFits part → Found part items → IsNext part start first →
-    has part start ≡ b → start + place ≡ whole_number part (first + more) →
+    is_site_in_part part start ≡ b → start + place ≡ whole_number part (first + more) →
     slice_get (kept_by b x (part_from part (start + 1) items)) more ≡ slice_get (x ∷ items) place
 found_by part x items true start first zero zero is rest next h e = refl
 found_by part x items true start first zero (suc place) is rest next h e =
@@ -68,7 +68,7 @@ found_by part x items false start first more (suc place) is rest next h e =
 found : {A : Type 0} (part : Part) (items : List A) → PartFits part → Found part items
 found part [] is = λ start first more place next e. refl
 found part (x ∷ items) is = λ start first more place next e.
-    found_by part x items (has part start) start first more place is (found part items is) next refl e
+    found_by part x items (is_site_in_part part start) start first more place is (found part items is) next refl e
 
 pub item_at : {A : Type 0} (part : Part) (items : List A) (number : ℕ) → PartFits part → slice_get (part_of part items) number ≡ slice_get items (whole_number part number)
 item_at part items number is =
@@ -83,7 +83,7 @@ all_by P false x more h all = all
 all_from : {A : Type 0} (P : A → Type 0) (part : Part) (start : ℕ) (items : List A) → All P items → All P (part_from part start items)
 all_from P part start [] all = All-nil P
 all_from P part start (x ∷ items) all =
-    all_by P (has part start) x (part_from part (start + 1) items) (All-head P x items all) (all_from P part (start + 1) items (All-tail P x items all))
+    all_by P (is_site_in_part part start) x (part_from part (start + 1) items) (All-head P x items all) (all_from P part (start + 1) items (All-tail P x items all))
 
 pub all_of : {A : Type 0} (P : A → Type 0) (part : Part) (items : List A) → All P items → All P (part_of part items)
 all_of P part items all = all_from P part 0 items all
@@ -95,7 +95,7 @@ few_by false x more = omega arith
 few_from : {A : Type 0} (part : Part) (start : ℕ) (items : List A) → length (part_from part start items) ≤ length items
 few_from part start [] = omega arith
 few_from part start (x ∷ items) =
-    omega (arith, few_by (has part start) x (part_from part (start + 1) items), few_from part (start + 1) items)
+    omega (arith, few_by (is_site_in_part part start) x (part_from part (start + 1) items), few_from part (start + 1) items)
 
 pub few_of : {A : Type 0} (part : Part) (items : List A) → length (part_of part items) ≤ length items
 few_of part items = few_from part 0 items

@@ -6,7 +6,7 @@ use Rattle.flow.specs.Sites.{PartFits, part_limit}
 use Rattle.cbi_base.specs.declared.observation.Observation.{Observation}
 use Rattle.flow.specs.declared.choice.Part.{Part}
 use Rattle.site_parts.specs.Laws.{EachSiteOnce, EachVisitOnce, part_at}
-use Rattle.site_parts.specs.Part.{has, number_in, part_visits, whole_number}
+use Rattle.site_parts.specs.Part.{is_site_in_part, number_in, part_visits, whole_number}
 use Rattle.site_parts.proofs.Numbers.{has_whole, number_back, whole_back}
 use Rattle.site_parts.proofs.Visits.{visit_kept, visit_left}
 
@@ -26,15 +26,15 @@ stands_once count site some =
 pub is_part_at : (count index : ℕ) → count ≤ part_limit → index < count → PartFits (part_at count index)
 is_part_at count index few within = record { some = omega arith; few = few; index = within }
 
-pub has_at : (part : Part) (site number : ℕ) → PartFits part → whole_number part number ≡ site → has part site ≡ true
-has_at part site number is e = subst (λ (s : ℕ). has part s ≡ true) e (has_whole part number is)
+pub has_at : (part : Part) (site number : ℕ) → PartFits part → whole_number part number ≡ site → is_site_in_part part site ≡ true
+has_at part site number is e = subst (λ (s : ℕ). is_site_in_part part s ≡ true) e (has_whole part number is)
 
-lacks_by : (part : Part) (site : ℕ) (b : Bool) → has part site ≡ b → (has part site ≡ true → ⊥) → has part site ≡ false
+lacks_by : (part : Part) (site : ℕ) (b : Bool) → is_site_in_part part site ≡ b → (is_site_in_part part site ≡ true → ⊥) → is_site_in_part part site ≡ false
 lacks_by part site true e absent = absurd (absent e)
 lacks_by part site false e absent = e
 
-pub has_not : (part : Part) (site : ℕ) → (has part site ≡ true → ⊥) → has part site ≡ false
-has_not part site absent = lacks_by part site (has part site) refl absent
+pub has_not : (part : Part) (site : ℕ) → (is_site_in_part part site ≡ true → ⊥) → is_site_in_part part site ≡ false
+has_not part site absent = lacks_by part site (is_site_in_part part site) refl absent
 
 pub seen_once : EachVisitOnce
 seen_once count before after visit some few =

@@ -22,7 +22,7 @@ use Rattle.flow.specs.declared.site.Site.{Site}
 use Rattle.flow.specs.Words.{Callee, Code, callee_of, code_of, view_at, view_in, NodesFit, is_own, leads_rightly, names_fit, node_fits, AreSites, IsFunction}
 use Rattle.flow.specs.Words.{IsProgram, bounds_of, names_of, parts_of, ArePlain, BranchesFork, IsBranch, IsPlain, IsReady, IsSite, PartFits, view}
 use Rattle.flow.specs.declared.choice.Part.{Part}
-use Rattle.site_parts.specs.Part.{has, number_in, part_of, whole_number}
+use Rattle.site_parts.specs.Part.{is_site_in_part, number_in, part_of, whole_number}
 use Rattle.site_parts.specs.Program.{part_function, part_node, part_program}
 use Rattle.site_parts.proofs.Lists.{all_of, few_of, item_at}
 use Rattle.site_parts.proofs.Numbers.{whole_back}
@@ -38,12 +38,12 @@ before_map f (x ∷ xs) zero y e = (x, refl, cc)
 before_map f (x ∷ xs) (suc k) y e = before_map f xs k y e
 
 -- the view of a node
-viewed_by : (b : Bool) (part : Part) (site next : ℕ) → has part site ≡ b → view (part_node part (Mark site next)) ≡ view_by b part site next
+viewed_by : (b : Bool) (part : Part) (site next : ℕ) → is_site_in_part part site ≡ b → view (part_node part (Mark site next)) ≡ view_by b part site next
 viewed_by true part site next h = ap (λ (b : Bool). view (if b then Mark (number_in part site) next else Pass next)) h
 viewed_by false part site next h = ap (λ (b : Bool). view (if b then Mark (number_in part site) next else Pass next)) h
 
 node_viewed : (part : Part) (n : Node) → view (part_node part n) ≡ part_view part (view n)
-node_viewed part (Mark site next) = viewed_by (has part site) part site next refl
+node_viewed part (Mark site next) = viewed_by (is_site_in_part part site) part site next refl
 node_viewed part other = refl
 
 at_viewed : (part : Part) (found : Option Node) → view_at (option_map (part_node part) found) ≡ part_view part (view_at found)
@@ -82,7 +82,7 @@ plain_by true part site next = tt
 plain_by false part site next = tt
 
 plain_view : (part : Part) (v : View) → IsPlain v → IsPlain (part_view part v)
-plain_view part (Marks site next) h = plain_by (has part site) part site next
+plain_view part (Marks site next) h = plain_by (is_site_in_part part site) part site next
 plain_view part other h = h
 
 plain_node : (part : Part) (n : Node) → IsPlain (view n) → IsPlain (view (part_node part n))
@@ -111,15 +111,15 @@ plain_code p bank all function place = plain_in p.functions function place (slic
 record OfMark (part : Part) (v : View) (number next : ℕ) : Type 0 where
   site : ℕ
   is : v ≡ Marks site next
-  own : has part site ≡ true
+  own : is_site_in_part part site ≡ true
   number_is : number ≡ number_in part site
 
-mark_by : (b : Bool) (part : Part) (site after number next : ℕ) → has part site ≡ b → view_by b part site after ≡ Marks number next → OfMark part (Marks site after) number next
+mark_by : (b : Bool) (part : Part) (site after number next : ℕ) → is_site_in_part part site ≡ b → view_by b part site after ≡ Marks number next → OfMark part (Marks site after) number next
 mark_by true part site after number next h e = record { site = site; is = cc; own = h; number_is = cc }
 mark_by false part site after number next h e = cc
 
 of_mark : (part : Part) (v : View) (number next : ℕ) → part_view part v ≡ Marks number next → OfMark part v number next
-of_mark part (Marks site after) number next e = mark_by (has part site) part site after number next refl e
+of_mark part (Marks site after) number next e = mark_by (is_site_in_part part site) part site after number next refl e
 of_mark part other number next e = cc
 
 ready_code : (part : Part) (code : Code) → PartFits part → BranchesFork code.at code.site → BranchesFork (part_code part code).at (part_code part code).site
@@ -135,12 +135,12 @@ ready_part part p is ready =
 
 -- what a node of the part's program names exists, where its site's owner is the same
 abbrev SameOwners : Part → List ℕ → List ℕ → Type 0
-SameOwners part owners kept = (site : ℕ) → has part site ≡ true → slice_get kept (number_in part site) ≡ slice_get owners site
+SameOwners part owners kept = (site : ℕ) → is_site_in_part part site ≡ true → slice_get kept (number_in part site) ≡ slice_get owners site
 
 abbrev owned : Names → List ℕ → Names
 owned names owners = record names { owners = owners }
 
-own_by : (b : Bool) (names : Names) (bounds : Bounds) (part : Part) (kept : List ℕ) (site next : ℕ) → SameOwners part names.owners kept → has part site ≡ b →
+own_by : (b : Bool) (names : Names) (bounds : Bounds) (part : Part) (kept : List ℕ) (site next : ℕ) → SameOwners part names.owners kept → is_site_in_part part site ≡ b →
     names_fit names bounds (Mark site next) ≡ true → names_fit (owned names kept) bounds (part_node part (Mark site next)) ≡ true
 unfolding names_fit
 own_by true names bounds part kept site next own h fits =
@@ -152,7 +152,7 @@ own_by false names bounds part kept site next own h fits =
 names_kept : (names : Names) (bounds : Bounds) (part : Part) (kept : List ℕ) (n : Node) → SameOwners part names.owners kept → IsPlain (view n) →
     names_fit names bounds n ≡ true → names_fit (owned names kept) bounds (part_node part n) ≡ true
 unfolding names_fit
-names_kept names bounds part kept (Mark site next) own plain fits = own_by (has part site) names bounds part kept site next own refl fits
+names_kept names bounds part kept (Mark site next) own plain fits = own_by (is_site_in_part part site) names bounds part kept site next own refl fits
 names_kept names bounds part kept (Test site next) own plain fits = absurd plain
 names_kept names bounds part kept other own plain fits = fits
 
@@ -162,7 +162,7 @@ leads_by true bounds part place site next = refl
 leads_by false bounds part place site next = refl
 
 leads_kept : (bounds : Bounds) (part : Part) (place : ℕ) (v : View) → leads_rightly bounds place (part_view part v) ≡ leads_rightly bounds place v
-leads_kept bounds part place (Marks site next) = leads_by (has part site) bounds part place site next
+leads_kept bounds part place (Marks site next) = leads_by (is_site_in_part part site) bounds part place site next
 leads_kept bounds part place other = refl
 
 node_kept : (names : Names) (bounds : Bounds) (part : Part) (kept : List ℕ) (place : ℕ) (n : Node) → SameOwners part names.owners kept → IsPlain (view n) →

@@ -12,11 +12,11 @@ use Rattle.report_file.specs.declared.report.Report.{Report}
 use Rattle.report_file.specs.Report.{AreEntries, IsReport, RiseFrom, greatest_site}
 use Rattle.collector.specs.declared.collection.Bundle.{Bundle}
 use Rattle.collector.specs.Collected.{marks_of}
-use Rattle.collector.specs.Merging.{AreOf, AreReports, IsBundle}
+use Rattle.collector.specs.Merging.{AreOfBundle, AreReports, IsBundle}
 use Rattle.collector.specs.Spelling.{IsText, RunsFrom}
 use Rattle.flow.specs.declared.choice.Part.{Part}
 use Rattle.site_parts.specs.Part.{whole_number}
-use Rattle.site_parts.specs.Widened.{MayWiden, MayWidenAll, widened, widened_bundle, widened_entry, widened_report}
+use Rattle.site_parts.specs.Widened.{MayWiden, MayWidenAll, widened_entries, widened_bundle, widened_entry, widened_report}
 
 whole_rises : (part : Part) (low site : ℕ) → low ≤ site → whole_number part low ≤ whole_number part site
 whole_rises part low site h = omega (arith, mul-le low part.count site part.count h (omega arith))
@@ -24,14 +24,14 @@ whole_rises part low site h = omega (arith, mul-le low part.count site part.coun
 whole_more : (part : Part) (site : ℕ) → whole_number part (site + 1) ≡ whole_number part site + part.count
 whole_more part site = omega (arith, add-mul site 1 part.count)
 
-entries_rise : (part : Part) (low from : ℕ) (entries : List Entry) → PartFits part → from ≤ whole_number part low → RiseFrom low entries → RiseFrom from (widened part entries)
+entries_rise : (part : Part) (low from : ℕ) (entries : List Entry) → PartFits part → from ≤ whole_number part low → RiseFrom low entries → RiseFrom from (widened_entries part entries)
 entries_rise part low from [] is h rise = tt
 entries_rise part low from (e ∷ more) is h rise = (
   omega (arith, h, whole_rises part low e.site rise.0),
   entries_rise part (e.site + 1) (whole_number part e.site + 1) more is (omega (arith, whole_more part e.site, is.some)) rise.1,
 )
 
-entries_are : (part : Part) (entries : List Entry) → MayWiden part entries → AreEntries entries → AreEntries (widened part entries)
+entries_are : (part : Part) (entries : List Entry) → MayWiden part entries → AreEntries entries → AreEntries (widened_entries part entries)
 entries_are part [] may are = tt
 entries_are part (e ∷ more) may are =
     let small : Entry → Type 0 = λ x. whole_number part x.site ≤ greatest_site in (
@@ -58,7 +58,7 @@ reports_are whole part (r ∷ more) is id may are =
       reports_are whole part more is id (All-tail each r more may) are.1,
     )
 
-of_whole : (part : Part) (bundle : Bundle) (reports : List Report) → AreOf bundle (map (widened_report bundle.program part) reports)
+of_whole : (part : Part) (bundle : Bundle) (reports : List Report) → AreOfBundle bundle (map (widened_report bundle.program part) reports)
 of_whole part bundle [] = tt
 of_whole part bundle (r ∷ more) = (refl, of_whole part bundle more)
 

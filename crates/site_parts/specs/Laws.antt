@@ -12,7 +12,7 @@ use Rattle.flow.specs.declared.choice.Part.{Part}
 use Rattle.site_parts.specs.Part.{part_of, part_visits, whole_number}
 use Rattle.site_parts.specs.Program.{part_program}
 use Rattle.site_parts.specs.Runs.{IsFaulty}
-use Rattle.site_parts.specs.Widened.{MayWiden, widened}
+use Rattle.site_parts.specs.Widened.{MayWiden, widened_entries}
 
 -- the part with this index, of so many
 abbrev pub part_at : ℕ → ℕ → Part
@@ -54,7 +54,7 @@ EachVisitOnce =
 abbrev pub FitsWhenWidened : Type 0
 FitsWhenWidened =
     (part : Part) (sites : List Site) (entries : List Entry) → PartFits part → first_bad (branches_of (part_of part sites)) entries ≡ None →
-    first_bad (branches_of sites) (widened part entries) ≡ None
+    first_bad (branches_of sites) (widened_entries part entries) ≡ None
 
 -- and may be widened, where the whole table has as few sites as a table may have
 abbrev pub MayWidenWhatFits : Type 0
@@ -64,8 +64,8 @@ MayWidenWhatFits =
 
 -- the entries of the parts, widened and put side by side, are these
 pub record AreSideBySide (count : ℕ) (of_part : ℕ → List Entry) (whole : List Entry) : Type 0 where
-  pub each : (e : Entry) → Among e whole → (index : ℕ) × (index < count) × Among e (widened (part_at count index) (of_part index))
-  pub only : (e : Entry) (index : ℕ) → index < count → Among e (widened (part_at count index) (of_part index)) → Among e whole
+  pub each : (e : Entry) → Among e whole → (index : ℕ) × (index < count) × Among e (widened_entries (part_at count index) (of_part index))
+  pub only : (e : Entry) (index : ℕ) → index < count → Among e (widened_entries (part_at count index) (of_part index)) → Among e whole
 
 -- the counters of a part's visits are those of all visits, site by site
 abbrev pub CountsOfParts : Type 0

@@ -6,11 +6,11 @@ use Rattle.flow.specs.declared.program.Function.{Function}
 use Rattle.flow.specs.declared.program.ProgramParts.{ProgramParts}
 use Rattle.flow.specs.declared.site.TableParts.{TableParts}
 use Rattle.flow.specs.declared.choice.Part.{Part}
-use Rattle.site_parts.specs.Part.{has, number_in, part_of}
+use Rattle.site_parts.specs.Part.{is_site_in_part, number_in, part_of}
 
 -- the visit of a site that the part hasn't does nothing
 abbrev pub part_node : Part → Node → Node
-part_node part (Mark site next) = if has part site then Mark (number_in part site) next else Pass next
+part_node part (Mark site next) = if is_site_in_part part site then Mark (number_in part site) next else Pass next
 part_node part other = other
 
 abbrev pub part_function : Part → Function → Function

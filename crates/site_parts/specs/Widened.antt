@@ -13,11 +13,11 @@ use Rattle.site_parts.specs.Part.{whole_number}
 abbrev pub widened_entry : Part → Entry → Entry
 widened_entry part e = record e { site = whole_number part e.site }
 
-abbrev pub widened : Part → List Entry → List Entry
-widened part entries = map (widened_entry part) entries
+abbrev pub widened_entries : Part → List Entry → List Entry
+widened_entries part entries = map (widened_entry part) entries
 
 abbrev pub widened_report : ProgramId → Part → Report → Report
-widened_report whole part r = record r { program = whole; entries = widened part r.entries }
+widened_report whole part r = record r { program = whole; entries = widened_entries part r.entries }
 
 abbrev pub widened_bundle : ProgramId → Part → Bundle → Bundle
 widened_bundle whole part b = record b { program = whole; reports = map (widened_report whole part) b.reports }

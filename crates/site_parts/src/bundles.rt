@@ -4,7 +4,7 @@ ghost use Rattle.report_file.specs.Report.{greatest_site};
 ghost use Rattle.collector.specs.Merging.{IsBundle};
 ghost use Rattle.collector.specs.Spelling.{IsText};
 ghost use Rattle.site_parts.specs.Part.{whole_number};
-ghost use Rattle.site_parts.specs.Widened.{MayWiden, MayWidenAll, widened, widened_bundle, widened_entry, widened_report};
+ghost use Rattle.site_parts.specs.Widened.{MayWiden, MayWidenAll, widened_entries, widened_bundle, widened_entry, widened_report};
 
 use cbi_base::{ProgramId, Seq};
 use collector::Bundle;
@@ -25,7 +25,7 @@ fn widened_entry(entry: Entry, part: Part) -> Entry
 
 fn widen_entries(entries: &mut [Entry], part: Part)
     requires { MayWiden part entries.old }
-    ensures { entries.new ≡ widened part entries.old }
+    ensures { entries.new ≡ widened_entries part entries.old }
 {
     let mut place = 0;
     while place < entries.len() {

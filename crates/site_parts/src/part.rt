@@ -1,13 +1,13 @@
 ghost use Rattle.std.specs.Prelude.{◌≡◌, true};
 ghost use Rattle.flow.specs.Sites.{PartFits};
-ghost use Rattle.site_parts.specs.Part.{has, number_in};
+ghost use Rattle.site_parts.specs.Part.{is_site_in_part, number_in};
 
 use flow::Part;
 
 /// Whether the part has the site with this number.
 pub(crate) fn has(part: Part, site: u32) -> bool
     requires { PartFits part }
-    ensures { result ≡ has part site }
+    ensures { result ≡ is_site_in_part part site }
 {
     site % part.count == part.index
 }
@@ -15,7 +15,7 @@ pub(crate) fn has(part: Part, site: u32) -> bool
 /// The number in the part of one of its sites.
 pub(crate) fn number_in(part: Part, site: u32) -> u32
     requires part { PartFits part }
-    requires has { has part site ≡ true }
+    requires has { is_site_in_part part site ≡ true }
     ensures { result ≡ number_in part site }
 {
     (site - part.index) / part.count

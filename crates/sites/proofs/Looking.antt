@@ -12,7 +12,7 @@ use Rattle.c_types_expressions.specs.declared.walk.VariableEntry.{VariableEntry}
 use Rattle.c_types_expressions.specs.declared.walk.Walk.{Walk}
 use Rattle.c_types.specs.Answers.{declared_at, scope_holds, span_holds}
 use Rattle.flow.specs.declared.site.Partner.TheVariants as partner
-use Rattle.sites.specs.Near.{AreEnough, TellEach, all_firsts, begins_from, clear_by, first_from, hidden_among, is_variable_named, lasting, lasts, partner_at, partners_among}
+use Rattle.sites.specs.Near.{AreEnough, TellEach, all_firsts, begins_from, clear_by, first_from, hidden_among, is_variable_named, places_with_scope_left, has_scope_left, partner_at, partners_among}
 use Rattle.sites.specs.Visible.{all_again, declared_again, is_clear, is_hidden, is_partner, is_type, slot_of, variable_partners}
 use Rattle.sites.proofs.Named.{behind, left_at, not_hidden, unheld}
 
@@ -32,7 +32,7 @@ over_by low token (Some v) None le is = refl
 over_by low token (Some v) (Some None) le is = endless low token v.from le is
 over_by low token (Some v) (Some (Some last)) le is = ended low token v.from last le is
 
-over : (w : Walk) (low token place : ℕ) → low ≤ token → lasts w low place ≡ false → scope_holds w place token ≡ false
+over : (w : Walk) (low token place : ℕ) → low ≤ token → has_scope_left w low place ≡ false → scope_holds w place token ≡ false
 over w low token place le is = over_by low token (slice_get w.variables place) (slice_get w.ends place) le is
 
 -- One that isn't over at a token isn't over at an earlier one.
@@ -68,21 +68,21 @@ twice : {X : Type 0} (p q : X → Bool) → ((x : X) → p x ≡ true → q x �
 twice p q more [] = refl
 twice p q more (x ∷ xs) = once_more p x (filter q xs) xs (twice p q more xs) (q x) (more x)
 
-pub lasting_later : (w : Walk) (low high count : ℕ) → low ≤ high → filter (lasts w high) (lasting w low count) ≡ lasting w high count
+pub lasting_later : (w : Walk) (low high count : ℕ) → low ≤ high → filter (has_scope_left w high) (places_with_scope_left w low count) ≡ places_with_scope_left w high count
 lasting_later w low high count le =
-    twice (lasts w high) (lasts w low) (λ place is. sooner_by low high (slice_get w.variables place) (slice_get w.ends place) le is) (range_with_len 0 count)
+    twice (has_scope_left w high) (has_scope_left w low) (λ place is. sooner_by low high (slice_get w.variables place) (slice_get w.ends place) le is) (range_with_len 0 count)
 
 -- one number more
 counted : (a n j : ℕ) → a + n ≡ j → range_with_len a (suc n) ≡ range_with_len a n ++ j ∷ []
 counted a zero j is = ap (λ (k : ℕ). k ∷ []) (omega (arith, is))
 counted a (suc n) j is = ap (λ l. a ∷ l) (counted (a + 1) n j (omega (arith, is)))
 
-pub lasting_more : (w : Walk) (token seen : ℕ) → lasting w token (seen + 1) ≡ lasting w token seen ++ filter (lasts w token) (seen ∷ [])
+pub lasting_more : (w : Walk) (token seen : ℕ) → places_with_scope_left w token (seen + 1) ≡ places_with_scope_left w token seen ++ filter (has_scope_left w token) (seen ∷ [])
 lasting_more w token seen =
     let next : seen + 1 ≡ suc seen = omega arith in
-    ap (λ k. filter (lasts w token) (range_with_len 0 k)) next
-    ∙ ap (filter (lasts w token)) (counted 0 seen seen (omega arith))
-    ∙ filter-append (lasts w token) (range_with_len 0 seen) (seen ∷ [])
+    ap (λ k. filter (has_scope_left w token) (range_with_len 0 k)) next
+    ∙ ap (filter (has_scope_left w token)) (counted 0 seen seen (omega arith))
+    ∙ filter-append (has_scope_left w token) (range_with_len 0 seen) (seen ∷ [])
 
 -- Where the scope of none of these variables begins before the token, none of them hides a name, and none is a partner.
 
@@ -176,7 +176,7 @@ no_partner_at w token target t place (Some v) out =
 -- One place more in front, looked at where its scope isn't over.
 
 hidden_next : (w : Walk) (low token : ℕ) (name : List ℕ) (place : ℕ) (near : List ℕ) → low ≤ token →
-    hidden_among w token name near ≡ is_hidden w token name (suc place) (drop (suc place) w.variables) → (c : Bool) → lasts w low place ≡ c →
+    hidden_among w token name near ≡ is_hidden w token name (suc place) (drop (suc place) w.variables) → (c : Bool) → has_scope_left w low place ≡ c →
     hidden_among w token name (cond c (place ∷ near) near) ≡ is_hidden w token name place (drop place w.variables)
 hidden_next w low token name place near le rest true is =
     ap (λ b. (is_variable_named name (slice_get w.variables place) && scope_holds w place token) || b) rest ∙ sym (hidden_step w token name place)
@@ -187,7 +187,7 @@ hidden_next w low token name place near le rest false is =
 
 partners_next : (w : Walk) (low token target : ℕ) (t : TypeTree) (place : ℕ) (near : List ℕ) → low ≤ token →
     partners_among w token target t near ≡ variable_partners w token target t (suc place) (drop (suc place) w.variables) →
-    (c : Bool) → lasts w low place ≡ c →
+    (c : Bool) → has_scope_left w low place ≡ c →
     partners_among w token target t (cond c (place ∷ near) near) ≡ variable_partners w token target t place (drop place w.variables)
 partners_next w low token target t place near le rest true is =
     ap (λ l. partner_at w token target t place (slice_get w.variables place) ++ l) rest ∙ sym (partners_step w token target t place)
@@ -200,7 +200,7 @@ partners_next w low token target t place near le rest false is =
 
 module _ (w : Walk) (low token : ℕ) (le : low ≤ token) where
   abbrev near : ℕ → ℕ → List ℕ
-  near place n = filter (lasts w low) (range_with_len place n)
+  near place n = filter (has_scope_left w low) (range_with_len place n)
 
   abbrev IsClear : ℕ → Type 0
   IsClear place = is_clear token (first_from (drop place w.variables)) ≡ true
@@ -217,7 +217,7 @@ module _ (w : Walk) (low token : ℕ) (le : low ≤ token) where
   hidden name place (suc m) clear =
       let next : place + 1 ≡ suc place = omega arith in
       hidden_next w low token name place (near (place + 1) m) le
-      (hidden name (place + 1) m (onward place m clear) ∙ ap (λ k. is_hidden w token name k (drop k w.variables)) next) (lasts w low place) refl
+      (hidden name (place + 1) m (onward place m clear) ∙ ap (λ k. is_hidden w token name k (drop k w.variables)) next) (has_scope_left w low place) refl
 
   partners : (target : ℕ) (t : TypeTree) (place n : ℕ) → IsClear (place + n) → partners_among w token target t (near place n) ≡
       variable_partners w token target t place (drop place w.variables)
@@ -226,7 +226,7 @@ module _ (w : Walk) (low token : ℕ) (le : low ≤ token) where
       let next : place + 1 ≡ suc place = omega arith in
       partners_next w low token target t place (near (place + 1) m) le
       (partners target t (place + 1) m (onward place m clear) ∙ ap (λ k. variable_partners w token target t k (drop k w.variables)) next)
-      (lasts w low place) refl
+      (has_scope_left w low place) refl
 
   told : (place : ℕ) (later : List ℕ) → ((name : List ℕ) → hidden_among w token name later ≡
       is_hidden w token name (suc place) (drop (suc place) w.variables)) → TellEach w token later → (c : Bool) → TellEach w token (cond c (place ∷ later) later)
@@ -239,9 +239,9 @@ module _ (w : Walk) (low token : ℕ) (le : low ≤ token) where
       let next : place + 1 ≡ suc place = omega arith in
       told place (near (place + 1) m)
       (λ name. hidden name (place + 1) m (onward place m clear) ∙ ap (λ k. is_hidden w token name k (drop k w.variables)) next)
-      (each (place + 1) m (onward place m clear)) (lasts w low place)
+      (each (place + 1) m (onward place m clear)) (has_scope_left w low place)
 
-  pub all_told : (count : ℕ) → IsClear count → AreEnough w (lasting w low count) token
+  pub all_told : (count : ℕ) → IsClear count → AreEnough w (places_with_scope_left w low count) token
   all_told count clear =
       let same : count ≡ 0 + count = omega arith in
       let from_first = subst IsClear same clear in

@@ -6,7 +6,7 @@ use Rattle.std.specs.Str.{bytes_eq}
 use Rattle.c_types_expressions.specs.declared.walk.VariableEntry.{VariableEntry}
 use Rattle.c_types_expressions.specs.declared.walk.Walk.{Walk}
 use Rattle.c_types.specs.Answers.{ends_behind, scope_holds, span_holds}
-use Rattle.sites.specs.Visible.{declared_again, is_clear, is_hidden, least}
+use Rattle.sites.specs.Visible.{declared_again, is_clear, is_hidden, least_token}
 
 -- the first of what is left stands at its place, and the others are left behind it
 pub left_at : (xs : List VariableEntry) (n : ℕ) (v : VariableEntry) (later : List VariableEntry) → v ∷ later ≡ drop n xs →
@@ -25,12 +25,12 @@ either : (token from other : ℕ) (c : Bool) → nat_lt other from ≡ c → nat
 either token from other true less is = (grind (arith, nat_tests), is)
 either token from other false less is = (grind (arith, nat_tests), grind (arith, nat_tests))
 
-pub behind : (token from : ℕ) (rest : Option ℕ) → nat_le token (least from rest) ≡ true → (nat_lt from token ≡ false) × (is_clear token rest ≡ true)
+pub behind : (token from : ℕ) (rest : Option ℕ) → nat_le token (least_token from rest) ≡ true → (nat_lt from token ≡ false) × (is_clear token rest ≡ true)
 behind token from None is = (grind (arith, nat_tests), refl)
 behind token from (Some other) is = either token from other (nat_lt other from) refl is
 
 step : (named held hidden : Bool) (token from : ℕ) (rest : Option ℕ) → (nat_lt from token ≡ false → held ≡ false) →
-    (is_clear token rest ≡ true → hidden ≡ false) → is_clear token (if named then Some (least from rest) else rest) ≡ true →
+    (is_clear token rest ≡ true → hidden ≡ false) → is_clear token (if named then Some (least_token from rest) else rest) ≡ true →
     ((named && held) || hidden) ≡ false
 step true held hidden token from rest out further clear =
     let parts = behind token from rest clear in

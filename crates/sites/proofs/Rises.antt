@@ -2,15 +2,15 @@
 use Rattle.std.proofs.Common.{◌≡◌, ℕ, ◌+◌, ◌<◌, ◌≤◌, Bool, true, false, if◌then◌else◌, List, [], ◌∷◌, ◌++◌, length, Option, Some, None, arith, length-append}
 use Rattle.std.specs.Prelude.{IfSome}
 use Rattle.c_syntax.specs.ExprTree as e
-use Rattle.c_syntax.specs.Words.{ExprTree, ExprList, LinkList, PostfixList, Kinds, a_sign, a_name, parenthesized, prefix_kinds, type_kinds, expr_kinds}
-use Rattle.c_syntax.specs.Words.{exprs_kinds, more_exprs_kinds, link_kinds, postfix_kinds, optional, ExprAt, ExprsAt, LinksAt, PostfixAt}
+use Rattle.c_syntax.specs.Words.{ExprTree, ExprList, LinkList, PostfixList, Kinds, a_sign, a_name, parenthesized_kinds, prefix_kinds, type_kinds, expr_kinds}
+use Rattle.c_syntax.specs.Words.{exprs_kinds, more_exprs_kinds, link_kinds, postfix_kinds, optional_kinds, ExprAt, ExprsAt, LinksAt, PostfixAt}
 use Rattle.c_syntax.specs.declared.token.Sign.TheVariants as sign
 use Rattle.flow.specs.declared.site.BranchWord.{BranchWord}
 use Rattle.flow.specs.declared.site.BranchWord.TheVariants.{Question}
 use Rattle.sites.specs.declared.spots.Spot.{Spot}
 use Rattle.sites.specs.declared.spots.Spot.TheVariants as spot
-use Rattle.sites.specs.Spots.{named_token, changed, is_step, is_sizeof, stepped_spots, joining}
-use Rattle.sites.specs.Spots.{branched, joined_spots, expr_spots, exprs_spots, links_spots, postfix_spots, part_spots}
+use Rattle.sites.specs.Spots.{named_token, change_spots, is_step, is_sizeof, stepped_spots, branch_of_sign}
+use Rattle.sites.specs.Spots.{branch_spots, joined_spots, expr_spots, exprs_spots, links_spots, postfix_spots, part_spots}
 
 -- the tokens of these spots never fall, and are from `low` on and below `high`
 abbrev pub Rises : ℕ → ℕ → List Spot → Type 0
@@ -43,7 +43,7 @@ join a b c d (spot.Constant value ∷ rest) ys m r s = join a b c d rest ys m r 
 
 -- at one token
 
-pub rises-changed : (token : ℕ) (target : Option ℕ) → Rises token (token + 1) (changed token target)
+pub rises-changed : (token : ℕ) (target : Option ℕ) → Rises token (token + 1) (change_spots token target)
 rises-changed token None = omega arith
 rises-changed token (Some target) = (omega arith, omega arith, omega arith)
 
@@ -53,11 +53,11 @@ rises-branch token word = (omega arith, omega arith, omega arith)
 rises-call : (token : ℕ) (name : List ℕ) → Rises token (token + 1) (spot.Call token name ∷ [])
 rises-call token name = (omega arith, omega arith, omega arith)
 
-rises-branched : (token : ℕ) (word : Option BranchWord) → Rises token (token + 1) (branched token word)
+rises-branched : (token : ℕ) (word : Option BranchWord) → Rises token (token + 1) (branch_spots token word)
 rises-branched token None = omega arith
 rises-branched token (Some word) = rises-branch token word
 
-rises-stepped : (token : ℕ) (target : Option ℕ) (c : Bool) → Rises token (token + 1) (if c then changed token target else [])
+rises-stepped : (token : ℕ) (target : Option ℕ) (c : Bool) → Rises token (token + 1) (if c then change_spots token target else [])
 rises-stepped token target true = rises-changed token target
 rises-stepped token target false = omega arith
 
@@ -79,7 +79,7 @@ len4 a b c d = omega (arith, length-append (a ++ b ++ c) d, len3 a b c)
 pub len5 : (a b c d f : Kinds) → length (a ++ b ++ c ++ d ++ f) ≡ length a + length b + length c + length d + length f
 len5 a b c d f = omega (arith, length-append (a ++ b ++ c ++ d) f, len4 a b c d)
 
-pub paren-length : (k : Kinds) → length (parenthesized k) ≡ length k + 2
+pub paren-length : (k : Kinds) → length (parenthesized_kinds k) ≡ length k + 2
 paren-length k = omega (arith, len3 (a_sign sign.LeftParen) k (a_sign sign.RightParen))
 
 mutual
@@ -91,7 +91,7 @@ mutual
       let whole : length (expr_kinds (e.Assign token s target value)) ≡ lt + length (a_sign s) + lv =
       len3 (expr_kinds target) (a_sign s) (expr_kinds value) in
       wider at (token + 1 + lv) at _ (expr_spots (e.Assign token s target value)) (omega arith) (omega (arith, p.0, whole))
-      (join3 at (at + lt) token (token + 1) (token + 1) (token + 1 + lv) (expr_spots target) (changed token (named_token target)) (expr_spots value) (omega
+      (join3 at (at + lt) token (token + 1) (token + 1) (token + 1 + lv) (expr_spots target) (change_spots token (named_token target)) (expr_spots value) (omega
       (arith, p.0)) (omega arith)
       (rises-expr at target p.1) (rises-changed token (named_token target)) (rises-expr (token + 1) value p.2))
   rises-expr at (e.Conditional token condition first second) p =
@@ -118,8 +118,8 @@ mutual
   rises-expr at (e.Cast token b stars operand) p =
       let ts = type_kinds b stars in
       let from = at + 1 + length ts + 1 in
-      let whole : length (expr_kinds (e.Cast token b stars operand)) ≡ length (parenthesized ts) + length (expr_kinds operand) =
-      length-append (parenthesized ts) (expr_kinds operand) in
+      let whole : length (expr_kinds (e.Cast token b stars operand)) ≡ length (parenthesized_kinds ts) + length (expr_kinds operand) =
+      length-append (parenthesized_kinds ts) (expr_kinds operand) in
       wider from (from + length (expr_kinds operand)) at _ (expr_spots operand) (omega arith) (omega (arith, whole, paren-length ts))
       (rises-expr from operand p.2)
   rises-expr at (e.Prefix token operator operand) p =
@@ -140,8 +140,8 @@ mutual
       (rises-expr at primary p.0) (rises-postfix (at + lp) (named_token primary) operators p.1))
   rises-expr at (e.Call token name arguments) p =
       let la = length (exprs_kinds arguments) in
-      let whole : length (expr_kinds (e.Call token name arguments)) ≡ length (a_name name) + length (parenthesized (exprs_kinds arguments)) =
-      length-append (a_name name) (parenthesized (exprs_kinds arguments)) in
+      let whole : length (expr_kinds (e.Call token name arguments)) ≡ length (a_name name) + length (parenthesized_kinds (exprs_kinds arguments)) =
+      length-append (a_name name) (parenthesized_kinds (exprs_kinds arguments)) in
       wider token (at + 2 + la) at _ (expr_spots (e.Call token name arguments)) (omega (arith, p.0)) (omega (
         arith,
         whole,
@@ -186,7 +186,7 @@ mutual
       wider token (at + 1 + lo + lr) at _ (joined_spots token s ++ expr_spots operand ++ links_spots rest) (omega (arith, p.0)) (omega (arith, whole))
       (join3 token (token + 1) (at + 1) (at + 1 + lo) (at + 1 + lo) (at + 1 + lo + lr) (joined_spots token s) (expr_spots operand) (links_spots rest) (omega
       (arith, p.0)) (omega arith)
-      (rises-branched token (joining s)) (rises-expr (at + 1) operand p.1) (rises-links (at + 1 + lo) rest p.2))
+      (rises-branched token (branch_of_sign s)) (rises-expr (at + 1) operand p.1) (rises-links (at + 1 + lo) rest p.2))
 
   rises-postfix : (at : ℕ) (target : Option ℕ) (xs : PostfixList) → PostfixAt at xs → Rises at (at + length (postfix_kinds xs)) (postfix_spots target xs)
   rises-postfix at target e.no_postfix p = omega arith
@@ -212,17 +212,17 @@ mutual
       let end = at + 1 + length (postfix_kinds rest) in
       let whole : length (postfix_kinds (e.increment token rest)) ≡ length (a_sign sign.PlusPlus) + length (postfix_kinds rest) =
       length-append (a_sign sign.PlusPlus) (postfix_kinds rest) in
-      wider token end at _ (changed token target ++ postfix_spots None rest) (omega (arith, p.0)) (omega (arith, whole))
-      (join token (token + 1) (at + 1) end (changed token target) (postfix_spots None rest) (omega (arith, p.0)) (rises-changed token target)
+      wider token end at _ (change_spots token target ++ postfix_spots None rest) (omega (arith, p.0)) (omega (arith, whole))
+      (join token (token + 1) (at + 1) end (change_spots token target) (postfix_spots None rest) (omega (arith, p.0)) (rises-changed token target)
       (rises-postfix (at + 1) None rest p.1))
   rises-postfix at target (e.decrement token rest) p =
       let end = at + 1 + length (postfix_kinds rest) in
       let whole : length (postfix_kinds (e.decrement token rest)) ≡ length (a_sign sign.MinusMinus) + length (postfix_kinds rest) =
       length-append (a_sign sign.MinusMinus) (postfix_kinds rest) in
-      wider token end at _ (changed token target ++ postfix_spots None rest) (omega (arith, p.0)) (omega (arith, whole))
-      (join token (token + 1) (at + 1) end (changed token target) (postfix_spots None rest) (omega (arith, p.0)) (rises-changed token target)
+      wider token end at _ (change_spots token target ++ postfix_spots None rest) (omega (arith, p.0)) (omega (arith, whole))
+      (join token (token + 1) (at + 1) end (change_spots token target) (postfix_spots None rest) (omega (arith, p.0)) (rises-changed token target)
       (rises-postfix (at + 1) None rest p.1))
 
-pub rises-part : (at : ℕ) (x : Option ExprTree) → IfSome x (ExprAt at) → Rises at (at + length (optional expr_kinds x)) (part_spots x)
+pub rises-part : (at : ℕ) (x : Option ExprTree) → IfSome x (ExprAt at) → Rises at (at + length (optional_kinds expr_kinds x)) (part_spots x)
 rises-part at None p = omega arith
 rises-part at (Some x) p = rises-expr at x p

@@ -5,7 +5,7 @@ use Rattle.std.specs.List.{flat_map}
 use Rattle.std.proofs.lemmas.List.{length-replicate}
 use Rattle.std.proofs.lemmas.List.Concat.{flat_map-cons}
 use Rattle.c_syntax.specs.Words.{ExprTree, InitialTree, StartTree, DeclarationTree, ForStartTree, StatementTree, EntryList, Kinds, a_sign, a_word, a_name}
-use Rattle.c_syntax.specs.Words.{star_kinds, bound_kinds, declarator_kinds, base_kinds, parenthesized, braced, comma_kinds, optional, with_commas, after_commas}
+use Rattle.c_syntax.specs.Words.{star_kinds, bound_kinds, declarator_kinds, base_kinds, parenthesized_kinds, braced_kinds, comma_kinds, optional_kinds, with_commas, after_commas}
 use Rattle.c_syntax.specs.Words.{expr_kinds, exprs_kinds, initial_kinds, start_kinds, declaration_kinds, for_start_kinds, statement_kinds, entry_kinds, EachAt}
 use Rattle.c_syntax.specs.Words.{InitialAt, StartAt, DeclarationAt, ForStartAt, StatementAt, EntriesAt}
 use Rattle.c_syntax.specs.StatementTree as s
@@ -21,11 +21,11 @@ use Rattle.sites.specs.Spots.{expr_spots, exprs_spots, part_spots}
 use Rattle.sites.specs.Bodies.{initial_spots, start_spots, starts_spots, declaration_spots, for_start_spots, for_spots, statement_spots, entries_spots}
 use Rattle.sites.proofs.Rises.{Rises, wider, join, join3, len3, len4, len5, paren-length, rises-branch, rises-changed, rises-expr, rises-exprs, rises-part}
 
-pub brace-length : (k : Kinds) → length (braced k) ≡ length k + 2
+pub brace-length : (k : Kinds) → length (braced_kinds k) ≡ length k + 2
 brace-length k = omega (arith, len3 (a_sign sign.LeftBrace) k (a_sign sign.RightBrace))
 
 -- a branch before what stands behind it
-led : (token a b : ℕ) (w : BranchWord) (xs : List Spot) → token + 1 ≤ a → Rises a b xs → Rises token b (spot.Branch token w ∷ xs)
+pub led : (token a b : ℕ) (w : BranchWord) (xs : List Spot) → token + 1 ≤ a → Rises a b xs → Rises token b (spot.Branch token w ∷ xs)
 led token a b w xs m r = join token (token + 1) a b (spot.Branch token w ∷ []) xs m (rises-branch token w) r
 
 pub declarator-length : (d : Declarator) → d.stars + 1 ≤ length (declarator_kinds d)
@@ -38,7 +38,7 @@ declarator-length d = omega (
 
 rises-initial : (at : ℕ) (d : Declarator) (o : Option InitialTree) → d.name_token ≡ at + d.stars →
     IfSome o (InitialAt (at + length (declarator_kinds d) + 1)) →
-    Rises at (at + length (declarator_kinds d ++ optional (λ y. a_sign sign.Equal ++ initial_kinds y) o)) (initial_spots d.name_token o)
+    Rises at (at + length (declarator_kinds d ++ optional_kinds (λ y. a_sign sign.Equal ++ initial_kinds y) o)) (initial_spots d.name_token o)
 rises-initial at d None is p = omega arith
 rises-initial at d (Some (s.Value value)) is p =
     let from = at + length (declarator_kinds d) + 1 in
@@ -55,11 +55,11 @@ rises-initial at d (Some (s.Value value)) is p =
 rises-initial at d (Some (s.Braced token items comma)) is p =
     let from = at + length (declarator_kinds d) + 1 in
     let inner = exprs_kinds items ++ comma_kinds comma in
-    let whole : length (declarator_kinds d ++ (a_sign sign.Equal ++ braced inner)) ≡ length (declarator_kinds d) + length
-    (a_sign sign.Equal ++ braced inner) =
-    length-append (declarator_kinds d) (a_sign sign.Equal ++ braced inner) in
-    let behind : length (a_sign sign.Equal ++ braced inner) ≡ length (a_sign sign.Equal) + length (braced inner) =
-    length-append (a_sign sign.Equal) (braced inner) in
+    let whole : length (declarator_kinds d ++ (a_sign sign.Equal ++ braced_kinds inner)) ≡ length (declarator_kinds d) + length
+    (a_sign sign.Equal ++ braced_kinds inner) =
+    length-append (declarator_kinds d) (a_sign sign.Equal ++ braced_kinds inner) in
+    let behind : length (a_sign sign.Equal ++ braced_kinds inner) ≡ length (a_sign sign.Equal) + length (braced_kinds inner) =
+    length-append (a_sign sign.Equal) (braced_kinds inner) in
     wider (from + 1) (from + 1 + length (exprs_kinds items)) at _ (exprs_spots items) (omega arith)
     (omega (arith, whole, behind, brace-length inner, length-append (exprs_kinds items) (comma_kinds comma)))
     (rises-exprs (from + 1) items p.1)
@@ -101,9 +101,9 @@ rises-declaration at d p =
 pub rises-for_start : (at : ℕ) (x : ForStartTree) → ForStartAt at x → Rises at (at + length (for_start_kinds x)) (for_start_spots x)
 rises-for_start at (s.Declares d) p = rises-declaration at d p
 rises-for_start at (s.Computes x) p =
-    let whole : length (for_start_kinds (s.Computes x)) ≡ length (optional expr_kinds x) + length (a_sign sign.Semicolon) =
-    length-append (optional expr_kinds x) (a_sign sign.Semicolon) in
-    wider at (at + length (optional expr_kinds x)) at _ (part_spots x) (omega arith) (omega (arith, whole)) (rises-part at x p)
+    let whole : length (for_start_kinds (s.Computes x)) ≡ length (optional_kinds expr_kinds x) + length (a_sign sign.Semicolon) =
+    length-append (optional_kinds expr_kinds x) (a_sign sign.Semicolon) in
+    wider at (at + length (optional_kinds expr_kinds x)) at _ (part_spots x) (omega arith) (omega (arith, whole)) (rises-part at x p)
 
 rises-for : (token : ℕ) (condition : Option ExprTree) → Rises token (token + 1) (for_spots token condition)
 rises-for token None = omega arith
@@ -125,9 +125,9 @@ mutual
       let lc = length (expr_kinds condition) in
       let body = at + 2 + lc + 1 in
       let end = body + length (statement_kinds first) in
-      let whole : length (statement_kinds (s.If token condition first)) ≡ length (a_word word.If) + length (parenthesized
+      let whole : length (statement_kinds (s.If token condition first)) ≡ length (a_word word.If) + length (parenthesized_kinds
       (expr_kinds condition)) + length (statement_kinds first) =
-      len3 (a_word word.If) (parenthesized (expr_kinds condition)) (statement_kinds first) in
+      len3 (a_word word.If) (parenthesized_kinds (expr_kinds condition)) (statement_kinds first) in
       wider token end at _ (statement_spots (s.If token condition first)) (omega (arith, p.0)) (omega (arith, whole, paren-length (expr_kinds condition)))
       (join token (at + 2 + lc) body end (spot.Branch token If ∷ expr_spots condition) (statement_spots first) (omega arith)
       (led token (at + 2) (at + 2 + lc) If (expr_spots condition) (omega (arith, p.0)) (rises-expr (at + 2) condition p.1))
@@ -139,8 +139,8 @@ mutual
       let other = body + lf + 1 in
       let end = other + length (statement_kinds second) in
       let whole : length (statement_kinds (s.IfElse token condition first second)) ≡
-      length (a_word word.If) + length (parenthesized (expr_kinds condition)) + lf + length (a_word word.Else) + length (statement_kinds second) =
-      len5 (a_word word.If) (parenthesized (expr_kinds condition)) (statement_kinds first) (a_word word.Else) (statement_kinds second) in
+      length (a_word word.If) + length (parenthesized_kinds (expr_kinds condition)) + lf + length (a_word word.Else) + length (statement_kinds second) =
+      len5 (a_word word.If) (parenthesized_kinds (expr_kinds condition)) (statement_kinds first) (a_word word.Else) (statement_kinds second) in
       wider token end at _ (statement_spots (s.IfElse token condition first second)) (omega (arith, p.0)) (omega (
         arith,
         whole,
@@ -155,9 +155,9 @@ mutual
       let lc = length (expr_kinds condition) in
       let from = at + 2 + lc + 1 in
       let end = from + length (statement_kinds body) in
-      let whole : length (statement_kinds (s.While token condition body)) ≡ length (a_word word.While) + length (parenthesized
+      let whole : length (statement_kinds (s.While token condition body)) ≡ length (a_word word.While) + length (parenthesized_kinds
       (expr_kinds condition)) + length (statement_kinds body) =
-      len3 (a_word word.While) (parenthesized (expr_kinds condition)) (statement_kinds body) in
+      len3 (a_word word.While) (parenthesized_kinds (expr_kinds condition)) (statement_kinds body) in
       wider token end at _ (statement_spots (s.While token condition body)) (omega (arith, p.0)) (omega (arith, whole, paren-length (expr_kinds condition)))
       (join token (at + 2 + lc) from end (spot.Branch token While ∷ expr_spots condition) (statement_spots body) (omega arith)
       (led token (at + 2) (at + 2 + lc) While (expr_spots condition) (omega (arith, p.0)) (rises-expr (at + 2) condition p.1))
@@ -167,16 +167,16 @@ mutual
       let from = at + 1 + lb + 2 in
       let end = from + length (expr_kinds condition) in
       let whole : length (statement_kinds (s.Do token body condition)) ≡
-      length (a_word word.Do) + lb + length (a_word word.While) + length (parenthesized (expr_kinds condition)) + length (a_sign sign.Semicolon) =
-      len5 (a_word word.Do) (statement_kinds body) (a_word word.While) (parenthesized (expr_kinds condition)) (a_sign sign.Semicolon) in
+      length (a_word word.Do) + lb + length (a_word word.While) + length (parenthesized_kinds (expr_kinds condition)) + length (a_sign sign.Semicolon) =
+      len5 (a_word word.Do) (statement_kinds body) (a_word word.While) (parenthesized_kinds (expr_kinds condition)) (a_sign sign.Semicolon) in
       wider token end at _ (statement_spots (s.Do token body condition)) (omega (arith, p.0)) (omega (arith, whole, paren-length (expr_kinds condition)))
       (join token (at + 1 + lb) from end (spot.Branch token Do ∷ statement_spots body) (expr_spots condition) (omega arith)
       (led token (at + 1) (at + 1 + lb) Do (statement_spots body) (omega (arith, p.0)) (rises-statement (at + 1) body p.1))
       (rises-expr from condition p.2))
   rises-statement at (s.For token start condition step body) p =
       let ks = for_start_kinds start in
-      let kc = optional expr_kinds condition in
-      let kt = optional expr_kinds step in
+      let kc = optional_kinds expr_kinds condition in
+      let kt = optional_kinds expr_kinds step in
       let first = at + 2 + length ks in
       let third = first + length kc + 1 in
       let from = third + length kt + 1 in
@@ -184,8 +184,8 @@ mutual
       let inner : length (ks ++ kc ++ a_sign sign.Semicolon ++ kt) ≡ length ks + length kc + length (a_sign sign.Semicolon) + length kt =
       len4 ks kc (a_sign sign.Semicolon) kt in
       let whole : length (statement_kinds (s.For token start condition step body)) ≡
-      length (a_word word.For) + length (parenthesized (ks ++ kc ++ a_sign sign.Semicolon ++ kt)) + length (statement_kinds body) =
-      len3 (a_word word.For) (parenthesized (ks ++ kc ++ a_sign sign.Semicolon ++ kt)) (statement_kinds body) in
+      length (a_word word.For) + length (parenthesized_kinds (ks ++ kc ++ a_sign sign.Semicolon ++ kt)) + length (statement_kinds body) =
+      len3 (a_word word.For) (parenthesized_kinds (ks ++ kc ++ a_sign sign.Semicolon ++ kt)) (statement_kinds body) in
       wider token end at _ (statement_spots (s.For token start condition step body)) (omega (arith, p.0))
       (omega (arith, whole, inner, paren-length (ks ++ kc ++ a_sign sign.Semicolon ++ kt)))
       (join token (third + length kt) from end (for_spots token condition ++ for_start_spots start ++ part_spots condition ++ part_spots step)
@@ -197,10 +197,10 @@ mutual
       (rises-part first condition p.2) (rises-part third step p.3))
       (rises-statement from body p.4))
   rises-statement at (s.Return token value) p =
-      let whole : length (statement_kinds (s.Return token value)) ≡ length (a_word word.Return) + length (optional expr_kinds value) + length
+      let whole : length (statement_kinds (s.Return token value)) ≡ length (a_word word.Return) + length (optional_kinds expr_kinds value) + length
       (a_sign sign.Semicolon) =
-      len3 (a_word word.Return) (optional expr_kinds value) (a_sign sign.Semicolon) in
-      wider (at + 1) (at + 1 + length (optional expr_kinds value)) at _ (part_spots value) (omega arith) (omega (arith, whole)) (rises-part
+      len3 (a_word word.Return) (optional_kinds expr_kinds value) (a_sign sign.Semicolon) in
+      wider (at + 1) (at + 1 + length (optional_kinds expr_kinds value)) at _ (part_spots value) (omega arith) (omega (arith, whole)) (rises-part
       (at + 1) value p.1)
   rises-statement at x p = omega arith
 

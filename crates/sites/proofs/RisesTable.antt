@@ -5,7 +5,7 @@ use Rattle.std.specs.List.{All, flat_map}
 use Rattle.std.proofs.lemmas.List.Concat.{flat_map-cons}
 use Rattle.std.proofs.lemmas.List.Elements.{All-head, All-tail, All-nil}
 use Rattle.c_syntax.specs.ItemTree as i
-use Rattle.c_syntax.specs.Words.{ItemTree, SourceTree, a_name, braced, entry_kinds, item_kinds, params_kinds, parenthesized, tree_kinds, type_kinds, EachAt}
+use Rattle.c_syntax.specs.Words.{ItemTree, SourceTree, a_name, braced_kinds, entry_kinds, item_kinds, params_kinds, parenthesized_kinds, tree_kinds, type_kinds, EachAt}
 use Rattle.c_syntax.specs.Words.{ItemAt, IsShaped}
 use Rattle.c_types_expressions.specs.declared.walk.Walk.{Walk}
 use Rattle.flow.specs.declared.site.Site.{Site}
@@ -71,9 +71,9 @@ pub rises-held : (at : ℕ) (x : ItemTree) → ItemAt at x → Rises at (at + le
 rises-held at (i.Function token b stars name ps (Some body)) p =
     let ts = type_kinds b stars in
     let from = at + length ts + 2 + length (params_kinds ps) + 2 in
-    let whole : length (item_kinds (i.Function token b stars name ps (Some body))) ≡ length ts + length (a_name name) + length (parenthesized
-    (params_kinds ps)) + length (braced (entry_kinds body)) =
-    len4 ts (a_name name) (parenthesized (params_kinds ps)) (braced (entry_kinds body)) in
+    let whole : length (item_kinds (i.Function token b stars name ps (Some body))) ≡ length ts + length (a_name name) + length (parenthesized_kinds
+    (params_kinds ps)) + length (braced_kinds (entry_kinds body)) =
+    len4 ts (a_name name) (parenthesized_kinds (params_kinds ps)) (braced_kinds (entry_kinds body)) in
     wider from (from + length (entry_kinds body)) at _ (entries_spots body) (omega arith)
     (omega (arith, whole, paren-length (params_kinds ps), brace-length (entry_kinds body)))
     (rises-entries from body p.3)

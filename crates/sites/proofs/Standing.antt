@@ -5,7 +5,7 @@ use Rattle.std.specs.List.{flat_map}
 use Rattle.std.proofs.lemmas.List.{drop_more}
 use Rattle.std.proofs.lemmas.List.Concat.{flat_map-cons}
 use Rattle.c_syntax.specs.ItemTree as i
-use Rattle.c_syntax.specs.Words.{ItemTree, most_tokens, EachAt, ItemAt, a_name, item_kinds, parenthesized, params_kinds, type_kinds, braced, entry_kinds}
+use Rattle.c_syntax.specs.Words.{ItemTree, most_tokens, EachAt, ItemAt, a_name, item_kinds, parenthesized_kinds, params_kinds, type_kinds, braced_kinds, entry_kinds}
 use Rattle.c_types_expressions.specs.declared.walk.Walk.{Walk}
 use Rattle.sites.specs.declared.noted.Noted.{Noted}
 use Rattle.flow.specs.declared.choice.Schemes.{Schemes}
@@ -64,7 +64,7 @@ up_to x o low high rest is h le all = (subst (λ p. IfSome p (IsUpTo high)) is (
 one-token : (x : ItemTree) → length (defined_by x) ≤ length (item_kinds x)
 one-token (i.Function token b stars name ps (Some body)) = omega (
   arith,
-  len4 (type_kinds b stars) (a_name name) (parenthesized (params_kinds ps)) (braced (entry_kinds body)),
+  len4 (type_kinds b stars) (a_name name) (parenthesized_kinds (params_kinds ps)) (braced_kinds (entry_kinds body)),
 )
 one-token x = omega arith
 

@@ -8,7 +8,7 @@ use Rattle.c_types_expressions.specs.declared.walk.Walk.{Walk}
 use Rattle.c_types.specs.Answers.{scope_holds}
 use Rattle.flow.specs.declared.site.Partner.{Partner}
 use Rattle.flow.specs.declared.site.Partner.TheVariants as partner
-use Rattle.sites.specs.Visible.{is_clear, is_hidden, is_partner, least, slot_of, variable_partners}
+use Rattle.sites.specs.Visible.{is_clear, is_hidden, is_partner, least_token, slot_of, variable_partners}
 
 -- whether the variable's scope begins behind this token or a later one
 abbrev pub begins_from : ℕ → Option VariableEntry → Bool
@@ -16,22 +16,22 @@ begins_from token None = false
 begins_from token (Some v) = nat_le token v.from
 
 -- whether the scope of the variable at the place isn't over at the token: it is still to begin, or holds the token
-abbrev pub lasts : Walk → ℕ → ℕ → Bool
-lasts w token place = begins_from token (slice_get w.variables place) || scope_holds w place token
+abbrev pub has_scope_left : Walk → ℕ → ℕ → Bool
+has_scope_left w token place = begins_from token (slice_get w.variables place) || scope_holds w place token
 
 -- of the first `count` places those of variables whose scope isn't over at the token
-abbrev pub lasting : Walk → ℕ → ℕ → List ℕ
-lasting w token count = filter (lasts w token) (range_with_len 0 count)
+abbrev pub places_with_scope_left : Walk → ℕ → ℕ → List ℕ
+places_with_scope_left w token count = filter (has_scope_left w token) (range_with_len 0 count)
 
 -- the least token behind which the scope of one of these variables begins
 abbrev pub first_from : List VariableEntry → Option ℕ
 first_from [] = None
-first_from (v ∷ later) = Some (least v.from (first_from later))
+first_from (v ∷ later) = Some (least_token v.from (first_from later))
 
 -- for each of these variables that token for it and those behind it
 abbrev pub all_firsts : List VariableEntry → List ℕ
 all_firsts [] = []
-all_firsts (v ∷ later) = least v.from (first_from later) ∷ all_firsts later
+all_firsts (v ∷ later) = least_token v.from (first_from later) ∷ all_firsts later
 
 -- whether what is noted of a variable's name tells that no scope of a later one with the name begins before the token
 abbrev pub clear_by : ℕ → Option (Option ℕ) → Bool

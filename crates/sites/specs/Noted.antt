@@ -7,8 +7,8 @@ use Rattle.c_types_expressions.specs.Indexed.{is_key}
 use Rattle.c_types_expressions.specs.declared.walk.Walk.{Walk}
 use Rattle.sites.specs.declared.noted.Noted.{Noted}
 use Rattle.flow.specs.declared.choice.Schemes.{Schemes}
-use Rattle.sites.specs.Near.{AreEnough, all_firsts, lasting}
-use Rattle.sites.specs.Visible.{all_again, least}
+use Rattle.sites.specs.Near.{AreEnough, all_firsts, places_with_scope_left}
+use Rattle.sites.specs.Visible.{all_again, least_token}
 
 -- It is noted of each variable where a later one takes its name again, and where it or a later one begins; and which of those seen last at
 -- some token that isn't behind this one.
@@ -17,7 +17,7 @@ pub record IsNotedTo (w : Walk) (at : ℕ) (n : Noted) : Type 0 where
   pub firsts : n.firsts ≡ all_firsts w.variables
   pub since : ℕ
   pub before : since ≤ at
-  pub near : n.near.items ≡ lasting w since n.seen
+  pub near : n.near.items ≡ places_with_scope_left w since n.seen
 
 -- It is enough for the pairs at the token.
 pub record IsEnough (w : Walk) (n : Noted) (token : ℕ) : Type 0 where
@@ -37,4 +37,5 @@ first_in firsts name = lookup (is_key name) firsts
 
 -- of the name the token is kept as well, and of others what was
 abbrev pub IsNoted : List ℕ → ℕ → List (Vec ℕ Global × ℕ) → List (Vec ℕ Global × ℕ) → Type 0
-IsNoted name from old new = (other : List ℕ) → first_in new other ≡ (if bytes_eq name other then Some (least from (first_in old other)) else first_in old other)
+IsNoted name from old new =
+    (other : List ℕ) → first_in new other ≡ (if bytes_eq name other then Some (least_token from (first_in old other)) else first_in old other)

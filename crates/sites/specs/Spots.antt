@@ -18,9 +18,9 @@ named_token (e.Name token name) = Some token
 named_token x = None
 
 -- a new value of the variable, if one is named
-abbrev pub changed : ℕ → Option ℕ → List Spot
-changed token None = []
-changed token (Some target) = spot.Change token target ∷ []
+abbrev pub change_spots : ℕ → Option ℕ → List Spot
+change_spots token None = []
+change_spots token (Some target) = spot.Change token target ∷ []
 
 abbrev pub is_step : PrefixOperator → Bool
 is_step prefix.Increment = true
@@ -33,25 +33,25 @@ is_sizeof operator = false
 
 -- `++` and `--` before a variable give it a new value
 abbrev pub stepped_spots : PrefixOperator → ℕ → Option ℕ → List Spot
-stepped_spots operator token target = if is_step operator then changed token target else []
+stepped_spots operator token target = if is_step operator then change_spots token target else []
 
 -- `&&` and `||` are branches
-abbrev pub joining : Sign → Option BranchWord
-joining sign.AndAnd = Some AndAnd
-joining sign.OrOr = Some OrOr
-joining s = None
+abbrev pub branch_of_sign : Sign → Option BranchWord
+branch_of_sign sign.AndAnd = Some AndAnd
+branch_of_sign sign.OrOr = Some OrOr
+branch_of_sign s = None
 
-abbrev pub branched : ℕ → Option BranchWord → List Spot
-branched token None = []
-branched token (Some word) = spot.Branch token word ∷ []
+abbrev pub branch_spots : ℕ → Option BranchWord → List Spot
+branch_spots token None = []
+branch_spots token (Some word) = spot.Branch token word ∷ []
 
 abbrev pub joined_spots : ℕ → Sign → List Spot
-joined_spots token s = branched token (joining s)
+joined_spots token s = branch_spots token (branch_of_sign s)
 
 abbrev mutual
   pub expr_spots : ExprTree → List Spot
   expr_spots (e.Comma token operands) = exprs_spots operands
-  expr_spots (e.Assign token s target value) = expr_spots target ++ changed token (named_token target) ++ expr_spots value
+  expr_spots (e.Assign token s target value) = expr_spots target ++ change_spots token (named_token target) ++ expr_spots value
   expr_spots (e.Conditional token condition first second) = expr_spots condition ++ spot.Branch token Question ∷ expr_spots first ++ expr_spots second
   expr_spots (e.Chain level first links) = expr_spots first ++ links_spots links
   expr_spots (e.Cast token b stars operand) = expr_spots operand
@@ -80,8 +80,8 @@ abbrev mutual
   postfix_spots target (e.index token x rest) = expr_spots x ++ postfix_spots None rest
   postfix_spots target (e.member token name rest) = postfix_spots None rest
   postfix_spots target (e.arrow token name rest) = postfix_spots None rest
-  postfix_spots target (e.increment token rest) = changed token target ++ postfix_spots None rest
-  postfix_spots target (e.decrement token rest) = changed token target ++ postfix_spots None rest
+  postfix_spots target (e.increment token rest) = change_spots token target ++ postfix_spots None rest
+  postfix_spots target (e.decrement token rest) = change_spots token target ++ postfix_spots None rest
 
 -- an expression that may be left out
 abbrev pub part_spots : Option ExprTree → List Spot

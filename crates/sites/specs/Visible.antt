@@ -22,14 +22,14 @@ is_hidden w token name place [] = false
 is_hidden w token name place (v ∷ later) = (bytes_eq v.name name && scope_holds w place token) || is_hidden w token name (suc place) later
 
 -- the least of the tokens, of which one may be left out
-abbrev pub least : ℕ → Option ℕ → ℕ
-least token None = token
-least token (Some other) = if nat_lt other token then other else token
+abbrev pub least_token : ℕ → Option ℕ → ℕ
+least_token token None = token
+least_token token (Some other) = if nat_lt other token then other else token
 
 -- the least token behind which the scope of one of these variables with the name begins, if one has it
 abbrev pub declared_again : List ℕ → List VariableEntry → Option ℕ
 declared_again name [] = None
-declared_again name (v ∷ later) = if bytes_eq v.name name then Some (least v.from (declared_again name later)) else declared_again name later
+declared_again name (v ∷ later) = if bytes_eq v.name name then Some (least_token v.from (declared_again name later)) else declared_again name later
 
 -- for each of these variables that token for its name and the variables behind it
 abbrev pub all_again : List VariableEntry → List (Option ℕ)

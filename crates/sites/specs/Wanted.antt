@@ -17,5 +17,5 @@ is_site_wanted schemes (Return callee) = schemes.returns
 is_site_wanted schemes (Pair target slot partner) = schemes.pairs
 
 -- those of the sites that are wanted
-abbrev pub wanted : Schemes → List Site → List Site
-wanted schemes sites = filter (λ s. is_site_wanted schemes s.kind) sites
+abbrev pub wanted_sites : Schemes → List Site → List Site
+wanted_sites schemes sites = filter (λ s. is_site_wanted schemes s.kind) sites

@@ -6,12 +6,12 @@ ghost use Rattle.flow.specs.declared.site.Site.{Site};
 ghost use Rattle.flow.specs.declared.choice.Schemes.{Schemes};
 ghost use Rattle.sites.specs.Rising.{RisesWithin};
 ghost use Rattle.sites.specs.Table.{functions_of, item_sites, sites_of};
-ghost use Rattle.sites.specs.Wanted.{all_schemes, no_schemes, wanted};
+ghost use Rattle.sites.specs.Wanted.{all_schemes, no_schemes, wanted_sites};
 
 /// The table for some schemes has those sites of the table for all that the schemes want, in the same order. So two tables for
 /// schemes that have nothing in common interleave to the table for both, and without a scheme there is no site.
 pub fn schemes_choose_sites()
-    ensures chosen { (t : SourceTree) (w : Walk) (schemes : Schemes) → sites_of t w schemes ≡ wanted schemes (sites_of t w all_schemes) }
+    ensures chosen { (t : SourceTree) (w : Walk) (schemes : Schemes) → sites_of t w schemes ≡ wanted_sites schemes (sites_of t w all_schemes) }
     ensures none { (t : SourceTree) (w : Walk) → sites_of t w no_schemes ≡ [] }
 {}
 

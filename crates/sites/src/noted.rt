@@ -1,9 +1,9 @@
 ghost use Rattle.std.specs.Prelude.{◌≡◌, ◌++◌, ◌∷◌, [], ◌≤◌, true, drop, filter, IfOk, IfSome, OnOk, slice_get};
 ghost use Rattle.c_types.specs.Answers.{known_of};
-ghost use Rattle.sites.specs.Near.{all_firsts, begins_from, first_from, lasting, lasts};
+ghost use Rattle.sites.specs.Near.{all_firsts, begins_from, first_from, places_with_scope_left, has_scope_left};
 ghost use Rattle.sites.specs.Noted.{IsEnoughFor, IsNoted, IsNotedFor, first_in};
 ghost use Rattle.sites.specs.Standing.{EachToken, IsUpTo, StandFrom};
-ghost use Rattle.sites.specs.Visible.{all_again, is_clear, least};
+ghost use Rattle.sites.specs.Visible.{all_again, is_clear, least_token};
 
 use crate::spots::{Spot, token_of};
 use c_types::Checked;
@@ -32,7 +32,7 @@ pub struct Noted {
 
 /// The least of the tokens.
 fn least(token: u32, other: Option<u32>) -> u32
-    ensures { result ≡ least token other }
+    ensures { result ≡ least_token token other }
 {
     match other {
         None => token,
@@ -131,14 +131,14 @@ fn begins_from(checked: &Checked, token: u32, place: usize) -> bool
 
 /// Whether the scope of the variable at the place isn't over at the token.
 fn lasts(checked: &Checked, token: u32, place: usize) -> bool
-    ensures { result ≡ lasts (known_of checked.now) token place }
+    ensures { result ≡ has_scope_left (known_of checked.now) token place }
 {
     begins_from(checked, token, place) || checked.scope_holds(place, token)
 }
 
 /// Leaves the places of variables whose scope isn't over at the token.
 fn keep_lasting(near: &mut Vec<usize>, checked: &Checked, token: u32)
-    ensures { near.new.items ≡ filter (lasts (known_of checked.now) token) near.old.items }
+    ensures { near.new.items ≡ filter (has_scope_left (known_of checked.now) token) near.old.items }
 {
     near.retain(|place| lasts(checked, token, *place));
 }
@@ -150,7 +150,7 @@ fn add_lasting(
     token: u32,
     place: usize,
 ) -> Result<(), Memory>
-    ensures { OnOk result (near.new.items ≡ near.old.items ++ filter (lasts (known_of checked.now) token) (place ∷ [])) }
+    ensures { OnOk result (near.new.items ≡ near.old.items ++ filter (has_scope_left (known_of checked.now) token) (place ∷ [])) }
 {
     if !lasts(checked, token, place) {
         return Ok(());
@@ -177,8 +177,8 @@ fn see_more(
     last: u32,
 ) -> Result<usize, Memory>
     requires firsts { firsts.now ≡ all_firsts (known_of checked.now).variables }
-    requires near { near.old.items ≡ lasting (known_of checked.now) begin seen }
-    ensures near { IfOk result (λ seen. near.new.items ≡ lasting (known_of checked.now) begin seen) }
+    requires near { near.old.items ≡ places_with_scope_left (known_of checked.now) begin seen }
+    ensures near { IfOk result (λ seen. near.new.items ≡ places_with_scope_left (known_of checked.now) begin seen) }
     ensures clear { IfOk result (λ seen. is_clear last (first_from (drop seen (known_of checked.now).variables)) ≡ true) }
 {
     let mut seen = seen;

@@ -2,7 +2,7 @@ ghost use Rattle.std.specs.Prelude.{◌≡◌, ◌++◌, OnOk, option_map};
 ghost use Rattle.c_syntax.specs.Plain.{plain_expr, plain_exprs, plain_links, plain_operators};
 ghost use Rattle.sites.specs.SitesAt.{spot_token};
 ghost use Rattle.sites.specs.Spots.{
-  changed,
+  change_spots,
   expr_spots,
   exprs_spots,
   is_sizeof,
@@ -59,7 +59,7 @@ fn named(expr: &Expr) -> Option<u32>
 
 /// A variable that is named gets a new value.
 pub fn push_change(spots: &mut Seq<Spot>, token: u32, target: Option<u32>) -> Result<(), Memory>
-    ensures { OnOk result (spots.new ≡ spots.old ++ changed token target) }
+    ensures { OnOk result (spots.new ≡ spots.old ++ change_spots token target) }
 {
     match target {
         None => Ok(()),

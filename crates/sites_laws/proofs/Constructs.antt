@@ -14,18 +14,18 @@ use Rattle.flow.specs.declared.site.BranchWord.TheVariants as word
 use Rattle.sites.specs.declared.spots.Spot.{Spot}
 use Rattle.sites.specs.declared.spots.Spot.TheVariants as spot
 use Rattle.sites.specs.Bodies.{declaration_spots, entries_spots, for_spots, for_start_spots, initial_spots, start_spots, starts_spots, statement_spots}
-use Rattle.sites.specs.Spots.{changed, expr_spots, exprs_spots, joined_spots, links_spots, named_token, part_spots, postfix_spots}
+use Rattle.sites.specs.Spots.{change_spots, expr_spots, exprs_spots, joined_spots, links_spots, named_token, part_spots, postfix_spots}
 use Rattle.sites.specs.Standing.{item_spots}
 use Rattle.sites.proofs.Rises.{Rises}
 use Rattle.sites.proofs.RisesTable.{rises-held}
-use Rattle.sites_laws.specs.Constructs.{AreMadeBy, SitedConstruct, Expression, Statement, Declared, SpotsRise, all_decide, all_make, begins_with, changes, decides}
+use Rattle.sites_laws.specs.Constructs.{AreMadeBy, SitedConstruct, Expression, Statement, Declared, SpotsRise, all_decide, all_make, begins_with, new_value_spots, logical_branch_spots}
 use Rattle.sites_laws.specs.Constructs.{entries_constructs, expr_constructs, exprs_constructs, for_start_constructs, initial_constructs, item_constructs}
-use Rattle.sites_laws.specs.Constructs.{links_constructs, makes, optional_constructs, postfix_constructs, starts_constructs, statement_constructs}
+use Rattle.sites_laws.specs.Constructs.{links_constructs, construct_spots, optional_constructs, postfix_constructs, starts_constructs, statement_constructs}
 use Rattle.sites_laws.specs.Constructs.{statement_makes, steps_behind}
 
 -- the tables
 
-changes_are : (token : ℕ) (x : ExprTree) → changed token (named_token x) ≡ changes token x
+changes_are : (token : ℕ) (x : ExprTree) → change_spots token (named_token x) ≡ new_value_spots token x
 changes_are own (e.Comma token operands) = refl
 changes_are own (e.Assign token s target value) = refl
 changes_are own (e.Conditional token condition first second) = refl
@@ -42,7 +42,7 @@ changes_are own (e.Paren token inner) = refl
 changes_are own (e.Null token) = refl
 changes_are own (e.EndOfFile token) = refl
 
-decides_is : (token : ℕ) (s : Sign) → joined_spots token s ≡ decides token s
+decides_is : (token : ℕ) (s : Sign) → joined_spots token s ≡ logical_branch_spots token s
 decides_is token sign.LeftBrace = refl
 decides_is token sign.RightBrace = refl
 decides_is token sign.LeftParen = refl
@@ -91,7 +91,7 @@ decides_is token sign.OrEqual = refl
 
 all_both : (xs ys : List SitedConstruct) → all_make (xs ++ ys) ≡ all_make xs ++ all_make ys
 all_both [] ys = refl
-all_both (x ∷ xs) ys = ap (λ zs. makes x ++ zs) (all_both xs ys) ∙ sym (append_assoc (makes x) (all_make xs) (all_make ys))
+all_both (x ∷ xs) ys = ap (λ zs. construct_spots x ++ zs) (all_both xs ys) ∙ sym (append_assoc (construct_spots x) (all_make xs) (all_make ys))
 
 for_is : (token : ℕ) (start : ForStartTree) (condition step : Option ExprTree) (body : StatementTree)
     → for_spots token condition ≡ statement_makes (s.For token start condition step body)
@@ -113,16 +113,16 @@ module _ (p : Spot → Bool) where
   made_both xs ys = ap n (all_both xs ys) ∙ both (all_make xs) (all_make ys)
 
   -- a construct before those in it
-  own : (x : SitedConstruct) (xs : List SitedConstruct) → m (x ∷ xs) ≡ n (makes x) + m xs
-  own x xs = both (makes x) (all_make xs)
+  own : (x : SitedConstruct) (xs : List SitedConstruct) → m (x ∷ xs) ≡ n (construct_spots x) + m xs
+  own x xs = both (construct_spots x) (all_make xs)
 
   -- `++` or `--` before an operand
   step_made : (token : ℕ) (operand : ExprTree) → n (expr_spots operand) ≡ m (expr_constructs operand)
-      → n (changed token (named_token operand) ++ expr_spots operand) ≡ n (changes token operand ++ all_make (expr_constructs operand))
+      → n (change_spots token (named_token operand) ++ expr_spots operand) ≡ n (new_value_spots token operand ++ all_make (expr_constructs operand))
   step_made token operand h = omega (
     arith,
-    both (changed token (named_token operand)) (expr_spots operand),
-    both (changes token operand) (all_make (expr_constructs operand)),
+    both (change_spots token (named_token operand)) (expr_spots operand),
+    both (new_value_spots token operand) (all_make (expr_constructs operand)),
     ap n (changes_are token operand),
     h,
   )
@@ -132,8 +132,8 @@ module _ (p : Spot → Bool) where
     expr_made (e.Comma token operands) = exprs_made operands
     expr_made (e.Assign token s target value) = omega (
       arith,
-      both (expr_spots target ++ changed token (named_token target)) (expr_spots value),
-      both (expr_spots target) (changed token (named_token target)),
+      both (expr_spots target ++ change_spots token (named_token target)) (expr_spots value),
+      both (expr_spots target) (change_spots token (named_token target)),
       ap n (changes_are token target),
       own (Expression (e.Assign token s target value)) (expr_constructs target ++ expr_constructs value),
       made_both (expr_constructs target) (expr_constructs value),
@@ -209,7 +209,7 @@ module _ (p : Spot → Bool) where
       both (joined_spots token s ++ expr_spots operand) (links_spots rest),
       both (joined_spots token s) (expr_spots operand),
       ap n (decides_is token s),
-      both (decides token s) (all_decide rest),
+      both (logical_branch_spots token s) (all_decide rest),
       made_both (expr_constructs operand) (links_constructs rest),
       expr_made operand,
       links_made rest,
@@ -243,9 +243,9 @@ module _ (p : Spot → Bool) where
     behind_made x (e.member token name rest) = omega (arith, postfix_made rest)
     behind_made x (e.arrow token name rest) = omega (arith, postfix_made rest)
     behind_made x (e.increment token rest) =
-        omega (arith, both (changed token (named_token x)) (postfix_spots None rest), ap n (changes_are token x), postfix_made rest)
+        omega (arith, both (change_spots token (named_token x)) (postfix_spots None rest), ap n (changes_are token x), postfix_made rest)
     behind_made x (e.decrement token rest) =
-        omega (arith, both (changed token (named_token x)) (postfix_spots None rest), ap n (changes_are token x), postfix_made rest)
+        omega (arith, both (change_spots token (named_token x)) (postfix_spots None rest), ap n (changes_are token x), postfix_made rest)
 
   part_made : (x : Option ExprTree) → n (part_spots x) ≡ m (optional_constructs x)
   part_made None = refl

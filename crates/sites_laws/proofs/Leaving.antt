@@ -11,7 +11,7 @@ use Rattle.c_syntax.specs.StatementTree as s
 use Rattle.c_meaning.specs.Trees.{token_of}
 use Rattle.c_types_faults.specs.Events.{Calls, Other, Event, Value, Initialises, Variable, Opens, Closes, Struct, Names, Defines}
 use Rattle.c_types_faults.specs.Events.{declaration_events, entries_events, expr_events, exprs_events, for_start_events, initial_events, links_events}
-use Rattle.c_types_faults.specs.Events.{optional_events, postfix_events, scoped, start_events, starts_events, statement_events}
+use Rattle.c_types_faults.specs.Events.{optional_events, postfix_events, scope_events, start_events, starts_events, statement_events}
 use Rattle.sites_laws.specs.Constructs.{AreAll, Expression, SitedConstruct, all_tokens, body_events, entries_constructs, expr_constructs, exprs_constructs}
 use Rattle.sites_laws.specs.Constructs.{for_start_constructs, initial_constructs, item_constructs, link_tokens, links_constructs, optional_constructs}
 use Rattle.sites_laws.specs.Constructs.{own_tokens, postfix_constructs, postfix_tokens, starts_constructs, statement_constructs, tokens_of}
@@ -195,7 +195,7 @@ module _ (p : ℕ → Bool) where
   for_start_all (s.Computes x) = part_all x
 
   -- in a scope of its own
-  scoped_all : (es : List Event) (k : ℕ) → n es ≡ k → n (scoped es) ≡ k
+  scoped_all : (es : List Event) (k : ℕ) → n es ≡ k → n (scope_events es) ≡ k
   scoped_all es k h = omega (arith, both es (Closes ∷ []), h)
 
   mutual

@@ -12,7 +12,7 @@ use Rattle.flow.specs.declared.site.BranchWord.TheVariants as word
 use Rattle.sites.specs.declared.spots.Spot.{Spot}
 use Rattle.sites.specs.declared.spots.Spot.TheVariants as spot
 use Rattle.sites.specs.Bodies.{declaration_spots, entries_spots, for_spots, for_start_spots, initial_spots, start_spots, starts_spots, statement_spots}
-use Rattle.sites.specs.Spots.{branched, changed, expr_spots, exprs_spots, joined_spots, joining, links_spots, named_token, part_spots, postfix_spots}
+use Rattle.sites.specs.Spots.{branch_spots, change_spots, expr_spots, exprs_spots, joined_spots, branch_of_sign, links_spots, named_token, part_spots, postfix_spots}
 use Rattle.sites.specs.Standing.{item_spots}
 use Rattle.sites_laws.specs.Constructs.{SitedConstruct, Expression, Statement, Declared, entries_constructs, expr_constructs, exprs_constructs}
 use Rattle.sites_laws.specs.Constructs.{for_start_constructs, initial_constructs, item_constructs, links_constructs, numbers_in, optional_constructs}
@@ -56,14 +56,14 @@ before xs ys l h g = values_both xs ys ∙ ap (λ m. m ++ values_in ys) h ∙ g
 after : (xs ys : List Spot) (l : List ℤ) → values_in xs ≡ l → values_in ys ≡ [] → values_in (xs ++ ys) ≡ l
 after xs ys l h g = values_both xs ys ∙ ap (λ m. values_in xs ++ m) g ∙ append-nil (values_in xs) ∙ h
 
-changed_none : (token : ℕ) (o : Option ℕ) → values_in (changed token o) ≡ []
+changed_none : (token : ℕ) (o : Option ℕ) → values_in (change_spots token o) ≡ []
 changed_none token None = refl
 changed_none token (Some target) = refl
 
 joined_none : (token : ℕ) (s : Sign) → values_in (joined_spots token s) ≡ []
-joined_none token s = by (joining s)
+joined_none token s = by (branch_of_sign s)
   where
-    by : (o : Option BranchWord) → values_in (branched token o) ≡ []
+    by : (o : Option BranchWord) → values_in (branch_spots token o) ≡ []
     by None = refl
     by (Some w) = refl
 
@@ -75,8 +75,8 @@ mutual
   expr_ordered : (x : ExprTree) → values_in (expr_spots x) ≡ numbers_in (expr_constructs x)
   expr_ordered (e.Comma token operands) = exprs_ordered operands
   expr_ordered (e.Assign token s target value) =
-      in_turn (expr_spots target ++ changed token (named_token target)) (expr_spots value) (expr_constructs target) (expr_constructs value)
-      (after (expr_spots target) (changed token (named_token target)) (numbers_in (expr_constructs target)) (expr_ordered target)
+      in_turn (expr_spots target ++ change_spots token (named_token target)) (expr_spots value) (expr_constructs target) (expr_constructs value)
+      (after (expr_spots target) (change_spots token (named_token target)) (numbers_in (expr_constructs target)) (expr_ordered target)
       (changed_none token (named_token target)))
       (expr_ordered value)
   expr_ordered (e.Conditional token condition first second) =
@@ -90,10 +90,10 @@ mutual
       in_turn (expr_spots first) (links_spots links) (expr_constructs first) (links_constructs links) (expr_ordered first) (links_ordered links)
   expr_ordered (e.Cast token b stars operand) = expr_ordered operand
   expr_ordered (e.Prefix token prefix.Increment operand) =
-      before (changed token (named_token operand)) (expr_spots operand) (numbers_in (expr_constructs operand)) (changed_none token (named_token operand))
+      before (change_spots token (named_token operand)) (expr_spots operand) (numbers_in (expr_constructs operand)) (changed_none token (named_token operand))
       (expr_ordered operand)
   expr_ordered (e.Prefix token prefix.Decrement operand) =
-      before (changed token (named_token operand)) (expr_spots operand) (numbers_in (expr_constructs operand)) (changed_none token (named_token operand))
+      before (change_spots token (named_token operand)) (expr_spots operand) (numbers_in (expr_constructs operand)) (changed_none token (named_token operand))
       (expr_ordered operand)
   expr_ordered (e.Prefix token prefix.Address operand) = expr_ordered operand
   expr_ordered (e.Prefix token prefix.Indirection operand) = expr_ordered operand
@@ -127,9 +127,9 @@ mutual
   postfix_ordered (e.member token name rest) o = postfix_ordered rest None
   postfix_ordered (e.arrow token name rest) o = postfix_ordered rest None
   postfix_ordered (e.increment token rest) o =
-      before (changed token o) (postfix_spots None rest) (numbers_in (postfix_constructs rest)) (changed_none token o) (postfix_ordered rest None)
+      before (change_spots token o) (postfix_spots None rest) (numbers_in (postfix_constructs rest)) (changed_none token o) (postfix_ordered rest None)
   postfix_ordered (e.decrement token rest) o =
-      before (changed token o) (postfix_spots None rest) (numbers_in (postfix_constructs rest)) (changed_none token o) (postfix_ordered rest None)
+      before (change_spots token o) (postfix_spots None rest) (numbers_in (postfix_constructs rest)) (changed_none token o) (postfix_ordered rest None)
 
 part_ordered : (x : Option ExprTree) → values_in (part_spots x) ≡ numbers_in (optional_constructs x)
 part_ordered None = refl

@@ -17,7 +17,7 @@ use Rattle.flow.specs.declared.site.Partner.{Partner}
 use Rattle.flow.specs.declared.site.Partner.TheVariants as partner
 use Rattle.sites.specs.SitesAt.{partners_of}
 use Rattle.sites.specs.Visible.{is_hidden, is_type, slot_of, variable_partners}
-use Rattle.sites_laws.specs.Partners.{hides, partners_in}
+use Rattle.sites_laws.specs.Partners.{is_name_hidden, partners_in}
 
 -- the scopes from a place on hold the token as these do
 abbrev Hold : Walk → ℕ → ℕ → List Scope → Type 0
@@ -35,7 +35,7 @@ hold_first w token place scope scopes h = ap (λ n. scope_holds w n token) (none
 
 module _ (w : Walk) (token : ℕ) where
   hidden_alike : (name : List ℕ) (place : ℕ) (vs : List VariableEntry) (scopes : List Scope) → length vs ≡ length scopes → Hold w token place scopes
-      → is_hidden w token name place vs ≡ hides token name vs scopes
+      → is_hidden w token name place vs ≡ is_name_hidden token name vs scopes
   hidden_alike name place [] [] long h = refl
   hidden_alike name place [] (scope ∷ scopes) long h = refl
   hidden_alike name place (v ∷ vs) [] long h = absurd (omega (arith, long))

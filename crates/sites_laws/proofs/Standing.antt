@@ -10,7 +10,7 @@ use Rattle.c_syntax.specs.StatementTree as s
 use Rattle.c_meaning.specs.Trees.{token_of}
 use Rattle.c_types_faults.specs.Events.{Construct, Calls, Selects, Other, Event, Value, Initialises, Variable, Opens, Closes, Struct, Names, Defines, construct_at, is_point_at}
 use Rattle.c_types_faults.specs.Events.{declaration_events, entries_events, expr_events, exprs_events, for_start_events, initial_events, links_events}
-use Rattle.c_types_faults.specs.Events.{optional_events, postfix_events, scoped, start_events, starts_events, statement_events}
+use Rattle.c_types_faults.specs.Events.{optional_events, postfix_events, scope_events, start_events, starts_events, statement_events}
 use Rattle.c_types_faults.proofs.Points.{Among, Once}
 use Rattle.flow.specs.declared.site.BranchWord.{BranchWord}
 use Rattle.flow.specs.declared.site.BranchWord.TheVariants.{Question}
@@ -18,7 +18,7 @@ use Rattle.sites.specs.declared.spots.Spot.{Spot}
 use Rattle.sites.specs.declared.spots.Spot.TheVariants as spot
 use Rattle.sites.specs.Bodies.{declaration_spots, entries_spots, for_spots, for_start_spots, initial_spots, start_spots, starts_spots, statement_spots}
 use Rattle.sites_laws.specs.Told.{IsGiven, is_variable_event}
-use Rattle.sites.specs.Spots.{branched, changed, expr_spots, exprs_spots, is_sizeof, is_step, joined_spots, joining, links_spots, named_token, part_spots, postfix_spots, stepped_spots}
+use Rattle.sites.specs.Spots.{branch_spots, change_spots, expr_spots, exprs_spots, is_sizeof, is_step, joined_spots, branch_of_sign, links_spots, named_token, part_spots, postfix_spots, stepped_spots}
 
 -- one of the events is the call
 abbrev pub HasCall : ℕ → List ℕ → List Event → Type 0
@@ -96,16 +96,16 @@ together es (p ∷ ps) qs h k = (h.0, together es ps qs h.1 k)
 beside : (xs ys : List Event) (ps qs : List Spot) → Stand xs ps → Stand ys qs → Stand (xs ++ ys) (ps ++ qs)
 beside xs ys ps qs h k = together (xs ++ ys) ps qs (stand_left xs ys ps h) (stand_right xs ys qs k)
 
-changes : (es : List Event) (token : ℕ) (target : Option ℕ) → list_any (is_point_at token) es ≡ true → Stand es (changed token target)
+changes : (es : List Event) (token : ℕ) (target : Option ℕ) → list_any (is_point_at token) es ≡ true → Stand es (change_spots token target)
 changes es token None h = tt
 changes es token (Some target) h = (inl h, tt)
 
-branches : (es : List Event) (token : ℕ) (word : Option BranchWord) → Stand es (branched token word)
+branches : (es : List Event) (token : ℕ) (word : Option BranchWord) → Stand es (branch_spots token word)
 branches es token None = tt
 branches es token (Some word) = (tt, tt)
 
 steps : (es : List Event) (b : Bool) (token : ℕ) (target : Option ℕ) → list_any (is_point_at token) es ≡ true
-    → Stand es (if b then changed token target else [])
+    → Stand es (if b then change_spots token target else [])
 steps es true token target h = changes es token target h
 steps es false token target h = tt
 
@@ -118,8 +118,8 @@ mutual
   expr_stands (e.Comma token operands) = stand_left (exprs_events operands) (Value token Other ∷ []) (exprs_spots operands) (exprs_stand operands)
   expr_stands (e.Assign token g target value) =
       let es : List Event = expr_events target ++ (expr_events value ++ Value token Other ∷ []) in
-      together es (expr_spots target ++ changed token (named_token target)) (expr_spots value)
-      (together es (expr_spots target) (changed token (named_token target))
+      together es (expr_spots target ++ change_spots token (named_token target)) (expr_spots value)
+      (together es (expr_spots target) (change_spots token (named_token target))
       (stand_left (expr_events target) (expr_events value ++ Value token Other ∷ []) (expr_spots target) (expr_stands target))
       (changes es token (named_token target)
       (any_right (is_point_at token) (expr_events target) (expr_events value ++ Value token Other ∷ [])
@@ -169,7 +169,7 @@ mutual
   links_stand (e.more_links token g x rest) =
       let es : List Event = expr_events x ++ Value token Other ∷ links_events rest in
       together es (joined_spots token g ++ expr_spots x) (links_spots rest)
-      (together es (joined_spots token g) (expr_spots x) (branches es token (joining g))
+      (together es (joined_spots token g) (expr_spots x) (branches es token (branch_of_sign g))
       (stand_left (expr_events x) (Value token Other ∷ links_events rest) (expr_spots x) (expr_stands x)))
       (stand_right (expr_events x) (Value token Other ∷ links_events rest) (links_spots rest)
       (stand_right (Value token Other ∷ []) (links_events rest) (links_spots rest) (links_stand rest)))
@@ -184,11 +184,11 @@ mutual
   postfix_stand (e.arrow token name rest) operand target =
       stand_right (Value token (Selects operand true name) ∷ []) (postfix_events token rest) (postfix_spots None rest) (postfix_stand rest token None)
   postfix_stand (e.increment token rest) operand target =
-      together (Value token Other ∷ postfix_events token rest) (changed token target) (postfix_spots None rest)
+      together (Value token Other ∷ postfix_events token rest) (change_spots token target) (postfix_spots None rest)
       (changes (Value token Other ∷ postfix_events token rest) token target (own_token token Other (postfix_events token rest)))
       (stand_right (Value token Other ∷ []) (postfix_events token rest) (postfix_spots None rest) (postfix_stand rest token None))
   postfix_stand (e.decrement token rest) operand target =
-      together (Value token Other ∷ postfix_events token rest) (changed token target) (postfix_spots None rest)
+      together (Value token Other ∷ postfix_events token rest) (change_spots token target) (postfix_spots None rest)
       (changes (Value token Other ∷ postfix_events token rest) token target (own_token token Other (postfix_events token rest)))
       (stand_right (Value token Other ∷ []) (postfix_events token rest) (postfix_spots None rest) (postfix_stand rest token None))
 
@@ -222,7 +222,7 @@ for_branches es token None = tt
 for_branches es token (Some x) = (tt, tt)
 
 -- in a scope of its own
-scoped_stand : (es : List Event) (spots : List Spot) → Stand es spots → Stand (scoped es) spots
+scoped_stand : (es : List Event) (spots : List Spot) → Stand es spots → Stand (scope_events es) spots
 scoped_stand es spots h = stand_right (Opens ∷ []) (es ++ Closes ∷ []) spots (stand_left es (Closes ∷ []) spots h)
 
 mutual

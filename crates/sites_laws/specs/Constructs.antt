@@ -105,33 +105,33 @@ abbrev mutual
 -- what a construct holds by itself
 
 -- a new value, where it is a variable's name
-abbrev pub changes : ℕ → ExprTree → List Spot
-changes token (e.Name target name) = spot.Change token target ∷ []
-changes token x = []
+abbrev pub new_value_spots : ℕ → ExprTree → List Spot
+new_value_spots token (e.Name target name) = spot.Change token target ∷ []
+new_value_spots token x = []
 
 -- `&&` and `||` (6.5.13p4, 6.5.14p4)
-abbrev pub decides : ℕ → Sign → List Spot
-decides token sign.AndAnd = spot.Branch token word.AndAnd ∷ []
-decides token sign.OrOr = spot.Branch token word.OrOr ∷ []
-decides token s = []
+abbrev pub logical_branch_spots : ℕ → Sign → List Spot
+logical_branch_spots token sign.AndAnd = spot.Branch token word.AndAnd ∷ []
+logical_branch_spots token sign.OrOr = spot.Branch token word.OrOr ∷ []
+logical_branch_spots token s = []
 
 abbrev pub all_decide : LinkList → List Spot
 all_decide e.no_links = []
-all_decide (e.more_links token s operand rest) = decides token s ++ all_decide rest
+all_decide (e.more_links token s operand rest) = logical_branch_spots token s ++ all_decide rest
 
 -- `++` or `--` right behind a name (6.5.2.4p2)
 abbrev pub steps_behind : ExprTree → PostfixList → List Spot
-steps_behind x (e.increment token rest) = changes token x
-steps_behind x (e.decrement token rest) = changes token x
+steps_behind x (e.increment token rest) = new_value_spots token x
+steps_behind x (e.decrement token rest) = new_value_spots token x
 steps_behind x operators = []
 
 -- an assignment (6.5.16p3), `++` or `--` before a name (6.5.3.1p2), a condition of `?` (6.5.15p4), a call (6.5.2.2), and a constant (6.4.4)
 abbrev pub expr_makes : ExprTree → List Spot
-expr_makes (e.Assign token s target value) = changes token target
+expr_makes (e.Assign token s target value) = new_value_spots token target
 expr_makes (e.Conditional token condition first second) = spot.Branch token word.Question ∷ []
 expr_makes (e.Chain level first links) = all_decide links
-expr_makes (e.Prefix token prefix.Increment operand) = changes token operand
-expr_makes (e.Prefix token prefix.Decrement operand) = changes token operand
+expr_makes (e.Prefix token prefix.Increment operand) = new_value_spots token operand
+expr_makes (e.Prefix token prefix.Decrement operand) = new_value_spots token operand
 expr_makes (e.Postfix primary operators) = steps_behind primary operators
 expr_makes (e.Call token name arguments) = spot.Call token name ∷ []
 expr_makes (e.Constant token kind value) = spot.Constant value ∷ []
@@ -151,14 +151,14 @@ abbrev pub begins_with : ℕ → Option InitialTree → List Spot
 begins_with name_token (Some (s.Value value)) = spot.Change (name_token + 1) name_token ∷ []
 begins_with name_token initial = []
 
-abbrev pub makes : SitedConstruct → List Spot
-makes (Expression x) = expr_makes x
-makes (Statement x) = statement_makes x
-makes (Declared x) = begins_with x.declarator.name_token x.initial
+abbrev pub construct_spots : SitedConstruct → List Spot
+construct_spots (Expression x) = expr_makes x
+construct_spots (Statement x) = statement_makes x
+construct_spots (Declared x) = begins_with x.declarator.name_token x.initial
 
 abbrev pub all_make : List SitedConstruct → List Spot
 all_make [] = []
-all_make (x ∷ xs) = makes x ++ all_make xs
+all_make (x ∷ xs) = construct_spots x ++ all_make xs
 
 -- They are what these constructs make, each as often.
 abbrev pub AreMadeBy : List SitedConstruct → List Spot → Type 0

@@ -11,15 +11,15 @@ use Rattle.flow.specs.declared.site.Partner.TheVariants as partner
 use Rattle.sites.specs.Visible.{is_type, slot_of}
 
 -- whether one of these variables, which have these scopes, has the name, and the token in its scope
-abbrev pub hides : ℕ → List ℕ → List VariableEntry → List Scope → Bool
-hides token name (v ∷ vs) (scope ∷ scopes) = (bytes_eq v.name name && lies_in_scope token (Some scope)) || hides token name vs scopes
-hides token name vs scopes = false
+abbrev pub is_name_hidden : ℕ → List ℕ → List VariableEntry → List Scope → Bool
+is_name_hidden token name (v ∷ vs) (scope ∷ scopes) = (bytes_eq v.name name && lies_in_scope token (Some scope)) || is_name_hidden token name vs scopes
+is_name_hidden token name vs scopes = false
 
 -- Of these variables, in their order, those of the type whose scope holds the token and whose name no later one hides there, but for the one
 -- at the place `target`. The first of them has this place among all.
 abbrev pub partners_in : Walk → ℕ → ℕ → TypeTree → ℕ → List VariableEntry → List Scope → List Partner
 partners_in w token target t place (v ∷ vs) (scope ∷ scopes) =
-    if not (place == target) && is_type t (declared_at w v.from) && (lies_in_scope token (Some scope) && not (hides token v.name vs scopes))
+    if not (place == target) && is_type t (declared_at w v.from) && (lies_in_scope token (Some scope) && not (is_name_hidden token v.name vs scopes))
     then partner.Variable v.name (slot_of v.variable) ∷ partners_in w token target t (suc place) vs scopes
     else partners_in w token target t (suc place) vs scopes
 partners_in w token target t place vs scopes = []

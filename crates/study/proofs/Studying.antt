@@ -13,7 +13,7 @@ use Rattle.flow.specs.Words.{counts_of, OneEnding, MachineEnds, IsPositive, samp
 use Rattle.study_runs.specs.MadeRun.{IsMadeRun}
 use Rattle.report_file.specs.Report.{entries_of}
 use Rattle.study_runs.specs.declared.plan.StudyPlan.{StudyPlan}
-use Rattle.study_runs.specs.Runs.{AreRunsFrom, IsRunOf, reports_from}
+use Rattle.study_runs.specs.Runs.{AreRunsFrom, reports_from}
 use Rattle.study_runs.specs.Runs as runs
 use Rattle.compiler.specs.Does.{SamplesText}
 use Rattle.study.specs.Study.{AreStudyRuns, IsStudyRun, StudyRun, all_seen, labelled_run, marks_in, run_entries, study_meaning, study_sites}

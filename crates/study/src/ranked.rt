@@ -1,5 +1,5 @@
 ghost use Rattle.std.specs.Prelude.{◌≡◌, ◌≤◌, IfErr, IfOk, IsErr};
-ghost use Rattle.study.specs.Studied.{IsRefusedStudy, IsStudied, LeftByStudy, RefusesStudy, StudyRefusedWith};
+ghost use Rattle.study.specs.Studied.{IsRefusedStudy, IsStudied, LeftByStudy, StudyRefusedWith};
 
 use cbi_base::{Memory, Refusal};
 use compiler::{CompileError, Plan, compile, one_accepted_text};

@@ -7,7 +7,7 @@ use Rattle.cbi_base.specs.declared.refusal.Refusal.TheVariants.{TooManyMarks}
 use Rattle.collector.specs.Collected.{mark_limit}
 use Rattle.command_base.specs.declared.fault.Fault.{Fault}
 use Rattle.command_base.specs.declared.fault.Fault.TheVariants as fault
-use Rattle.expected.specs.Expected.{agrees}
+use Rattle.expected.specs.Expected.{is_expected_output}
 use Rattle.flow.specs.declared.program.ProgramParts.{ProgramParts}
 use Rattle.probes.specs.Told.{AllGrew}
 use Rattle.planned_runs.specs.declared.input.RunInput.{RunInput}
@@ -48,7 +48,7 @@ module _ (p : ProgramParts) (plan : StudyPlan) where
 
   -- nothing says what the output should be
   right : (number : ℕ) (r : JudgedRun) → IsPlannedRun p (made plan) plan.turns number r → r.is_right ≡ true
-  right number r h = h.right_is ∙ ap (λ e. agrees e r.ending.output) h.given.1
+  right number r h = h.right_is ∙ ap (λ e. is_expected_output e r.ending.output) h.given.1
 
   reports_are : (number : ℕ) (rs : List JudgedRun) → ArePlannedRuns p (made plan) plan.turns number rs → planned_reports p no_identity number rs ≡ reports_from p number (endings_of rs)
   reports_are number [] are = refl

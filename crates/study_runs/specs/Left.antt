@@ -46,7 +46,7 @@ module _ {B : Type 0} (p : ProgramParts) (plan : StudyPlan) (told : B → List O
     pub made : IsMadeRun plan.seed plan.rate (suc (length done)) bank input
     pub grew : (ending : Ending) → MachineEnds p input (number_after bank) plan.turns ending → AllGrewByPrefix told (all_seen done ++ ending.seen) before after
 
-  -- So many runs ended, of which each watcher was told what they observed, or besides a prefix of what the next run observes.
+  -- So many runs ended: each watcher was told what they observed, and maybe a prefix of what the next run observes.
   pub record HaveStopped : Type 0 where
     pub done : List Ending
     pub few : length done ≤ plan.runs

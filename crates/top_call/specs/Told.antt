@@ -1,6 +1,6 @@
 -- What err is told: a line, taken whole, or a prefix of it where err's count of faults rose.
 use Rattle.std.specs.Prelude.{◌≡◌, ℕ, List, ◌++◌, Option, ◌⊎◌, codes}
-use Rattle.cbi_base.specs.Words.{Rose, Takes, TakesPrefix, refusal_line}
+use Rattle.cbi_base.specs.Words.{CountHasRisen, Takes, TakesPrefix, refusal_line}
 use Rattle.cbi_base.specs.declared.refusal.Refusal.{Refusal}
 use Rattle.cbi_usage.specs.UsageText.{IsUsageText}
 use Rattle.command_base.specs.declared.done.Done.{Done}
@@ -28,7 +28,7 @@ IsTold rose before now line = Takes before now line ⊎ (rose × TakesPrefix bef
 
 -- so it is told to a sink, by its count of faults and by what it has taken
 abbrev pub IsToldOn : {E : Type 0} → (faults : E → ℕ) → (taken : E → Option (List ℕ)) → (before now : E) → List ℕ → Type 0
-IsToldOn faults taken before now line = IsTold (Rose (faults before) (faults now)) (taken before) (taken now) line
+IsToldOn faults taken before now line = IsTold (CountHasRisen (faults before) (faults now)) (taken before) (taken now) line
 
 -- The status after a line was to be told: as it was with the line told, or 7 where nothing was taken for want of memory.
 abbrev pub Tells : (status result : ℕ) → (told nothing : Type 0) → Type 0

@@ -8,21 +8,21 @@ use Rattle.flow.specs.declared.node.View.{View}
 use Rattle.flow.specs.declared.node.View.TheVariants.{Row, Halts, Forks, Turns, Calls, Gives, Quits, Marks, Skips, Tests, Picks, Imports, Exports, Nowhere}
 use Rattle.regions.specs.Weighty.{views_of}
 use Rattle.weights.specs.Paths.{IsPath, mark_count, marks_on, next_nodes}
-use Rattle.weights.specs.Weight.{AreWeights, IsForward, IsWeight, greatest, weight_from}
+use Rattle.weights.specs.Weight.{AreWeights, IsForward, IsWeight, greatest_weight, weight_from}
 
 -- none of the nodes has a greater weight
-pub at_most : (weight : ℕ → ℕ) (places : List ℕ) (x : ℕ) → Contains places x → weight x ≤ greatest weight places
+pub at_most : (weight : ℕ → ℕ) (places : List ℕ) (x : ℕ) → Contains places x → weight x ≤ greatest_weight weight places
 at_most weight [] x c = absurd (omega (arith, c.1))
 at_most weight (y ∷ ys) x (zero, l, e) = let same = ap weight e in omega (arith, same)
 at_most weight (y ∷ ys) x (suc k, l, e) = let r = at_most weight ys x (k, omega arith, e) in omega (arith, r)
 
 -- one of them has the greatest
-picked : (weight : ℕ → ℕ) (places : List ℕ) → (places ≡ []) ⊎ ((x : ℕ) × Contains places x × (greatest weight places ≡ weight x))
+picked : (weight : ℕ → ℕ) (places : List ℕ) → (places ≡ []) ⊎ ((x : ℕ) × Contains places x × (greatest_weight weight places ≡ weight x))
 picked weight [] = inl refl
 picked weight (y ∷ ys) =
     let first : Contains (y ∷ ys) y = (0, omega arith, refl) in
     elim (picked weight ys) [
-      | inl e ↦ let none : greatest weight ys ≡ 0 = ap (greatest weight) e in inr (y, first, omega (arith, none))
+      | inl e ↦ let none : greatest_weight weight ys ≡ 0 = ap (greatest_weight weight) e in inr (y, first, omega (arith, none))
       | inr r ↦ elim (cases_lt (weight y) (weight r.0)) [
         | inl l ↦ let at = r.1 in inr (r.0, (suc at.0, omega (arith, at.1), at.2), omega (arith, r.2, l))
         | inr l ↦ inr (y, first, omega (arith, r.2, l))
@@ -40,7 +40,7 @@ pub weighs : (weighty : ℕ → Bool) (at : ℕ → View) (weight : ℕ → ℕ)
 weighs weighty at weight i h =
     elim (picked weight (next_nodes weighty (at i))) [
       | inl e ↦
-          let none : greatest weight (next_nodes weighty (at i)) ≡ 0 = ap (greatest weight) e in
+          let none : greatest_weight weight (next_nodes weighty (at i)) ≡ 0 = ap (greatest_weight weight) e in
           record { most = most_of weighty at weight i h; some = []; path = tt; is = omega (arith, none) }
       | inr r ↦
           let next = h r.0 r.1 in
@@ -63,7 +63,7 @@ weighed_none weighty nodes weights e = record {
   small = λ place l m. absurd (omega arith);
 }
 
-small_greatest : (weight : ℕ → ℕ) (places : List ℕ) (i n : ℕ) → i < n → ((x : ℕ) → Contains places x → weight x + i < n) → greatest weight places + i < n
+small_greatest : (weight : ℕ → ℕ) (places : List ℕ) (i n : ℕ) → i < n → ((x : ℕ) → Contains places x → weight x + i < n) → greatest_weight weight places + i < n
 small_greatest weight [] i n l h = omega arith
 small_greatest weight (y ∷ ys) i n l h =
     let r = small_greatest weight ys i n l (λ x c. h x (suc c.0, omega (arith, c.1), c.2)) in
@@ -72,7 +72,7 @@ small_greatest weight (y ∷ ys) i n l h =
 
 -- the nodes after this one have small weights together with their places
 pub ahead_small : (weighty : ℕ → Bool) (nodes : List Node) (i : ℕ) (weights : List ℕ) → IsForward weighty nodes → Weighed weighty nodes (i + 1) weights → i < length nodes →
-    greatest (λ x. get_or weights x 0) (next_nodes weighty (views_of nodes i)) + i < length nodes
+    greatest_weight (λ x. get_or weights x 0) (next_nodes weighty (views_of nodes i)) + i < length nodes
 ahead_small weighty nodes i weights forward w l =
     small_greatest (λ x. get_or weights x 0) (next_nodes weighty (views_of nodes i)) i (length nodes) l
     (λ x c.

@@ -33,10 +33,10 @@ pub record IsForward (weighty : ℕ → Bool) (nodes : List Node) : Type 0 where
   pub within : (place next : ℕ) → Contains (next_nodes weighty (views_of nodes place)) next → next < length nodes
 
 -- the greatest of the weights of these nodes
-abbrev pub greatest : (ℕ → ℕ) → List ℕ → ℕ
-greatest weight [] = 0
-greatest weight (place ∷ places) = max (weight place) (greatest weight places)
+abbrev pub greatest_weight : (ℕ → ℕ) → List ℕ → ℕ
+greatest_weight weight [] = 0
+greatest_weight weight (place ∷ places) = max (weight place) (greatest_weight weight places)
 
 -- the weight of a node, from those of the nodes to which a path goes on
 abbrev pub weight_from : (ℕ → Bool) → (ℕ → ℕ) → View → ℕ
-weight_from weighty weight v = greatest weight (next_nodes weighty v) + mark_count v
+weight_from weighty weight v = greatest_weight weight (next_nodes weighty v) + mark_count v

@@ -1,4 +1,4 @@
-use Rattle.c_meaning.specs.Words.{is_null_as, ends_as_place, is_null_beside, operand_type, token_of, type_of, listed}
+use Rattle.c_meaning.specs.Words.{is_null_as, ends_as_place, is_null_beside, operand_type, token_of, type_of, site_list}
 use Rattle.c_meaning.specs.Trees as tree
 use Rattle.c_syntax.proofs.PlainExprs.{plain_arrow_before, plain_assign, plain_call, plain_cast, plain_chain, plain_comma, plain_conditional, plain_constant, plain_decrement_before, plain_end_of_file, plain_increment_before, plain_index_before, plain_member_before, plain_name, plain_null, plain_paren, plain_prefix, plain_size_of_type, plain_strings, plain_with_postfix}
 use Rattle.c_syntax.specs.ExprTree as e
@@ -9,8 +9,8 @@ use Rattle.flow.specs.declared.node.Node.TheVariants as node
 use Rattle.lower_nodes.proofs.Building.{row, surely_made, ◌and_then◌}
 use Rattle.lower_relation.specs.Paths.{Stuck}
 use Rattle.lower_nodes.proofs.Serving.{for_value, negated_truth, prefixed_made, through_made}
-use Rattle.lower_relation.specs.Expressions.{emitted}
-use Rattle.lower_relation.specs.Room.{branches, exprs_room, links_room}
+use Rattle.lower_relation.specs.Expressions.{emitted_expression}
+use Rattle.lower_relation.specs.Room.{branch_visits, exprs_room, links_room}
 use Rattle.lower_relation.specs.Values.{NullOr}
 use Rattle.lower_expressions.proofs.Assigning.{assign_by, assign_plain, comma_step, last_made, lasts_whole, none_made, operand_weighs}
 use Rattle.lower_expressions.proofs.Chaining.{front_weighs, both_made, chain_made, computes_made, either_links, link_weighs, linked_by, links_none, links_step}
@@ -195,7 +195,7 @@ operators::emit_prefix_value-returns-in_ok-i-in-Complement-clause-made t c = rw 
 
 pub operators::emit_prefix_value-returns-in_ok-i-in_default-clause-made : goal.operators::emit_prefix_value-returns-in_ok-i-in_default-clause-made
 operators::emit_prefix_value-returns-in_ok-i-in_default-clause-made t c =
-    value_stuck_made (facts_in c.args.facts.now) (sites_in c.args.facts.now) c.args.token c.args.operator (type_of (facts_in c.args.facts.now) (plain_expr c.args.operand.now)) (λ G. emitted G (facts_in c.args.facts.now) (sites_in c.args.facts.now) (plain_expr c.args.operand.now)) _ _ _ _
+    value_stuck_made (facts_in c.args.facts.now) (sites_in c.args.facts.now) c.args.token c.args.operator (type_of (facts_in c.args.facts.now) (plain_expr c.args.operand.now)) (λ G. emitted_expression G (facts_in c.args.facts.now) (sites_in c.args.facts.now) (plain_expr c.args.operand.now)) _ _ _ _
     c.in_default.not-Increment c.in_default.not-Decrement c.in_default.not-Address c.in_default.not-Plus c.in_default.not-Minus c.in_default.not-Complement
     c.in_ok-i-in_default.ensures.made
 
@@ -203,11 +203,11 @@ pub operators::emit_negation-returns-clause-made : goal.operators::emit_negation
 operators::emit_negation-returns-clause-made t c = c.in_ok-i.ensures.made and_then row (node.Sole unary.Not 0) _ c.in_ok-sole.ensures.number c.in_ok-sole.ensures.added refl
 
 pub operators::emit_not-returns-in_ok-i-in-Truth-clause-made : goal.operators::emit_not-returns-in_ok-i-in-Truth-clause-made
-operators::emit_not-returns-in_ok-i-in-Truth-clause-made t c = rw c.in-Truth.is (negated_truth (facts_in c.args.facts.now) (sites_in c.args.facts.now) (λ G. emitted G (facts_in c.args.facts.now) (sites_in c.args.facts.now) (plain_expr c.args.operand.now)) (λ p i k w h. value_forks p (facts_in c.args.facts.now) (sites_in c.args.facts.now) (plain_expr c.args.operand.now) i k w h) _ _ _ c.in-Truth.yes c.in-Truth.no c.in_ok-i-in-Truth.ensures.made)
+operators::emit_not-returns-in_ok-i-in-Truth-clause-made t c = rw c.in-Truth.is (negated_truth (facts_in c.args.facts.now) (sites_in c.args.facts.now) (λ G. emitted_expression G (facts_in c.args.facts.now) (sites_in c.args.facts.now) (plain_expr c.args.operand.now)) (λ p i k w h. value_forks p (facts_in c.args.facts.now) (sites_in c.args.facts.now) (plain_expr c.args.operand.now) i k w h) _ _ _ c.in-Truth.yes c.in-Truth.no c.in_ok-i-in-Truth.ensures.made)
 
 pub operators::emit_not-returns-in_ok-i-in_default-clause-made : goal.operators::emit_not-returns-in_ok-i-in_default-clause-made
 operators::emit_not-returns-in_ok-i-in_default-clause-made t c =
-    turned_made (facts_in c.args.facts.now) (sites_in c.args.facts.now) (λ G. emitted G (facts_in c.args.facts.now) (sites_in c.args.facts.now) (plain_expr c.args.operand.now)) c.args.purpose _ _ _ _ _ c.in_default.not-Truth c.in_ok-after-in_default.ensures.made c.in_ok-i-in_default.ensures.made
+    turned_made (facts_in c.args.facts.now) (sites_in c.args.facts.now) (λ G. emitted_expression G (facts_in c.args.facts.now) (sites_in c.args.facts.now) (plain_expr c.args.operand.now)) c.args.purpose _ _ _ _ _ c.in_default.not-Truth c.in_ok-after-in_default.ensures.made c.in_ok-i-in_default.ensures.made
 
 pub operators::emit_prefix-returns-in_ok-i-in-SizeOf-clause-made : goal.operators::emit_prefix-returns-in_ok-i-in-SizeOf-clause-made
 operators::emit_prefix-returns-in_ok-i-in-SizeOf-clause-made t c = rw c.in-SizeOf.is (rw (c.cells_at-cells.ensures, c.token_of.ensures) at c.in_ok-i-in-SizeOf.ensures.made)
@@ -215,7 +215,7 @@ operators::emit_prefix-returns-in_ok-i-in-SizeOf-clause-made t c = rw c.in-SizeO
 pub operators::emit_prefix-returns-in_ok-i-in-Indirection-clause-made : goal.operators::emit_prefix-returns-in_ok-i-in-Indirection-clause-made
 operators::emit_prefix-returns-in_ok-i-in-Indirection-clause-made t c =
     rw c.in-Indirection.is
-    (through_made ((facts_in c.args.facts.now).type_at c.args.token) (λ G. (emitted G (facts_in c.args.facts.now) (sites_in c.args.facts.now) (plain_expr c.args.operand.now)).value) c.args.purpose _ _ _ _ _
+    (through_made ((facts_in c.args.facts.now).type_at c.args.token) (λ G. (emitted_expression G (facts_in c.args.facts.now) (sites_in c.args.facts.now) (plain_expr c.args.operand.now)).value) c.args.purpose _ _ _ _ _
     (rw c.type_at-of.ensures at c.in_ok-through-in-Indirection.ensures.made) c.in_ok-i-in-Indirection.ensures.made)
 
 pub operators::emit_prefix-returns-in_ok-i-in-Not-clause-made : goal.operators::emit_prefix-returns-in_ok-i-in-Not-clause-made
@@ -224,7 +224,7 @@ operators::emit_prefix-returns-in_ok-i-in-Not-clause-made t c = rw c.in-Not.is c
 pub operators::emit_prefix-returns-in_ok-i-in_default-clause-made : goal.operators::emit_prefix-returns-in_ok-i-in_default-clause-made
 operators::emit_prefix-returns-in_ok-i-in_default-clause-made t c =
     prefixed_made (facts_in c.args.facts.now) (sites_in c.args.facts.now) c.args.token c.args.operator (type_of (facts_in c.args.facts.now) (plain_expr c.args.operand.now)) ((facts_in c.args.facts.now).cells_at (token_of (plain_expr c.args.operand.now)))
-    (λ G. emitted G (facts_in c.args.facts.now) (sites_in c.args.facts.now) (plain_expr c.args.operand.now)) c.args.purpose _ _ _ _ _ (valued_else c.args.operator c.in_default.not-SizeOf c.in_default.not-Indirection c.in_default.not-Not)
+    (λ G. emitted_expression G (facts_in c.args.facts.now) (sites_in c.args.facts.now) (plain_expr c.args.operand.now)) c.args.purpose _ _ _ _ _ (valued_else c.args.operator c.in_default.not-SizeOf c.in_default.not-Indirection c.in_default.not-Not)
     c.in_ok-after-in_default.ensures.made c.in_ok-i-in_default.ensures.made
 
 pub choices::emit_handed-returns-clause-made : goal.choices::emit_handed-returns-clause-made
@@ -232,16 +232,16 @@ choices::emit_handed-returns-clause-made t c = rw (sym c.is_null_as.ensures ∙ 
 
 pub choices::emit_cast-returns-then-not-is_void-clause-made : goal.choices::emit_cast-returns-then-not-is_void-clause-made
 choices::emit_cast-returns-then-not-is_void-clause-made t c =
-    cast_value (is_null_as c.args.want (plain_expr c.args.operand.now)) c.args.want (λ G. emitted G (facts_in c.args.facts.now) (sites_in c.args.facts.now) (plain_expr c.args.operand.now)) c.args.purpose _ _ _ _ _ (search rules) c.in_ok-after.ensures.made c.in_ok-i.ensures.made
+    cast_value (is_null_as c.args.want (plain_expr c.args.operand.now)) c.args.want (λ G. emitted_expression G (facts_in c.args.facts.now) (sites_in c.args.facts.now) (plain_expr c.args.operand.now)) c.args.purpose _ _ _ _ _ (search rules) c.in_ok-after.ensures.made c.in_ok-i.ensures.made
 
 pub choices::emit_cast-returns-in_ok-i-in-Effect-clause-made : goal.choices::emit_cast-returns-in_ok-i-in-Effect-clause-made
 choices::emit_cast-returns-in_ok-i-in-Effect-clause-made t c =
     rw c.in-Effect.is
-    (cast_effect (is_null_as c.args.want (plain_expr c.args.operand.now)) c.args.want (λ G. emitted G (facts_in c.args.facts.now) (sites_in c.args.facts.now) (plain_expr c.args.operand.now)) _ _ _ c.in-Effect.next (search rules) c.in_ok-i-in-Effect.ensures.made)
+    (cast_effect (is_null_as c.args.want (plain_expr c.args.operand.now)) c.args.want (λ G. emitted_expression G (facts_in c.args.facts.now) (sites_in c.args.facts.now) (plain_expr c.args.operand.now)) _ _ _ c.in-Effect.next (search rules) c.in_ok-i-in-Effect.ensures.made)
 
 pub choices::emit_cast-returns-in_ok-i-in_default-clause-made : goal.choices::emit_cast-returns-in_ok-i-in_default-clause-made
 choices::emit_cast-returns-in_ok-i-in_default-clause-made t c =
-    cast_nothing (is_null_as c.args.want (plain_expr c.args.operand.now)) c.args.want (λ G. emitted G (facts_in c.args.facts.now) (sites_in c.args.facts.now) (plain_expr c.args.operand.now)) c.args.purpose _ _ _ (search rules) c.in_default.not-Effect
+    cast_nothing (is_null_as c.args.want (plain_expr c.args.operand.now)) c.args.want (λ G. emitted_expression G (facts_in c.args.facts.now) (sites_in c.args.facts.now) (plain_expr c.args.operand.now)) c.args.purpose _ _ _ (search rules) c.in_default.not-Effect
     c.in_ok-i-in_default.ensures.made
 
 pub choices::emit_arm_value-returns-clause-made : goal.choices::emit_arm_value-returns-clause-made
@@ -250,7 +250,7 @@ choices::emit_arm_value-returns-clause-made t c =
 
 pub choices::emit_arm_effect-returns-clause-made : goal.choices::emit_arm_effect-returns-clause-made
 choices::emit_arm_effect-returns-clause-made t c =
-    arm_dropped (is_null_as c.args.want (plain_expr c.args.x.now)) (type_of (facts_in c.args.facts.now) (plain_expr c.args.x.now)) c.args.want (λ G. emitted G (facts_in c.args.facts.now) (sites_in c.args.facts.now) (plain_expr c.args.x.now)) _ _ _ _ _ _
+    arm_dropped (is_null_as c.args.want (plain_expr c.args.x.now)) (type_of (facts_in c.args.facts.now) (plain_expr c.args.x.now)) c.args.want (λ G. emitted_expression G (facts_in c.args.facts.now) (sites_in c.args.facts.now) (plain_expr c.args.x.now)) _ _ _ _ _ _
     (sym c.is_void.ensures ∙ c.if-is_void.false) c.in_ok-drop.ensures.number c.in_ok-drop.ensures.added c.in_ok-i-2.ensures.made
 
 pub choices::emit_chosen-returns-clause-made : goal.choices::emit_chosen-returns-clause-made
@@ -311,7 +311,7 @@ conditions::emit_condition-returns-in_ok-i-in-Some-clause-made t c =
 
 pub conditions::emit_condition-returns-in_ok-i-in-Some-clause-few : goal.conditions::emit_condition-returns-in_ok-i-in-Some-clause-few
 conditions::emit_condition-returns-in_ok-i-in-Some-clause-few t c =
-    let one : branches (sites_in c.args.facts.now) c.args.token ≡ 1 = ap (λ s. length (listed s)) (sym c.branch_at.ensures ∙ c.in-Some.is) in
+    let one : branch_visits (sites_in c.args.facts.now) c.args.token ≡ 1 = ap (λ s. length (site_list s)) (sym c.branch_at.ensures ∙ c.in-Some.is) in
     omega (arith, one, c.in_ok-fork-in-Some.ensures.one, c.in_ok-mark-in-Some.ensures.one, c.in_ok-i-in-Some.ensures.few)
 
 pub postfix::emit_spots-returns-clause-made : goal.postfix::emit_spots-returns-clause-made
@@ -453,19 +453,19 @@ calls::emit_call-returns-clause-few t c =
 pub chains::emit_link-returns-in_ok-i-in-Both-clause-made : goal.chains::emit_link-returns-in_ok-i-in-Both-clause-made
 chains::emit_link-returns-in_ok-i-in-Both-clause-made t c =
     linked_by (facts_in c.args.facts.now) (sites_in c.args.facts.now) tree.Both c.args.left c.args.link.now.token c.args.link.now.sign (plain_expr c.args.link.now.operand) _ _ _ _ (sym (ap joint_of c.in-Both.is) ∙ c.joint_by.ensures)
-    (both_made (facts_in c.args.facts.now) (sites_in c.args.facts.now) c.args.link.now.token c.args.left (operand_type (is_null_beside (binary_of c.args.link.now.sign) c.args.left (plain_expr c.args.link.now.operand)) (type_of (facts_in c.args.facts.now) (plain_expr c.args.link.now.operand))) (λ G. NullOr G (is_null_beside (binary_of c.args.link.now.sign) c.args.left (plain_expr c.args.link.now.operand)) (emitted G (facts_in c.args.facts.now) (sites_in c.args.facts.now) (plain_expr c.args.link.now.operand))) _ _ _ _ _ _ _ _ c.in_ok-flagged-in-Both.ensures.made
+    (both_made (facts_in c.args.facts.now) (sites_in c.args.facts.now) c.args.link.now.token c.args.left (operand_type (is_null_beside (binary_of c.args.link.now.sign) c.args.left (plain_expr c.args.link.now.operand)) (type_of (facts_in c.args.facts.now) (plain_expr c.args.link.now.operand))) (λ G. NullOr G (is_null_beside (binary_of c.args.link.now.sign) c.args.left (plain_expr c.args.link.now.operand)) (emitted_expression G (facts_in c.args.facts.now) (sites_in c.args.facts.now) (plain_expr c.args.link.now.operand))) _ _ _ _ _ _ _ _ c.in_ok-flagged-in-Both.ensures.made
     (rw (c.is_null_beside-is_null.ensures, c.binary_of-binary.ensures) at c.in_ok-right-in-Both.ensures.made) c.in_ok-i-in-Both.ensures.made)
 
 pub chains::emit_link-returns-in_ok-i-in-Either-clause-made : goal.chains::emit_link-returns-in_ok-i-in-Either-clause-made
 chains::emit_link-returns-in_ok-i-in-Either-clause-made t c =
     linked_by (facts_in c.args.facts.now) (sites_in c.args.facts.now) tree.Either c.args.left c.args.link.now.token c.args.link.now.sign (plain_expr c.args.link.now.operand) _ _ _ _ (sym (ap joint_of c.in-Either.is) ∙ c.joint_by.ensures)
-    (either_links (facts_in c.args.facts.now) (sites_in c.args.facts.now) c.args.link.now.token c.args.left (operand_type (is_null_beside (binary_of c.args.link.now.sign) c.args.left (plain_expr c.args.link.now.operand)) (type_of (facts_in c.args.facts.now) (plain_expr c.args.link.now.operand))) (λ G. NullOr G (is_null_beside (binary_of c.args.link.now.sign) c.args.left (plain_expr c.args.link.now.operand)) (emitted G (facts_in c.args.facts.now) (sites_in c.args.facts.now) (plain_expr c.args.link.now.operand))) _ _ _ _ _ _ _ _ c.in_ok-flagged-in-Either.ensures.made
+    (either_links (facts_in c.args.facts.now) (sites_in c.args.facts.now) c.args.link.now.token c.args.left (operand_type (is_null_beside (binary_of c.args.link.now.sign) c.args.left (plain_expr c.args.link.now.operand)) (type_of (facts_in c.args.facts.now) (plain_expr c.args.link.now.operand))) (λ G. NullOr G (is_null_beside (binary_of c.args.link.now.sign) c.args.left (plain_expr c.args.link.now.operand)) (emitted_expression G (facts_in c.args.facts.now) (sites_in c.args.facts.now) (plain_expr c.args.link.now.operand))) _ _ _ _ _ _ _ _ c.in_ok-flagged-in-Either.ensures.made
     (rw (c.is_null_beside-is_null.ensures, c.binary_of-binary.ensures) at c.in_ok-right-in-Either.ensures.made) c.in_ok-i-in-Either.ensures.made)
 
 pub chains::emit_link-returns-in_ok-i-in-Computes-clause-made : goal.chains::emit_link-returns-in_ok-i-in-Computes-clause-made
 chains::emit_link-returns-in_ok-i-in-Computes-clause-made t c =
     linked_by (facts_in c.args.facts.now) (sites_in c.args.facts.now) (tree.Computes c.in-Computes.op) c.args.left c.args.link.now.token c.args.link.now.sign (plain_expr c.args.link.now.operand) _ _ _ _ (sym (ap joint_of c.in-Computes.is) ∙ c.joint_by.ensures)
-    (computes_made (facts_in c.args.facts.now) (sites_in c.args.facts.now) c.args.link.now.token c.args.left (operand_type (is_null_beside (binary_of c.args.link.now.sign) c.args.left (plain_expr c.args.link.now.operand)) (type_of (facts_in c.args.facts.now) (plain_expr c.args.link.now.operand))) (λ G. NullOr G (is_null_beside (binary_of c.args.link.now.sign) c.args.left (plain_expr c.args.link.now.operand)) (emitted G (facts_in c.args.facts.now) (sites_in c.args.facts.now) (plain_expr c.args.link.now.operand))) c.in-Computes.op _ _ _ _ _ _
+    (computes_made (facts_in c.args.facts.now) (sites_in c.args.facts.now) c.args.link.now.token c.args.left (operand_type (is_null_beside (binary_of c.args.link.now.sign) c.args.left (plain_expr c.args.link.now.operand)) (type_of (facts_in c.args.facts.now) (plain_expr c.args.link.now.operand))) (λ G. NullOr G (is_null_beside (binary_of c.args.link.now.sign) c.args.left (plain_expr c.args.link.now.operand)) (emitted_expression G (facts_in c.args.facts.now) (sites_in c.args.facts.now) (plain_expr c.args.link.now.operand))) c.in-Computes.op _ _ _ _ _ _
     (rw (c.operation_of-operation.ensures, c.operand_type-right.ensures, c.type_of-own.ensures, c.is_null_beside-is_null.ensures, c.binary_of-binary.ensures) at c.in_ok-done-in-Computes.ensures.made)
     (rw (c.is_null_beside-is_null.ensures, c.binary_of-binary.ensures) at c.in_ok-i-in-Computes.ensures.made))
 
@@ -669,7 +669,7 @@ pub calls::emit_call-put_unfit-requires-clause-few : goal.calls::emit_call-put_u
 calls::emit_call-put_unfit-requires-clause-few t c = omega (arith, exprs_long (sites_in c.args.facts.now) c.args.arguments.now)
 
 pub expressions::emit_value-returns-clause-made : goal.expressions::emit_value-returns-clause-made
-expressions::emit_value-returns-clause-made t c = for_value (λ G. emitted G (facts_in c.args.facts.now) (sites_in c.args.facts.now) (plain_expr c.args.x.now)) _ _ _ _ c.in_ok-i.ensures.made
+expressions::emit_value-returns-clause-made t c = for_value (λ G. emitted_expression G (facts_in c.args.facts.now) (sites_in c.args.facts.now) (plain_expr c.args.x.now)) _ _ _ _ c.in_ok-i.ensures.made
 
 pub expressions::emit_wanted-returns-then-is_null_as-clause-made : goal.expressions::emit_wanted-returns-then-is_null_as-clause-made
 expressions::emit_wanted-returns-then-is_null_as-clause-made t c =
@@ -686,7 +686,7 @@ choices::emit_arm_value-returns-then-is_null_as-clause-made t c =
 
 pub choices::emit_arm_effect-returns-then-is_void-clause-made : goal.choices::emit_arm_effect-returns-then-is_void-clause-made
 choices::emit_arm_effect-returns-then-is_void-clause-made t c =
-    arm_void (is_null_as c.args.want (plain_expr c.args.x.now)) (type_of (facts_in c.args.facts.now) (plain_expr c.args.x.now)) c.args.want (λ G. emitted G (facts_in c.args.facts.now) (sites_in c.args.facts.now) (plain_expr c.args.x.now)) _ _ _ _
+    arm_void (is_null_as c.args.want (plain_expr c.args.x.now)) (type_of (facts_in c.args.facts.now) (plain_expr c.args.x.now)) c.args.want (λ G. emitted_expression G (facts_in c.args.facts.now) (sites_in c.args.facts.now) (plain_expr c.args.x.now)) _ _ _ _
     (sym c.is_void.ensures ∙ c.if-is_void.true) c.in_ok-i.ensures.made
 
 pub chains::emit_null_or-returns-then-is_null-clause-made : goal.chains::emit_null_or-returns-then-is_null-clause-made
@@ -697,12 +697,12 @@ chains::emit_null_or-returns-clause-made t c = rw c.if-is_null.false c.in_ok-i-2
 
 pub truths::emit_null_truth-returns-then-is_null-clause-made : goal.truths::emit_null_truth-returns-then-is_null-clause-made
 truths::emit_null_truth-returns-then-is_null-clause-made t c =
-    rw c.if-is_null.true (null_truth (λ G. emitted G (facts_in c.args.facts.now) (sites_in c.args.facts.now) (plain_expr c.args.x.now)) _ _ _ _ _ c.args.yes c.args.no
+    rw c.if-is_null.true (null_truth (λ G. emitted_expression G (facts_in c.args.facts.now) (sites_in c.args.facts.now) (plain_expr c.args.x.now)) _ _ _ _ _ c.args.yes c.args.no
     c.in_ok-fork.ensures.number c.in_ok-fork.ensures.added c.in_ok-i.ensures.number c.in_ok-i.ensures.added)
 
 pub truths::emit_null_truth-returns-clause-made : goal.truths::emit_null_truth-returns-clause-made
 truths::emit_null_truth-returns-clause-made t c =
-    rw c.if-is_null.false (own_truth (λ G. emitted G (facts_in c.args.facts.now) (sites_in c.args.facts.now) (plain_expr c.args.x.now)) _ _ _ c.args.yes c.args.no c.in_ok-i-2.ensures.made)
+    rw c.if-is_null.false (own_truth (λ G. emitted_expression G (facts_in c.args.facts.now) (sites_in c.args.facts.now) (plain_expr c.args.x.now)) _ _ _ c.args.yes c.args.no c.in_ok-i-2.ensures.made)
 
 pub postfix::emit_spot-returns-then-known-clause-made : goal.postfix::emit_spot-returns-then-known-clause-made
 postfix::emit_spot-returns-then-known-clause-made t c = rw c.if-known.true c.in_ok-i.ensures.made

@@ -1,8 +1,8 @@
 use Rattle.c_syntax.specs.ExprTree as e
 use Rattle.c_syntax.specs.Plain.{plain_expr, plain_exprs, plain_links, plain_operators, plain_postfix}
 use Rattle.lower_nodes.specs.Made.{Made, MadeFor}
-use Rattle.lower_nodes.specs.Purposes.{Serves, ways}
-use Rattle.lower_relation.specs.Expressions.{ArgumentsDo, Behind, LastDoes, LinksDo}
+use Rattle.lower_nodes.specs.Purposes.{Serves, condition_ways}
+use Rattle.lower_relation.specs.Expressions.{ArgumentsDo, PostfixOperatorsDo, CommaDoes, LinksDo}
 use Rattle.lower_relation.specs.Room.{exprs_room, links_room, postfix_room}
 use Rattle.lower_expressions.proofs.Forked.{Leads}
 use Rattle.lower_operators.specs.Linking.{type_before}
@@ -17,7 +17,7 @@ use Rattle.lower_expressions.proofs.+emission.Given as goal
 abbrev pub invariant-choices::emit_last-loop-place : goal.invariant-choices::emit_last-loop-place
 invariant-choices::emit_last-loop-place l =
     (l.place < length l.operands)
-    × MadeFor (λ G. Serves (LastDoes G (facts_in l.facts) (sites_in l.facts) (plain_exprs (drop l.place l.operands)))) l.fn.graph l.graph l.entry l.fn.purpose
+    × MadeFor (λ G. Serves (CommaDoes G (facts_in l.facts) (sites_in l.facts) (plain_exprs (drop l.place l.operands)))) l.fn.graph l.graph l.entry l.fn.purpose
     × (length l.graph ≤ length l.fn.graph + (3 + exprs_room (sites_in l.facts) 0 (plain_exprs (drop l.place l.operands))))
 
 -- the operators of a chain from this place on are done
@@ -32,14 +32,14 @@ invariant-chains::emit_links-loop-place l =
 abbrev pub invariant-truths::emit_chain_truth-loop-place : goal.invariant-truths::emit_chain_truth-loop-place
 invariant-truths::emit_chain_truth-loop-place l =
     (l.place ≤ length l.links)
-    × Leads (facts_in l.facts) (sites_in l.facts) (plain_expr l.first) l.links l.place l.initial.graph l.graph (ways l.yes_at l.no_at) (ways l.fn.yes l.fn.no)
+    × Leads (facts_in l.facts) (sites_in l.facts) (plain_expr l.first) l.links l.place l.initial.graph l.graph (condition_ways l.yes_at l.no_at) (condition_ways l.fn.yes l.fn.no)
     × (length l.graph ≤ length l.initial.graph + links_room (sites_in l.facts) (plain_links (drop l.place l.links)))
 
 -- the operators behind an operand from this place on are done
 abbrev pub invariant-postfix::emit_behind-loop-place : goal.invariant-postfix::emit_behind-loop-place
 invariant-postfix::emit_behind-loop-place l =
     (l.place ≤ length l.operators)
-    × Made (λ G. Behind G (facts_in l.facts) (sites_in l.facts) l.taken (place_before l.known (plain_operators l.operators) l.place)
+    × Made (λ G. PostfixOperatorsDo G (facts_in l.facts) (sites_in l.facts) l.taken (place_before l.known (plain_operators l.operators) l.place)
     (type_behind (facts_in l.facts) l.of (plain_operators l.operators) l.place) (plain_operators (drop l.place l.operators)))
     l.initial.graph l.graph l.entry l.next
     × (length l.graph ≤ length l.initial.graph + postfix_room (sites_in l.facts) (plain_operators (drop l.place l.operators)))

@@ -3,8 +3,8 @@ use Rattle.std.specs.List.{list_any}
 use Rattle.std.proofs.lemmas.Bool.{and_from}
 use Rattle.report_file.specs.declared.report.Entry.{Entry}
 use Rattle.report_file.specs.declared.report.Report.{Report}
-use Rattle.elimination_tallies.specs.Predicates.{shows}
-use Rattle.elimination_tallies.specs.Recount.{fails, is_true, labelled}
+use Rattle.elimination_tallies.specs.Predicates.{is_true_in_entry}
+use Rattle.elimination_tallies.specs.Recount.{is_failing, is_true, run_of_report}
 use Rattle.elimination_tallies.proofs.RunLemmas.{all-after, collection-rises}
 use Rattle.affinity.specs.Cards.{failing_true}
 use Rattle.affinity.proofs.FailingLemmas.{failing-found, failing-lacks}
@@ -22,9 +22,9 @@ returns-then-is_true c =
     let reports = c.args.collection.now.reports in
     let r = c.in-Some.report.now in
     let p = c.args.predicate in
-    let here : list_any (shows bs p) c.as_slice.result.now ≡ true = subst (λ (xs : List Bool). list_any (shows xs p) c.as_slice.result.now ≡ true) c.requires.branches (sym c.if-is_true.ensures) in
-    let was : is_true bs p (labelled r) ≡ true = subst (λ (es : List Entry). list_any (shows bs p) es ≡ true) c.as_slice.ensures here in
-    failing-found bs p r reports (failing_true bs reports p) (and_from (fails r.label) (is_true bs p (labelled r)) (sym c.if-fails.ensures) was)
+    let here : list_any (is_true_in_entry bs p) c.as_slice.result.now ≡ true = subst (λ (xs : List Bool). list_any (is_true_in_entry xs p) c.as_slice.result.now ≡ true) c.requires.branches (sym c.if-is_true.ensures) in
+    let was : is_true bs p (run_of_report r) ≡ true = subst (λ (es : List Entry). list_any (is_true_in_entry bs p) es ≡ true) c.as_slice.ensures here in
+    failing-found bs p r reports (failing_true bs reports p) (and_from (is_failing r.label) (is_true bs p (run_of_report r)) (sym c.if-fails.ensures) was)
     (ap (λ (rs : List Report). failing_true bs rs p) (sym c.in-Some.ensures.value) ∙ c.loop-report.invariant.0)
 
 pub returns : goal.returns

@@ -4,8 +4,8 @@ use Rattle.c_parser_expressions.proofs.Commas.{step-none as comma_none}
 use Rattle.c_parser_expressions.proofs.Chains.{step-none as link_none}
 use Rattle.c_syntax.specs.declared.token.Sign.TheVariants as sign_is
 use Rattle.c_syntax.specs.Plain.{plain_expr, plain_link, plain_postfix}
-use Rattle.c_parser_expressions.specs.Reading.{Cursor, after}
-use Rattle.c_parser_expressions.specs.Marks.{stands}
+use Rattle.c_parser_expressions.specs.Reading.{Cursor, next_cursor}
+use Rattle.c_parser_expressions.specs.Marks.{begins_with_sign}
 use Rattle.c_parser_expressions.specs.Steps.{Gives, all_of}
 use Rattle.c_parser_expressions.specs.ExpressionParser.{deeper_than, comma_step, more_by, assignment_by, level_sign, link_step, chain_by, cast_by, postfix_sign}
 use Rattle.c_parser_expressions.specs.ExpressionParser.{operator_by, postfix_step}
@@ -24,7 +24,7 @@ links-returns-in_err-operand t c =
     let h : level_sign a.level c.links.reader.rest ≡ Some c.in-Some.sign = cc in
     rw same (front_err plain_link_list plain_expr (link_step P a.level) (all_of
     (link_step P a.level) a.reader.now) c.links.reader c.chain.new.reader c.chain.new.reader
-    (map plain_link c.links.links.items) c.in_err-operand.field-0.0 (P (after c.links.reader))
+    (map plain_link c.links.links.items) c.in_err-operand.field-0.0 (P (next_cursor c.links.reader))
     c.links.invariant (λ i read. link_stops P a.level c.links.reader c.in-Some.sign i h read)
     (subst (λ (v : Cursor). Gives plain_expr (Err c.in_err-operand.field-0.0) c.chain.new.reader (P v)) c.pass.ensures c.in_err-operand.ensures))
 
@@ -33,7 +33,7 @@ links-links-smaller t c =
     let a = c.args in
     let P = chain_by (11 - (a.level + 1)) (cast_by a.depth (deeper_than a.depth)) in
     let h : level_sign a.level c.links.reader.rest ≡ Some c.in-Some.sign = cc in
-    let read : P (after c.links.reader) ≡ Ok (plain_expr c.in_ok-operand.operand, c.chain.new.reader) =
+    let read : P (next_cursor c.links.reader) ≡ Ok (plain_expr c.in_ok-operand.operand, c.chain.new.reader) =
     subst (λ (v : Cursor). P v ≡ Ok (plain_expr c.in_ok-operand.operand, c.chain.new.reader)) c.pass.ensures c.in_ok-operand.ensures in
     (links_advance a.depth a.level c.requires.low c.requires.high).less c.links.reader _ c.chain.new.reader
     (link_goes P a.level c.links.reader c.chain.new.reader c.in-Some.sign (plain_expr c.in_ok-operand.operand) h read)
@@ -43,7 +43,7 @@ links-links-preserved t c =
     let a = c.args in
     let P = chain_by (11 - (a.level + 1)) (cast_by a.depth (deeper_than a.depth)) in
     let h : level_sign a.level c.links.reader.rest ≡ Some c.in-Some.sign = cc in
-    let read : P (after c.links.reader) ≡ Ok (plain_expr c.in_ok-operand.operand, c.chain.new.reader) =
+    let read : P (next_cursor c.links.reader) ≡ Ok (plain_expr c.in_ok-operand.operand, c.chain.new.reader) =
     subst (λ (v : Cursor). P v ≡ Ok (plain_expr c.in_ok-operand.operand, c.chain.new.reader)) c.pass.ensures c.in_ok-operand.ensures in
     link_push P a.level (all_of (link_step P a.level) a.reader.now) c.links.reader c.chain.new.reader c.links.links.items c.push.new.self.items _
     (links_advance a.depth a.level c.requires.low c.requires.high) c.links.invariant h c.at-token.ensures.value read c.in_ok-push.ensures.items
@@ -66,10 +66,10 @@ more-returns-in_err-item t c =
     let a = c.args in
     let P = assignment_by a.depth (deeper_than a.depth) in
     let same : c.from_residual-in_err-item.result ≡ Err c.in_err-item.field-0.0 = search rules in
-    let h : stands sign_is.Comma c.items.reader.rest ≡ true = sym c.stands.ensures ∙ c.items-test.true in
+    let h : begins_with_sign sign_is.Comma c.items.reader.rest ≡ true = sym c.stands.ensures ∙ c.items-test.true in
     rw same (front_err plain_items plain_expr (comma_step P) (more_by P
     (plain_expr a.first) a.reader.now) c.items.reader c.assigned.new.reader c.assigned.new.reader
-    (map plain_expr c.items.items.items) c.in_err-item.field-0.0 (P (after c.items.reader))
+    (map plain_expr c.items.items.items) c.in_err-item.field-0.0 (P (next_cursor c.items.reader))
     c.items.invariant (λ i read. comma_stops P c.items.reader i h read)
     (subst (λ (v : Cursor). Gives plain_expr (Err c.in_err-item.field-0.0) c.assigned.new.reader (P v)) c.pass.ensures c.in_err-item.ensures))
 
@@ -77,8 +77,8 @@ pub more-items-smaller : goal.more-items-smaller
 more-items-smaller t c =
     let a = c.args in
     let P = assignment_by a.depth (deeper_than a.depth) in
-    let h : stands sign_is.Comma c.items.reader.rest ≡ true = sym c.stands.ensures ∙ c.items-test.true in
-    let read : P (after c.items.reader) ≡ Ok (plain_expr c.in_ok-item.item, c.assigned.new.reader) =
+    let h : begins_with_sign sign_is.Comma c.items.reader.rest ≡ true = sym c.stands.ensures ∙ c.items-test.true in
+    let read : P (next_cursor c.items.reader) ≡ Ok (plain_expr c.in_ok-item.item, c.assigned.new.reader) =
     subst (λ (v : Cursor). P v ≡ Ok (plain_expr c.in_ok-item.item, c.assigned.new.reader)) c.pass.ensures c.in_ok-item.ensures in
     (items_advance a.depth).less c.items.reader (plain_expr c.in_ok-item.item) c.assigned.new.reader
     (comma_goes P c.items.reader c.assigned.new.reader (plain_expr c.in_ok-item.item) h read)
@@ -87,8 +87,8 @@ pub more-items-preserved : goal.more-items-preserved
 more-items-preserved t c =
     let a = c.args in
     let P = assignment_by a.depth (deeper_than a.depth) in
-    let h : stands sign_is.Comma c.items.reader.rest ≡ true = sym c.stands.ensures ∙ c.items-test.true in
-    let read : P (after c.items.reader) ≡ Ok (plain_expr c.in_ok-item.item, c.assigned.new.reader) =
+    let h : begins_with_sign sign_is.Comma c.items.reader.rest ≡ true = sym c.stands.ensures ∙ c.items-test.true in
+    let read : P (next_cursor c.items.reader) ≡ Ok (plain_expr c.in_ok-item.item, c.assigned.new.reader) =
     subst (λ (v : Cursor). P v ≡ Ok (plain_expr c.in_ok-item.item, c.assigned.new.reader)) c.pass.ensures c.in_ok-item.ensures in
     comma_push P
     (more_by P

@@ -1,6 +1,6 @@
 use Rattle.std.proofs.Common.{◌≡◌, ◌<◌, drop}
 use Rattle.c_syntax.specs.Words.{most_bytes, plain_entries}
-use Rattle.c_types_expressions.specs.Room.{HasLeft}
+use Rattle.c_types_expressions.specs.Room.{HasRoomLeft}
 use Rattle.c_types_walk.specs.Room.{entries_need, entries_text}
 use Rattle.c_types_walk.specs.StatementWalk.{walk_entries}
 use Rattle.c_types_walk.proofs.statement_walk.+walk_statement.Given as goal
@@ -10,5 +10,5 @@ abbrev pub invariant-walk_entries-loop-entry : goal.invariant-walk_entries-loop-
 invariant-walk_entries-loop-entry l =
     (walk_entries l.gives l.looping (plain_entries (drop l.entry-index l.entries)) l.walk ≡
     walk_entries l.gives l.looping (plain_entries l.entries) l.fn.walk)
-    × HasLeft (entries_need (plain_entries l.entries)) (entries_need (plain_entries (drop l.entry-index l.entries))) l.fn.walk l.walk
+    × HasRoomLeft (entries_need (plain_entries l.entries)) (entries_need (plain_entries (drop l.entry-index l.entries))) l.fn.walk l.walk
     × (entries_text (plain_entries (drop l.entry-index l.entries)) < most_bytes)

@@ -7,7 +7,7 @@ use Rattle.clone_paths.specs.declared.label.CopyLabel.{CopyLabel}
 use Rattle.clone_paths.specs.Layout.{Sheet, sheet_of}
 use Rattle.clone_paths.specs.Made.{IsMade, Resolved, parts_from, sheet_at}
 use Rattle.clone_paths.specs.Parts.{AreDebts}
-use Rattle.clone_paths.specs.Sources.{tables}
+use Rattle.clone_paths.specs.Sources.{source_tables}
 use Rattle.clone_paths.proofs.KnownLemmas.{Laid, cloned_all, cloned_small, labels_small}
 use Rattle.clone_paths.proofs.PlaceLemmas.{fits_all}
 use Rattle.clone_paths.proofs.ResolveLemmas.{each_of}
@@ -63,8 +63,8 @@ returns c =
     ap (λ (xs : List ℕ). put xs (sheet_of layout)) items ∙ ap (λ (t : Sheet). put fast t) c.in_ok-layout.ensures
     in
     let labels = ap (λ (t : Sheet). t.labels) c.in_ok-layout.ensures in
-    let fits = subst (λ (t : Sheet). EachFits (IsMade (tables s t)) layout.labels.items c.in_ok-nodes.nodes.items) sheet c.in_ok-nodes.ensures in
-    let all = subst (λ (ls : List CopyLabel). EachFits (IsMade (tables s (put fast whole))) ls c.in_ok-nodes.nodes.items) labels fits in
+    let fits = subst (λ (t : Sheet). EachFits (IsMade (source_tables s t)) layout.labels.items c.in_ok-nodes.nodes.items) sheet c.in_ok-nodes.ensures in
+    let all = subst (λ (ls : List CopyLabel). EachFits (IsMade (source_tables s (put fast whole))) ls c.in_ok-nodes.nodes.items) labels fits in
     record {
       cloned = cloned_all s.weighty.now s.nodes.now s.starts.now s.weights.now debts headers fast c.in_ok-nodes.nodes.items laid all;
       small = cloned_small s.weighty.now s.nodes.now s.starts.now s.weights.now debts headers fast c.in_ok-nodes.nodes.items laid all;

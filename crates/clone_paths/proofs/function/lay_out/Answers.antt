@@ -3,7 +3,7 @@ use Rattle.flow.specs.declared.node.View.{View}
 use Rattle.regions.specs.Flags.{is_in}
 use Rattle.regions.specs.Weighty.{views_of}
 use Rattle.regions.proofs.Within.{node_at}
-use Rattle.clone_paths.specs.Layout.{Sheet, laid, sheet_of}
+use Rattle.clone_paths.specs.Layout.{Sheet, with_node_labels, sheet_of}
 use Rattle.clone_paths.specs.Made.{parts_from, sheet_at}
 use Rattle.clone_paths.specs.Parts.{part_of_node}
 use Rattle.clone_paths.specs.declared.parts.Part.{Part}
@@ -27,9 +27,9 @@ loop-place-preserved c =
     c.part_of-part.ensures ∙ ap (λ (v : View). part_of_node (is_in source.weighty.now) (is_in source.starts.now) c.at.result v) (sym at)
     ∙ ap (λ (d : ℕ). part_of_node (is_in source.weighty.now) (is_in source.starts.now) d (views_of source.nodes.now place)) c.at.ensures
     in
-    let whole = c.in_ok-add.ensures ∙ ap (λ (h : Bool). laid h place c.part_of-part.result (sheet_of c.loop-place.layout)) c.is_in.ensures
-    ∙ ap (λ (p : Part). laid (is_in c.args.headers.now place) place p (sheet_of c.loop-place.layout)) same
-    ∙ ap (λ (s : Sheet). laid (is_in c.args.headers.now place) place (part place) s) c.loop-place.invariant
+    let whole = c.in_ok-add.ensures ∙ ap (λ (h : Bool). with_node_labels h place c.part_of-part.result (sheet_of c.loop-place.layout)) c.is_in.ensures
+    ∙ ap (λ (p : Part). with_node_labels (is_in c.args.headers.now place) place p (sheet_of c.loop-place.layout)) same
+    ∙ ap (λ (s : Sheet). with_node_labels (is_in c.args.headers.now place) place (part place) s) c.loop-place.invariant
     in
     rw add-one whole
 

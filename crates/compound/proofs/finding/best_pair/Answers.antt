@@ -1,7 +1,7 @@
 use Rattle.std.proofs.Common.{Bool, List, subst, arith}
 use Rattle.std.proofs.lemmas.List.{length-map}
 use Rattle.elimination_tallies.specs.Predicates.{predicates_in}
-use Rattle.elimination_tallies.specs.Recount.{failing_runs, labelled, recount, runs_of}
+use Rattle.elimination_tallies.specs.Recount.{failing_runs, run_of_report, recount, runs_of}
 use Rattle.compound_counts.specs.Truth.{pair_recount}
 use Rattle.compound.specs.declared.listing.Candidate.{Candidate}
 use Rattle.compound.specs.Found.{ArePairsScanned, IsFound}
@@ -28,4 +28,4 @@ returns-clause-found c =
 pub returns-clause-text : goal.returns-clause-text
 returns-clause-text c =
     found-text c.args.table.now (runs_of c.args.collection.now.reports) c.in_ok-found.found c.predicates_are_those_of_the_table.ensures
-    (omega (arith, length-map c.args.collection.now.reports labelled, c.reports_held-held.ensures)) (returns-clause-found c)
+    (omega (arith, length-map c.args.collection.now.reports run_of_report, c.reports_held-held.ensures)) (returns-clause-found c)

@@ -3,7 +3,7 @@ use Rattle.std.proofs.lemmas.List.{length-map}
 use Rattle.elimination_tallies.proofs.RecountLemmas.{recount-failing, recount-tally}
 use Rattle.fractions.specs.declared.tally.Tally.{Tally}
 use Rattle.fractions.specs.Tally.{IsTally}
-use Rattle.elimination_tallies.specs.Recount.{failing_runs, labelled, recount, runs_of}
+use Rattle.elimination_tallies.specs.Recount.{failing_runs, run_of_report, recount, runs_of}
 use Rattle.compound.specs.declared.listing.Candidate.{Candidate}
 use Rattle.compound.specs.Listing.{IsRated, IsRatedCandidate}
 use Rattle.compound.proofs.ListingLemmas.{fractions-listed, listed-more, listed-skip, rated-fraction}
@@ -24,7 +24,7 @@ rating-requires-clause-tally c =
     let runs = runs_of c.args.collection.now.reports in
     let p = c.loop-predicate.predicate in
     let is = counted branches runs c.args.tallies.now p c.of-tally.result c.requires (omega (arith, c.loop-predicate-test.true, c.predicates-predicate-end.ensures)) c.of-tally.ensures in
-    subst IsTally (sym is) (recount-tally branches runs p (omega (arith, length-map c.args.collection.now.reports labelled, c.reports_held-held.ensures)))
+    subst IsTally (sym is) (recount-tally branches runs p (omega (arith, length-map c.args.collection.now.reports run_of_report, c.reports_held-held.ensures)))
 
 pub rating-requires-clause-observed : goal.rating-requires-clause-observed
 rating-requires-clause-observed c =

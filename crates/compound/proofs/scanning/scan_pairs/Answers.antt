@@ -2,7 +2,7 @@ use Rattle.std.proofs.Common.{◌≡◌, ℕ, ◌<◌, ◌∷◌, ◌++◌, [], 
 use Rattle.std.specs.Prelude.{All}
 use Rattle.std.proofs.lemmas.List.{length-map}
 use Rattle.elimination_tallies.specs.Predicates.{predicates_in}
-use Rattle.elimination_tallies.specs.Recount.{failing_runs, labelled, recount, runs_of}
+use Rattle.elimination_tallies.specs.Recount.{failing_runs, run_of_report, recount, runs_of}
 use Rattle.compound_counts.specs.Truth.{pair_recount}
 use Rattle.compound.specs.declared.listing.Candidate.{Candidate}
 use Rattle.compound.specs.Listing.{candidate_predicates}
@@ -63,7 +63,7 @@ look-scan-requires-clause-tally c =
     let both = within (length list) c.loop-places.places-index c.as_slice-places-items.result.now (c.as_slice-places-items.ensures.value ∙ c.in_ok-pairs.ensures) c.loop-places-test.true in
     let ps : c.as_slice.result.now ≡ candidate_predicates list = c.as_slice.ensures.value ∙ c.in_ok-predicates.ensures in
     let long = ap length ps ∙ length-map list (λ (x : Candidate). x.predicate) in
-    pair-sound branches runs (predicates_in branches) c.failing_runs-failing.result list _ p.0 p.1 none (omega (arith, length-map c.args.collection.now.reports labelled, c.reports_held-held.ensures)) c.failing_runs-failing.ensures.value c.requires.candidates both.0 both.1
+    pair-sound branches runs (predicates_in branches) c.failing_runs-failing.result list _ p.0 p.1 none (omega (arith, length-map c.args.collection.now.reports run_of_report, c.reports_held-held.ensures)) c.failing_runs-failing.ensures.value c.requires.candidates both.0 both.1
     (pair-numbers c.args.tallies.now.branches branches runs c.in_ok-counter.counter list c.as_slice.result.now p.0 p.1 none c.requires.tallies.branches_are ps both.0 both.1 (c.in_ok-counter.ensures.numbers p.0 p.1 (omega (arith, both.0, long)) (omega (arith, both.1, long))))
 
 pub look-scan-requires-clause-room : goal.look-scan-requires-clause-room

@@ -1,7 +1,7 @@
 use Rattle.std.proofs.Common.{◌≡◌, ℕ, List, ◌∷◌, [], decimal, get_or, length, sym, ap, ◌∙◌, arith}
 use Rattle.std.proofs.lemmas.List.{get_or_default}
 use Rattle.std.specs.Prelude.{Option}
-use Rattle.cbi_base.specs.Text.{spaced}
+use Rattle.cbi_base.specs.Text.{line_of_fields}
 use Rattle.flow.specs.declared.site.Site.{Site}
 use Rattle.flow.specs.Predicates.{predicate_text}
 use Rattle.compound.specs.Text.{place_fields}
@@ -23,4 +23,4 @@ returns c =
     let three = field-after out _ _ _ _ text two c.in_ok-push_word-2.ensures (c.as_slice.ensures.value ∙ c.in_ok-text.ensures) in
     line-ended out _ _ _ _ three c.in_ok-push.ensures.items
     (three-fields word (get_or t.functions site.function []) (decimal site.line) text
-    ∙ ap (λ (o : Option Site). spaced (word ∷ place_fields t.functions o text)) (sym c.predicate_site.ensures.site))
+    ∙ ap (λ (o : Option Site). line_of_fields (word ∷ place_fields t.functions o text)) (sym c.predicate_site.ensures.site))

@@ -7,7 +7,7 @@ use Rattle.report_file.specs.declared.report.Entry.{Entry}
 use Rattle.elimination_tallies.specs.Recount.{runs_of}
 use Rattle.elimination_tallies.specs.Runs.{AreEntriesOf}
 use Rattle.compound_counts.specs.Rows.{AreRowsUpTo, fact_in, fact_of, room_for}
-use Rattle.compound_counts.specs.Runs.{counted_runs, counts, run_count}
+use Rattle.compound_counts.specs.Runs.{counted_runs, is_counted_label, run_count}
 use Rattle.compound_counts.proofs.Cuts.{counted-few, cut-later}
 use Rattle.compound_counts.proofs.RowLemmas.{place-room, row-fresh, rows-end, rows-next, rows-skip, rows-start}
 use Rattle.compound_counts.proofs.watch.rows_of.Goals as goal
@@ -81,7 +81,7 @@ loop-report-preserved c =
     let new = c.see_run.new.rows in
     let value : c.as_mut_slice.result.now ≡ old = c.as_mut_slice.ensures.value in
     let yes : c.counts.result ≡ true = search rules in
-    let counted : counts failing r.label ≡ true = sym c.counts.ensures ∙ yes in
+    let counted : is_counted_label failing r.label ≡ true = sym c.counts.ensures ∙ yes in
     let next = place-room branches predicates room failing reports c.loop-report.last place old r (sym c.in-Some.ensures.value) counted c.loop-report.invariant.0 in
     let items = with_items_is c.loop-report.rows new (omega (arith, c.see_run.ensures.as_many, c.as_mut_slice.ensures.len)) in (
       subst (AreRowsUpTo branches predicates room failing reports r.run (place + 1)) (sym items)

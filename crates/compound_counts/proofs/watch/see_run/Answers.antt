@@ -3,7 +3,7 @@ use Rattle.std.specs.Prelude.{◌==◌, All}
 use Rattle.std.specs.List.{list_any}
 use Rattle.std.proofs.lemmas.List.{get_or_default}
 use Rattle.report_file.specs.declared.report.Entry.{Entry}
-use Rattle.elimination_tallies.specs.Predicates.{shows}
+use Rattle.elimination_tallies.specs.Predicates.{is_true_in_entry}
 use Rattle.compound_counts.specs.Seeing.{seen_row}
 use Rattle.compound_counts.proofs.Seeing.{run-next}
 use Rattle.compound_counts.proofs.watch.see_run.Goals as goal
@@ -35,6 +35,6 @@ loop-entry-preserved c =
       seen = run-next branches predicates c.args.rows.now mid c.see_entry.new.rows c.args.place i entries e own c.loop-entry-test.true (get_or_default entries i e none c.loop-entry-test.true)
           (c.requires.entries.positive i none c.loop-entry-test.true) c.loop-entry.invariant.as_many c.requires.room
           (λ k inside. ap (list_any (λ w. w == k)) here ∙ c.requires.watched.own e.site k there (omega (arith, inside, c.requires.as_many)))
-          (λ k inside. c.see_entry.ensures.seen k inside ∙ ap (λ (ps : List ℕ). seen_row c.args.place (own k) (shows branches (get_or ps k 0) e) (get_or mid k [])) c.as_slice-predicates.ensures)
+          (λ k inside. c.see_entry.ensures.seen k inside ∙ ap (λ (ps : List ℕ). seen_row c.args.place (own k) (is_true_in_entry branches (get_or ps k 0) e) (get_or mid k [])) c.as_slice-predicates.ensures)
           c.loop-entry.invariant.seen;
     }

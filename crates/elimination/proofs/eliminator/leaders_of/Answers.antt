@@ -1,7 +1,7 @@
 use Rattle.std.proofs.Common.{◌≡◌, ◌+◌, ◌∙◌, Bool, List, ap, arith, subst, sym}
 use Rattle.cbi_base.specs.declared.policy.Policy.{Policy}
 use Rattle.elimination_tallies.specs.declared.labelled.LabelledRun.{LabelledRun}
-use Rattle.elimination.specs.Elimination.{EliminatorState, after, entries_taken}
+use Rattle.elimination.specs.Elimination.{EliminatorState, runs_after_leader, entries_taken}
 use Rattle.elimination_tallies.specs.Leading.{IsLeader, NonePasses}
 use Rattle.elimination_tallies.specs.Recount.{failing_runs}
 use Rattle.elimination.proofs.EliminationLemmas.{IsListing, leader-falls, listing-end, listing-more}
@@ -21,7 +21,7 @@ loop-row-preserved g c =
     let branches : e.branches ≡ bs = c.loop-row.invariant.0 in
     let policy : e.policy ≡ c.args.eliminator.policy = c.loop-row.invariant.1 in
     let leads : IsLeader bs e.runs row = subst (λ (xs : List Bool). IsLeader xs e.runs row) branches c.in-Some.ensures.leader in
-    let runs : c.next.new.self.runs ≡ after bs c.args.eliminator.policy row.predicate e.runs = ap (λ (x : EliminatorState). x.runs) c.in-Some.ensures.after ∙ ap (λ (xs : List Bool). after xs e.policy row.predicate e.runs) branches ∙ ap (λ (p : Policy). after bs p row.predicate e.runs) policy in
+    let runs : c.next.new.self.runs ≡ runs_after_leader bs c.args.eliminator.policy row.predicate e.runs = ap (λ (x : EliminatorState). x.runs) c.in-Some.ensures.after ∙ ap (λ (xs : List Bool). runs_after_leader xs e.policy row.predicate e.runs) branches ∙ ap (λ (p : Policy). runs_after_leader bs p row.predicate e.runs) policy in
     let steps : c.next.new.steps ≡ c.loop-row.steps + entries_taken bs c.args.eliminator.policy row.predicate e.runs =
     c.in-Some.ensures.steps ∙ ap (λ (xs : List Bool). c.loop-row.steps + entries_taken xs e.policy row.predicate e.runs) branches ∙ ap (λ (p : Policy). c.loop-row.steps + entries_taken bs p row.predicate e.runs) policy in (
       ap (λ (x : EliminatorState). x.branches) c.in-Some.ensures.after ∙ branches,

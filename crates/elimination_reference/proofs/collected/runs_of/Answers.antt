@@ -2,7 +2,7 @@ use Rattle.std.proofs.Common.{◌≡◌, ◌++◌, List, [], ◌∷◌, ap, sym,
 use Rattle.std.proofs.lemmas.List.{append-nil}
 use Rattle.report_file.specs.declared.report.Report.{Report}
 use Rattle.elimination_tallies.specs.declared.labelled.LabelledRun.{LabelledRun}
-use Rattle.elimination_tallies.specs.Recount.{labelled, runs_of}
+use Rattle.elimination_tallies.specs.Recount.{run_of_report, runs_of}
 use Rattle.elimination_tallies.specs.Runs.{reports_after}
 use Rattle.elimination_tallies.proofs.RunLemmas.{all-after, collection-rises, next-is, next-later, none-after}
 use Rattle.elimination_reference.proofs.collected.runs_of.Goals as goal
@@ -26,8 +26,8 @@ loop-report-preserved c =
     let rest = runs_of (reports_after r.run reports) in
     let next : reports_after c.loop-report.last reports ≡ r ∷ reports_after r.run reports =
     next-is c.loop-report.last 1 reports r (collection-rises c.args.collection.now c.keeps.ensures) (sym c.in-Some.ensures.value) in
-    let items : c.push.new.self.items ≡ runs ++ labelled r ∷ [] = c.in_ok-push.ensures.items ∙ ap (λ (x : LabelledRun). runs ++ x ∷ []) c.in_ok-labelled.ensures in (
-      c.loop-report.invariant.0 ∙ ap (λ (rs : List Report). runs ++ runs_of rs) next ∙ sym (append_assoc runs (labelled r ∷ []) rest)
+    let items : c.push.new.self.items ≡ runs ++ run_of_report r ∷ [] = c.in_ok-push.ensures.items ∙ ap (λ (x : LabelledRun). runs ++ x ∷ []) c.in_ok-labelled.ensures in (
+      c.loop-report.invariant.0 ∙ ap (λ (rs : List Report). runs ++ runs_of rs) next ∙ sym (append_assoc runs (run_of_report r ∷ []) rest)
           ∙ ap (λ (xs : List LabelledRun). xs ++ rest) (sym items),
       omega (arith, c.in-Some.ensures.is_report.run.most),
     )

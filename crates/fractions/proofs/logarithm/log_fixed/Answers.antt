@@ -1,5 +1,5 @@
 use Rattle.std.proofs.Common.{arith, ◌≡◌, ◌≤◌, ◌+◌, ◌-◌, ◌*◌, ◌%◌, ◌^◌, subst, sym}
-use Rattle.fractions.specs.Logarithm.{IsLogarithm, log_of, places}
+use Rattle.fractions.specs.Logarithm.{IsLogarithm, log_of, logarithm_places}
 use Rattle.fractions.proofs.LogarithmLemmas.{log_of-near, log_of-small, log_of-monotone, places-none, places-step, start-is}
 use Rattle.fractions.proofs.logarithm.log_fixed.Goals as goal
 
@@ -11,8 +11,8 @@ loop-place-init c =
     record { one_or_more = start.one_or_more; below_two = start.below_two; rest = omega (arith, start.whole) }
 
 -- what this turn adds is the next place
-added : (c : goal.After-next_place-bit) → places c.loop-place.place c.loop-place.mantissa
-    ≡ c.next_place-bit.result.0 * 2 ^ (c.loop-place.place - 1) % 2 ^ 32 + places (c.loop-place.place - 1) c.next_place-bit.result.1
+added : (c : goal.After-next_place-bit) → logarithm_places c.loop-place.place c.loop-place.mantissa
+    ≡ c.next_place-bit.result.0 * 2 ^ (c.loop-place.place - 1) % 2 ^ 32 + logarithm_places (c.loop-place.place - 1) c.next_place-bit.result.1
 added c = places-step c.loop-place.place c.loop-place.mantissa c.next_place-bit.result.0 c.next_place-bit.result.1
     c.loop-place-test.true c.loop-place.auto.place c.next_place-bit.ensures.place c.next_place-bit.ensures.rest
 

@@ -1,4 +1,4 @@
-use Rattle.std.proofs.Common.{◌≡◌, ℕ, ◌≤◌, ◌+◌, ◌*◌, length, ap, subst}
+use Rattle.std.proofs.Common.{◌≡◌, ℕ, ◌≤◌, ◌+◌, ◌*◌, length, subst}
 use Rattle.c_syntax.specs.Words.{SourceTree, tree_kinds}
 use Rattle.c_types.specs.Answers.{known_of, tree_of}
 use Rattle.lower_facts.specs.Facts.{known_in, source_in, table_in, tree_in}

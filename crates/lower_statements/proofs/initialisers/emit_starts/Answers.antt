@@ -1,7 +1,7 @@
 use Rattle.std.proofs.Common.{◌≡◌, ◌+◌, ◌-◌, ◌<◌, arith, drop, length, map, subst}
 use Rattle.c_syntax.specs.Plain.{plain_start}
 use Rattle.lower_facts.specs.Facts.{facts_in, sites_in}
-use Rattle.lower_relation.specs.Initialisers.{AllStart}
+use Rattle.lower_relation.specs.Initialisers.{VariablesStart}
 use Rattle.lower_nodes.specs.Made.{Made}
 use Rattle.lower_statements.proofs.Initialising.{starts_none, starts_step}
 use Rattle.lower_statements.proofs.Rooms.{starts_more, starts_rest}
@@ -36,5 +36,5 @@ emit_start-requires c =
 pub returns-clause-made : goal.returns-clause-made
 returns-clause-made c =
     let first : c.loop-place.place ≡ 0 = omega (arith, c.loop-place-test.false) in
-    subst (λ m. Made (λ G. AllStart G (facts_in c.args.facts.now) (sites_in c.args.facts.now) (map plain_start (drop m c.args.starts.now))) c.args.graph.now
+    subst (λ m. Made (λ G. VariablesStart G (facts_in c.args.facts.now) (sites_in c.args.facts.now) (map plain_start (drop m c.args.starts.now))) c.args.graph.now
     c.loop-place.graph c.loop-place.first c.args.next) first c.loop-place.invariant.1

@@ -4,7 +4,7 @@ use Rattle.c_syntax.proofs.statement.Entry.TheLaws.{the_size}
 use Rattle.c_syntax.specs.Plain.{plain_entries, plain_expr, plain_for_start, plain_second, plain_statement}
 use Rattle.c_syntax.proofs.PlainStatements as plain
 use Rattle.lower_relation.specs.Expressions.{Condition}
-use Rattle.lower_relation.specs.Statements.{ForLoop, ForStarts, OptionalCondition, OptionalEffect, Runs, RunsAll}
+use Rattle.lower_relation.specs.Statements.{ForLoop, ForStartPath, OptionalCondition, OptionalEffect, StatementDoes, EntriesDo}
 use Rattle.lower_nodes.specs.Made.{MadeExits}
 use Rattle.lower_facts.specs.Facts.{facts_in, sites_in}
 use Rattle.lower_statements.specs.Exits.{SecondRuns, exits_of}
@@ -16,34 +16,34 @@ use Rattle.lower_statements.proofs.statements.+statements.Goals as goal
 pub emit_while-returns-clause-made : goal.emit_while-returns-clause-made
 emit_while-returns-clause-made t c =
     while_made (λ G. Condition G (facts_in c.args.facts.now) (sites_in c.args.facts.now) c.args.token (plain_expr c.args.condition.now))
-    (λ G. Runs G (facts_in c.args.facts.now) (sites_in c.args.facts.now) c.args.gives (plain_statement c.args.body.now)) _ _ _ _ _ _ _ _ (exits_of c.args.exits)
+    (λ G. StatementDoes G (facts_in c.args.facts.now) (sites_in c.args.facts.now) c.args.gives (plain_statement c.args.body.now)) _ _ _ _ _ _ _ _ (exits_of c.args.exits)
     c.in_ok-again.ensures.number c.in_ok-again.ensures.added (rw c.within_loop.ensures at c.in_ok-inside.ensures.made) c.in_ok-head.ensures.made c.aim.ensures.aimed
 
 pub emit_while-aim-requires : goal.emit_while-aim-requires
 emit_while-aim-requires t c =
     again_below _ _ _ _ _ _ _ c.in_ok-again.ensures.number c.in_ok-again.ensures.added
     (while_parts (λ G. Condition G (facts_in c.args.facts.now) (sites_in c.args.facts.now) c.args.token (plain_expr c.args.condition.now))
-    (λ G. Runs G (facts_in c.args.facts.now) (sites_in c.args.facts.now) c.args.gives (plain_statement c.args.body.now)) _ _ _ _ _ _ (exits_of c.args.exits)
+    (λ G. StatementDoes G (facts_in c.args.facts.now) (sites_in c.args.facts.now) c.args.gives (plain_statement c.args.body.now)) _ _ _ _ _ _ (exits_of c.args.exits)
     (rw c.within_loop.ensures at c.in_ok-inside.ensures.made) c.in_ok-head.ensures.made)
 
 pub emit_do-returns-clause-made : goal.emit_do-returns-clause-made
 emit_do-returns-clause-made t c =
     do_made (λ G. Condition G (facts_in c.args.facts.now) (sites_in c.args.facts.now) c.args.token (plain_expr c.args.condition.now))
-    (λ G. Runs G (facts_in c.args.facts.now) (sites_in c.args.facts.now) c.args.gives (plain_statement c.args.body.now)) _ _ _ _ _ _ _ _ (exits_of c.args.exits)
+    (λ G. StatementDoes G (facts_in c.args.facts.now) (sites_in c.args.facts.now) c.args.gives (plain_statement c.args.body.now)) _ _ _ _ _ _ _ _ (exits_of c.args.exits)
     c.in_ok-again.ensures.number c.in_ok-again.ensures.added c.in_ok-test.ensures.made (rw c.within_loop.ensures at c.in_ok-head.ensures.made) c.aim.ensures.aimed
 
 pub emit_do-aim-requires : goal.emit_do-aim-requires
 emit_do-aim-requires t c =
     again_below _ _ _ _ _ _ _ c.in_ok-again.ensures.number c.in_ok-again.ensures.added
     (do_parts (λ G. Condition G (facts_in c.args.facts.now) (sites_in c.args.facts.now) c.args.token (plain_expr c.args.condition.now))
-    (λ G. Runs G (facts_in c.args.facts.now) (sites_in c.args.facts.now) c.args.gives (plain_statement c.args.body.now)) _ _ _ _ _ _ (exits_of c.args.exits)
+    (λ G. StatementDoes G (facts_in c.args.facts.now) (sites_in c.args.facts.now) c.args.gives (plain_statement c.args.body.now)) _ _ _ _ _ _ (exits_of c.args.exits)
     c.in_ok-test.ensures.made (rw c.within_loop.ensures at c.in_ok-head.ensures.made))
 
 pub emit_for-returns-clause-made : goal.emit_for-returns-clause-made
 emit_for-returns-clause-made t c =
     for_made (λ G. OptionalCondition G (facts_in c.args.facts.now) (sites_in c.args.facts.now) c.args.token (option_map plain_expr c.args.condition.now))
     (λ G. OptionalEffect G (facts_in c.args.facts.now) (sites_in c.args.facts.now) (option_map plain_expr c.args.step.now))
-    (λ G. Runs G (facts_in c.args.facts.now) (sites_in c.args.facts.now) c.args.gives (plain_statement c.args.body.now)) _ _ _ _ _ _ _ _ _ _ (exits_of c.args.exits)
+    (λ G. StatementDoes G (facts_in c.args.facts.now) (sites_in c.args.facts.now) c.args.gives (plain_statement c.args.body.now)) _ _ _ _ _ _ _ _ _ _ (exits_of c.args.exits)
     c.in_ok-again.ensures.number c.in_ok-again.ensures.added c.in_ok-stepped.ensures.made (rw c.within_loop.ensures at c.in_ok-inside.ensures.made) c.in_ok-head.ensures.made c.aim.ensures.aimed
 
 pub emit_for-aim-requires : goal.emit_for-aim-requires
@@ -51,7 +51,7 @@ emit_for-aim-requires t c =
     again_below _ _ _ _ _ _ _ c.in_ok-again.ensures.number c.in_ok-again.ensures.added
     (for_parts (λ G. OptionalCondition G (facts_in c.args.facts.now) (sites_in c.args.facts.now) c.args.token (option_map plain_expr c.args.condition.now))
     (λ G. OptionalEffect G (facts_in c.args.facts.now) (sites_in c.args.facts.now) (option_map plain_expr c.args.step.now))
-    (λ G. Runs G (facts_in c.args.facts.now) (sites_in c.args.facts.now) c.args.gives (plain_statement c.args.body.now)) _ _ _ _ _ _ _ _ (exits_of c.args.exits)
+    (λ G. StatementDoes G (facts_in c.args.facts.now) (sites_in c.args.facts.now) c.args.gives (plain_statement c.args.body.now)) _ _ _ _ _ _ _ _ (exits_of c.args.exits)
     c.in_ok-stepped.ensures.made (rw c.within_loop.ensures at c.in_ok-inside.ensures.made) c.in_ok-head.ensures.made)
 
 pub emit_statement-returns-in-While-clause-made : goal.emit_statement-returns-in-While-clause-made
@@ -65,10 +65,10 @@ emit_statement-returns-in-Do-clause-made t c =
 pub emit_statement-returns-in_ok-i-in-For-clause-made : goal.emit_statement-returns-in_ok-i-in-For-clause-made
 emit_statement-returns-in_ok-i-in-For-clause-made t c =
     rw (c.in-For.is, plain.plain_for c.in-For.token c.in-For.start c.in-For.condition c.in-For.step c.in-For.body)
-    (then_made (λ G. ForStarts G (facts_in c.args.facts.now) (sites_in c.args.facts.now) (plain_for_start c.in-For.start))
+    (then_made (λ G. ForStartPath G (facts_in c.args.facts.now) (sites_in c.args.facts.now) (plain_for_start c.in-For.start))
     (λ G. ForLoop G (OptionalCondition G (facts_in c.args.facts.now) (sites_in c.args.facts.now) c.in-For.token (option_map plain_expr c.in-For.condition))
     (OptionalEffect G (facts_in c.args.facts.now) (sites_in c.args.facts.now) (option_map plain_expr c.in-For.step))
-    (Runs G (facts_in c.args.facts.now) (sites_in c.args.facts.now) c.args.gives (plain_statement c.in-For.body.value)))
+    (StatementDoes G (facts_in c.args.facts.now) (sites_in c.args.facts.now) c.args.gives (plain_statement c.in-For.body.value)))
     _ _ _ _ _ (exits_of c.args.exits) (rw c.deref-in-For.ensures at c.in_ok-head-in-For.ensures.made) c.in_ok-i-in-For.ensures.made)
 
 pub emit_entry-returns-in_ok-i-in-Declaration-clause-made : goal.emit_entry-returns-in_ok-i-in-Declaration-clause-made
@@ -138,7 +138,7 @@ emit_entries-emit_entry-requires t c =
 pub emit_entries-returns-clause-made : goal.emit_entries-returns-clause-made
 emit_entries-returns-clause-made t c =
     let first : c.loop-place.place ≡ 0 = omega (arith, c.loop-place-test.false) in
-    subst (λ m. MadeExits (λ G. RunsAll G (facts_in c.args.facts.now) (sites_in c.args.facts.now) c.args.gives (plain_entries (drop m c.args.entries.now))) c.args.graph.now
+    subst (λ m. MadeExits (λ G. EntriesDo G (facts_in c.args.facts.now) (sites_in c.args.facts.now) c.args.gives (plain_entries (drop m c.args.entries.now))) c.args.graph.now
     c.loop-place.graph c.loop-place.first (exits_of c.args.exits)) first c.loop-place.invariant.1
 
 pub emit_statement-returns-in-Return-clause-made : goal.emit_statement-returns-in-Return-clause-made
@@ -149,5 +149,5 @@ emit_second-returns-in_ok-i-in-Some-clause-made t c =
     subst (λ second. MadeExits (λ G. SecondRuns G (facts_in c.args.facts.now) (sites_in c.args.facts.now) c.args.gives (plain_second second)) c.args.graph.now
     c.emit_statement.new.graph c.in_ok-i-in-Some.i (exits_of c.args.exits))
     (sym c.in-Some.is)
-    (subst (λ s. MadeExits (λ G. Runs G (facts_in c.args.facts.now) (sites_in c.args.facts.now) c.args.gives (plain_statement s)) c.args.graph.now c.emit_statement.new.graph
+    (subst (λ s. MadeExits (λ G. StatementDoes G (facts_in c.args.facts.now) (sites_in c.args.facts.now) c.args.gives (plain_statement s)) c.args.graph.now c.emit_statement.new.graph
     c.in_ok-i-in-Some.i (exits_of c.args.exits)) c.deref.ensures c.in_ok-i-in-Some.ensures.made)

@@ -1,5 +1,5 @@
 use Rattle.std.proofs.Common.{ap, sym, ◌∙◌, slice_get}
-use Rattle.flow.specs.Words.{give, has_result, callee_of, Takes, Over}
+use Rattle.flow.specs.Words.{left_with_value, has_result, callee_of, Takes, Over}
 use Rattle.machine_rows.specs.Data.{data_of}
 use Rattle.machine.specs.Steps.{state_of, frames_of}
 use Rattle.machine.proofs.CallLemmas.{gives_end}
@@ -13,8 +13,8 @@ returns-in_default-clause-next c = λ past.
     let value = c.in_ok-value.value in
     let rest = data_of c.take_any.new.self in
     let outcome = c.end_with-outcome.result in
-    ap (λ t. give (has_result (callee_of (slice_get c.args.program.now.functions old.function))) t s) c.in_ok-value.ensures.taken
-    ∙ ap (λ b. give b (Takes value rest) s) (sym c.has_result.ensures ∙ c.if-not-has_result.false)
+    ap (λ t. left_with_value (has_result (callee_of (slice_get c.args.program.now.functions old.function))) t s) c.in_ok-value.ensures.taken
+    ∙ ap (λ b. left_with_value b (Takes value rest) s) (sym c.has_result.ensures ∙ c.if-not-has_result.false)
     ∙ gives_end value rest s outcome (sym c.is_undefined.ensures ∙ c.if-is_undefined.false) (ap (λ b. frames_of b old.now.operands.below) c.in_default.ensures.0)
     (c.end_with-outcome.ensures s)
     ∙ ap (λ o. Over (record { outcome = outcome; output = o; seen = past.seen; work = old.work; drawn = past.drawn })) (sym c.take_any.ensures.output)

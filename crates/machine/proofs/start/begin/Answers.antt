@@ -1,6 +1,6 @@
 use Rattle.std.proofs.Common.{[], ap, subst, sym, ◌∙◌}
 use Rattle.cbi_base.specs.Frames.{each_made}
-use Rattle.flow.specs.Words.{enter, code_of, begin_with, program_objects}
+use Rattle.flow.specs.Words.{function_entered, code_of, begin_with, program_objects}
 use Rattle.machine.specs.Begun.{first_past}
 use Rattle.machine_rows.specs.Starting.{IsAllMade}
 use Rattle.machine.specs.Steps.{IsNext}
@@ -17,6 +17,6 @@ returns-clause-next c = λ bank e.
     (subst (λ b. IsAllMade (each_made (program_objects p) s.now.objects) b objects) c.if-not-branch.false
     (subst (λ q. IsAllMade (each_made (program_objects q) s.now.objects) c.in_ok-make_first.field-0 objects) c.program.ensures.value c.in_ok-make_first.ensures)) in
     subst (λ n. IsNext code (first_past bank) n c.enter_main.result c.enter_main.new.state)
-    (ap (enter (code.callee p.main) p.main []) (starts p bank s objects c.requires e)
+    (ap (function_entered (code.callee p.main) p.main []) (starts p bank s objects c.requires e)
     ∙ sym (ap (begin_with code p.main s.now.input.now s.turns) (ap (each_made (program_objects p)) (sym c.requires.objects) ∙ made)))
     (c.enter_main.ensures.next (first_past bank) 0)

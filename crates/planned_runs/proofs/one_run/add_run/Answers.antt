@@ -1,6 +1,6 @@
 use Rattle.std.proofs.Common.{◌≡◌, ◌∙◌, Err, ap, refl, rules}
 use Rattle.command_base.specs.declared.fault.Fault.TheVariants as fault
-use Rattle.expected.specs.Expected.{agrees}
+use Rattle.expected.specs.Expected.{is_expected_output}
 use Rattle.report_file.specs.Label.{label_of}
 use Rattle.planned_runs.proofs.Adding.{ended-then, held, not-held, ours, summed}
 use Rattle.planned_runs.proofs.one_run.add_run.Goals as goal
@@ -22,12 +22,12 @@ returns-in_err-report-clause-failed g c =
 pub returns-in_err-hold-clause-failed : goal.returns-in_err-hold-clause-failed
 returns-in_err-hold-clause-failed g c =
     let same : c.from_residual-in_err-hold.result ≡ Err c.in_err-hold.field-0.0 = search rules in
-    let labelled = c.label_of-label.ensures ∙ ap (label_of c.in_ok-ran.ran.outcome) (c.agrees.ensures ∙ ap (agrees c.args.on.expect) c.as_slice-2.ensures) in
+    let labelled = c.label_of-label.ensures ∙ ap (label_of c.in_ok-ran.ran.outcome) (c.agrees.ensures ∙ ap (is_expected_output c.args.on.expect) c.as_slice-2.ensures) in
     rw same (not-held _ c.args.id c.args.number c.args.turns _ _ _ c.args.on _ _ _ _ c.in_ok-ran.ensures.ran c.as_slice.ensures refl c.label_of-label.result c.in_ok-report.report _
     c.in_err-hold.field-0.0 labelled c.in_ok-report.ensures.report c.in_err-hold.ensures.fault)
 
 pub returns-clause-held : goal.returns-clause-held
 returns-clause-held g c =
-    let labelled = c.label_of-label.ensures ∙ ap (label_of c.in_ok-ran.ran.outcome) (c.agrees.ensures ∙ ap (agrees c.args.on.expect) c.as_slice-2.ensures) in
+    let labelled = c.label_of-label.ensures ∙ ap (label_of c.in_ok-ran.ran.outcome) (c.agrees.ensures ∙ ap (is_expected_output c.args.on.expect) c.as_slice-2.ensures) in
     held _ c.args.id c.args.number c.args.turns _ _ _ c.args.on _ _ _ _ c.in_ok-ran.ensures.ran c.as_slice.ensures refl c.label_of-label.result c.in_ok-report.report _ _
     c.in_ok-ran.ensures.bounded labelled c.in_ok-report.ensures.report c.in_ok-hold.ensures.ok

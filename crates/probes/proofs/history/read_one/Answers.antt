@@ -1,5 +1,5 @@
 use Rattle.std.proofs.Common.{◌≡◌, ap, ◌∙◌, arith}
-use Rattle.probes.specs.History.{observation_of, unpacked}
+use Rattle.probes.specs.History.{observation_of, observations_of_bytes}
 use Rattle.probes.proofs.Packing.{unpacked-one}
 use Rattle.probes.proofs.history.read_one.Goals as goal
 
@@ -11,4 +11,4 @@ returns-then-byte-lt128 c =
     let o = c.observation_of.result in
     let number : c.from.result ≡ byte = omega arith in
     let is : o ≡ observation_of before byte = c.observation_of.ensures ∙ ap (observation_of before) number in
-    ap (unpacked before 0) c.in-Some.ensures.cases.0 ∙ unpacked-one before byte rest o c.if-byte-lt128.true is
+    ap (observations_of_bytes before 0) c.in-Some.ensures.cases.0 ∙ unpacked-one before byte rest o c.if-byte-lt128.true is

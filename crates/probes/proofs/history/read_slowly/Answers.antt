@@ -1,6 +1,6 @@
 use Rattle.std.proofs.Common.{◌≡◌, ◌+◌, ◌-◌, ◌≤◌, get_or, drop, ap, ◌∙◌, arith}
 use Rattle.std.proofs.lemmas.List.{take_rest}
-use Rattle.probes.specs.History.{observation_of, with_digit, unpacked}
+use Rattle.probes.specs.History.{observation_of, with_digit, observations_of_bytes}
 use Rattle.probes.proofs.Packing.{unpacked-drop_last, unpacked-drop_more, unpacked-drop_all}
 use Rattle.probes.proofs.history.read_slowly.Goals as goal
 
@@ -22,7 +22,7 @@ loop-i-preserved c =
     let high : 128 ≤ get_or bytes i 0 = omega arith in
     let digit : get_or bytes i 0 - 128 ≡ c.from-in-loop-i.result = omega arith in
     record {
-      read = c.loop-i.invariant.read ∙ unpacked-drop_more c.args.before number bytes i (omega arith) high ∙ ap (λ n. unpacked c.args.before (with_digit number n) (drop (i + 1) bytes)) digit;
+      read = c.loop-i.invariant.read ∙ unpacked-drop_more c.args.before number bytes i (omega arith) high ∙ ap (λ n. observations_of_bytes c.args.before (with_digit number n) (drop (i + 1) bytes)) digit;
       small = omega arith;
     }
 

@@ -1,7 +1,7 @@
 use Rattle.std.proofs.Common.{◌≡◌, ◌<◌, ◌++◌, ◌∷◌, [], length, refl, arith, rules}
 use Rattle.std.proofs.lemmas.Result.{err_from_is_err_and}
 use Rattle.std.proofs.lemmas.Option.{slice_get_read}
-use Rattle.probes.proofs.Growing.{GrewBelow-more, AllGrew-end, AllGrewByPrefix-stop}
+use Rattle.probes.proofs.Growing.{GrewByPrefix-none, GrewBelow-more, AllGrew-end, AllGrewByPrefix-stop}
 use Rattle.probes.proofs.told.see_each.Goals as goal
 
 pub returns-in_err-see_one-clause-memory : goal.returns-in_err-see_one-clause-memory
@@ -11,7 +11,7 @@ returns-in_err-see_one-clause-memory g c =
     let after = c.see_one.new.probe in
     let stayed : (goal.Probe-dyn g (after.vtable, after.value)).seen after.value ≡ (goal.Probe-dyn g (before.vtable, before.value)).seen before.value = search rules in
     let p = err_from_is_err_and c.from_residual.result c.from_residual.ensures.1 in
-    rw p.1 (AllGrewByPrefix-stop _ _ _ _ _ before after inside (slice_get_read _ _ _ _ refl inside c.probe-item.is) stayed c.loop-probe.invariant)
+    rw p.1 (AllGrewByPrefix-stop _ _ _ _ _ before after inside (slice_get_read _ _ _ _ refl inside c.probe-item.is) (GrewByPrefix-none _ _ _ stayed) c.loop-probe.invariant)
 
 pub loop-probe-preserved : goal.loop-probe-preserved
 loop-probe-preserved g c =

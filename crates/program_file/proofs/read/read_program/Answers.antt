@@ -2,7 +2,7 @@ use Rattle.std.proofs.Common.{◌≡◌, sym, ap, subst, ◌∙◌}
 use Rattle.cbi_base.specs.Lines.{ReadsLines, IsBadLine}
 use Rattle.flow.specs.Words.{IsProgram, SpellsProgram}
 use Rattle.program_file.specs.declared.draft.Draft.{Draft}
-use Rattle.program_file.specs.Draft.{IsWhole, ProgramLineFollows, empty, parts_in}
+use Rattle.program_file.specs.Draft.{IsWhole, ProgramLineFollows, empty_draft, parts_in}
 use Rattle.program_file.proofs.Alloc.{bad-moved}
 use Rattle.program_file.proofs.Whole.{whole, whole-spelled, spelled-reads}
 use Rattle.program_file.proofs.read.read_program.Goals as goal
@@ -33,7 +33,7 @@ pub returns-in-Err-Bad-clause-line : goal.returns-in-Err-Bad-clause-line
 returns-in-Err-Bad-clause-line c = λ line e.
     let bad = rw c.in-Err-Bad.field-0-is at c.in-Err-Bad.ensures.bad in
     let same : c.in-Err-Bad.line ≡ line = cc in
-    record { alloc = c.args.alloc; bad = subst (λ n. IsBadLine ProgramLineFollows IsWhole (empty c.args.alloc) c.args.bytes.now n) same (subst (λ d. IsBadLine ProgramLineFollows IsWhole d c.args.bytes.now c.in-Err-Bad.line) c.new-draft.ensures bad) }
+    record { alloc = c.args.alloc; bad = subst (λ n. IsBadLine ProgramLineFollows IsWhole (empty_draft c.args.alloc) c.args.bytes.now n) same (subst (λ d. IsBadLine ProgramLineFollows IsWhole d c.args.bytes.now c.in-Err-Bad.line) c.new-draft.ensures bad) }
 
 pub returns-in-Err-Bad-clause-wrong : goal.returns-in-Err-Bad-clause-wrong
 returns-in-Err-Bad-clause-wrong c = λ line wrong.

@@ -1,7 +1,7 @@
 use Rattle.std.proofs.Common.{◌∙◌, ◌++◌, [], ◌∷◌, List, ℕ, ap, decimal}
 use Rattle.csv.specs.Writing.{default_writer, row_text}
 use Rattle.std.specs.List.{join_with_byte}
-use Rattle.cbi_base.specs.Text.{ended}
+use Rattle.cbi_base.specs.Text.{line_with_newline}
 use Rattle.flow.specs.Predicates.{predicate_text, site_at}
 use Rattle.ranking.specs.Plain.{IsPlainField}
 use Rattle.ranking.specs.Ranking.{place_fields, share_fields, tally_fields}
@@ -25,4 +25,4 @@ returns c =
     let rest = are-plain-append (place ++ tally) shares (are-plain-append place tally c.place_is_plain.ensures c.in_ok-push_tally.ensures.plain) c.in_ok-push_shares.ensures.plain in
     let line = row-line (decimal c.args.rank) (decimal c.from.result) (place ++ tally ++ shares) (rank, (predicate, rest)) in
     c.in_ok-line.ensures ∙ ap (row_text default_writer) fifth ∙ line
-    ∙ ap (λ (n : ℕ). ended (join_with_byte 44 (decimal c.args.rank ∷ decimal n ∷ (place ++ tally ++ shares)))) c.from.ensures
+    ∙ ap (λ (n : ℕ). line_with_newline (join_with_byte 44 (decimal c.args.rank ∷ decimal n ∷ (place ++ tally ++ shares)))) c.from.ensures

@@ -4,7 +4,7 @@ use Rattle.std.proofs.lemmas.List.{length-replicate}
 use Rattle.std.proofs.lemmas.Option.{get_or_from_slice_get, slice_get_read}
 use Rattle.flow.specs.declared.program.Function.{Function}
 use Rattle.flow.specs.declared.site.Site.{Site}
-use Rattle.regions.specs.Callers.{Grew, row}
+use Rattle.regions.specs.Callers.{Grew, function_callers}
 use Rattle.regions.specs.Reach.{Reached}
 use Rattle.regions.specs.Weighty.{CallsTo, HasSite}
 use Rattle.regions.proofs.CallerLemmas.{row_read}
@@ -47,8 +47,8 @@ loop-done-preserved c =
     let empty : List ℕ = [] in
     let few = c.in_ok-callers.ensures.few ∙ length-replicate (length c.functions-functions.result.now) empty ∙ ap (λ (xs : List Function). length xs) c.functions-functions.ensures.value in
     let l : c.index-function.result.now < length c.in_ok-callers.callers.items = omega (arith, near, here, few) in
-    let list : c.as_slice.result.now ≡ row table (get_or order c.loop-done.done 0) =
-    c.as_slice.ensures ∙ sym (row_read table c.index-function.result.now c.index.result.now l c.index.ensures) ∙ ap (λ (g : ℕ). row table g) here in
+    let list : c.as_slice.result.now ≡ function_callers table (get_or order c.loop-done.done 0) =
+    c.as_slice.ensures ∙ sym (row_read table c.index-function.result.now c.index.result.now l c.index.ensures) ∙ ap (λ (g : ℕ). function_callers table g) here in
     let grew = subst (λ (fs : List Function). Grew (replicate (length fs) empty) table (λ g f. CallsTo fs f g)) c.functions-functions.ensures.value c.in_ok-callers.ensures in
     spread_more p c.loop-done.found.flags.items order c.add_each.new.self.flags.items c.add_each.new.self.order.items c.loop-done.done table grew c.loop-done.invariant inside
     (subst (λ (xs : List ℕ). Reached c.loop-done.found.flags.items order c.add_each.new.self.flags.items c.add_each.new.self.order.items (Contains xs)) list c.in_ok-add_each.ensures)

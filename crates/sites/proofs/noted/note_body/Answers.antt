@@ -1,9 +1,9 @@
-use Rattle.std.proofs.Common.{◌≡◌, ℕ, List, true, drop, sym, subst, ap, ◌∙◌, Bool, false, refl}
-use Rattle.std.specs.Prelude.{filter, not}
+use Rattle.std.proofs.Common.{◌≡◌, ℕ, List, true, drop, sym, subst, ap, ◌∙◌, false}
+use Rattle.std.specs.Prelude.{filter}
 use Rattle.std.proofs.lemmas.Bool.{false≢true, not-false as wanted}
 use Rattle.base_lists.proofs.Tests.{not_itself}
 use Rattle.c_types.specs.Answers.{known_of}
-use Rattle.sites.specs.Near.{AreEnough, first_from, lasts}
+use Rattle.sites.specs.Near.{AreEnough, first_from, has_scope_left}
 use Rattle.sites.specs.Noted.{IsEnoughFor}
 use Rattle.sites.specs.Standing.{IsFrom, IsUpTo}
 use Rattle.sites.proofs.Looking.{all_told, clear_sooner, lasting_later}
@@ -19,7 +19,7 @@ pub see_more-requires-clause-near : goal.see_more-requires-clause-near
 see_more-requires-clause-near c =
     let w = known_of c.args.checked.now in
     let n = c.requires.noted.wanted (wanted c.args.schemes.pairs c.if-not-schemes.false) in
-    c.keep_lasting.ensures ∙ ap (filter (lasts w c.args.begin)) n.near ∙ lasting_later w n.since c.args.begin c.args.noted.now.seen n.before
+    c.keep_lasting.ensures ∙ ap (filter (has_scope_left w c.args.begin)) n.near ∙ lasting_later w n.since c.args.begin c.args.noted.now.seen n.before
 
 pub returns-clause-enough : goal.returns-clause-enough
 returns-clause-enough c =

@@ -6,7 +6,7 @@ use Rattle.regions.specs.Flags.{is_in}
 use Rattle.regions.specs.Weighty.{views_of}
 use Rattle.regions.proofs.Within.{no_node, node_at}
 use Rattle.weights.specs.Paths.{next_nodes}
-use Rattle.weights.specs.Weight.{greatest, weight_from}
+use Rattle.weights.specs.Weight.{greatest_weight, weight_from}
 use Rattle.weights.proofs.WeightLemmas.{Weighed, ahead_small, weighed_all, weighed_more, weighed_none}
 use Rattle.weights.proofs.table.weights_of.Goals as goal
 
@@ -32,7 +32,7 @@ weight_of-requires-clause-small c =
     let w = is_in c.args.weighty.now in
     let weighed = subst (λ (k : ℕ). Weighed w c.args.nodes.now k c.loop-place.weights.items) same c.loop-place.invariant in
     let ahead = ahead_small w c.args.nodes.now i c.loop-place.weights.items c.requires.forward weighed inside in
-    let most : List ℕ → View → ℕ = λ xs v. greatest (λ x. get_or xs x 0) (next_nodes w v) in
+    let most : List ℕ → View → ℕ = λ xs v. greatest_weight (λ x. get_or xs x 0) (next_nodes w v) in
     let e = ap (λ (v : View). most c.loop-place.weights.items v) (node_at c.args.nodes.now i inside) in
     let f = ap (λ (xs : List ℕ). most xs (view (get_or c.args.nodes.now i no_node))) c.deref.ensures.value in
     let small : most c.deref.result.now (view (get_or c.args.nodes.now i no_node)) ≤ node_limit = omega (arith, ahead, e, f, c.requires.few) in

@@ -1,5 +1,5 @@
 use Rattle.std.proofs.Common.{◌-◌, sym, subst, ◌∙◌, arith}
-use Rattle.cbi_base.specs.Objects.{Objects, killed}
+use Rattle.cbi_base.specs.Objects.{Objects, object_killed}
 use Rattle.c_store.specs.Kept.{AreObjectsKept}
 use Rattle.c_store.proofs.Keeping.{within_all, kept_by_kill, kept_without}
 use Rattle.c_store.proofs.objects.Objects.kill.Goals as goal
@@ -22,7 +22,7 @@ invariant_of-self c =
     let o : Objects = record { made = s.made; live = s.table } in
     let kept = kept_by_kill s.cells o c.self.invariant c.args.object c.in-Some.block (sym c.in-Some.ensures.value) in
     subst (λ m. AreObjectsKept (s.cells - c.len.result) (record { made = s.made; live = m })) (sym c.remove.ensures.rest)
-    (subst (λ n. AreObjectsKept (s.cells - n) (killed c.args.object o)) (sym c.len.ensures) kept)
+    (subst (λ n. AreObjectsKept (s.cells - n) (object_killed c.args.object o)) (sym c.len.ensures) kept)
 
 pub invariant_of-self-in-Some-2 : goal.invariant_of-self-in-Some-2
 invariant_of-self-in-Some-2 c =
@@ -30,7 +30,7 @@ invariant_of-self-in-Some-2 c =
     let o : Objects = record { made = s.made; live = s.table } in
     let kept = kept_by_kill s.cells o c.self.invariant c.args.object c.in-Some.block (sym c.in-Some.ensures.value) in
     subst (λ m. AreObjectsKept (s.cells - c.len.result) (record { made = s.made; live = m })) (sym c.remove.ensures.rest)
-    (subst (λ n. AreObjectsKept (s.cells - n) (killed c.args.object o)) (sym c.len.ensures) kept)
+    (subst (λ n. AreObjectsKept (s.cells - n) (object_killed c.args.object o)) (sym c.len.ensures) kept)
 
 pub invariant_of-self-in_default : goal.invariant_of-self-in_default
 invariant_of-self-in_default c =

@@ -3,7 +3,7 @@ use Rattle.std.specs.FinMap as map
 use Rattle.std.specs.Map.{lookup}
 use Rattle.std.proofs.lemmas.Result.{on_err_weaker}
 use Rattle.c_store.specs.Stacked.{IsMissing, StandsAt, map_of}
-use Rattle.c_store.specs.Written.{stored_in, after}
+use Rattle.c_store.specs.Written.{stored_in, state_or_trap}
 use Rattle.c_store.proofs.StackedLemmas.{got_there, get_apart, apart_is_missing, set_apart, set_in_order, stored_some, stored_none, unchanged}
 use Rattle.c_store.proofs.table.Table.set_by_search.Goals as goal
 
@@ -21,7 +21,7 @@ returns-in-Some-clause-value c =
     let missing = apart_is_missing ns es k c.self.invariant.apart (ap is_some there) in
     let at : map.get (map_of ns bs es) k ≡ Some b = get_apart ns bs es k missing ∙ there in
     let becomes = set_apart ns bs es fs k w missing ((c.get_mut.follows.holds w).3 (subst IsSome (sym there) refl)).0 in
-    subst (λ m. stored_in k c.args.offset c.args.value (map.get m k) m ≡ after c.set.result (map_of ns bs fs)) c.self.view_is
+    subst (λ m. stored_in k c.args.offset c.args.value (map.get m k) m ≡ state_or_trap c.set.result (map_of ns bs fs)) c.self.view_is
     (stored_some (map_of ns bs es) (map_of ns bs fs) k c.args.offset c.args.value b w c.set.result at c.set.ensures.value becomes)
 
 pub returns-in-Some-clause-trap : goal.returns-in-Some-clause-trap
@@ -65,5 +65,5 @@ returns-clause-value c =
     let heap : map_of ns (slice_set bs c.in-Some-search.place w) c.get_mut.follows.lender-at-none.entries ≡ map_of ns (slice_set bs c.in-Some-search.place w) es =
     ap (λ h. map_of ns (slice_set bs c.in-Some-search.place w) h.entries) c.get_mut.follows.holds-at-none in
     let becomes = heap ∙ set_in_order ns bs es k c.in-Some-search.place w c.self.invariant there in
-    subst (λ m. stored_in k c.args.offset c.args.value (map.get m k) m ≡ after c.set-2.result (map_of ns (slice_set bs c.in-Some-search.place w) c.get_mut.follows.lender-at-none.entries)) c.self.view_is
+    subst (λ m. stored_in k c.args.offset c.args.value (map.get m k) m ≡ state_or_trap c.set-2.result (map_of ns (slice_set bs c.in-Some-search.place w) c.get_mut.follows.lender-at-none.entries)) c.self.view_is
     (stored_some (map_of ns bs es) (map_of ns (slice_set bs c.in-Some-search.place w) c.get_mut.follows.lender-at-none.entries) k c.args.offset c.args.value b w c.set-2.result at c.set-2.ensures.value becomes)

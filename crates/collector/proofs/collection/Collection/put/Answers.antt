@@ -4,7 +4,7 @@ use Rattle.std.specs.BTreeMap.{insert_entry}
 use Rattle.std.proofs.lemmas.List.{length-map}
 use Rattle.report_file.specs.declared.report.Report.{Report}
 use Rattle.collector.specs.declared.collection.Held.{Held}
-use Rattle.collector.specs.Collected.{IsOurs, marks_of, report_at, with_report}
+use Rattle.collector.specs.Collected.{IsOfCollection, marks_of, report_at, with_report}
 use Rattle.collector.specs.Kept.{AreHeld}
 use Rattle.collector.specs.Sites.{first_bad}
 use Rattle.collector.proofs.Keeping.{held-insert, length-insert, marks-with, reports_in, values-insert}
@@ -26,7 +26,7 @@ invariant_of-self-2 c =
     let marks : marks_of (reports_in c.insert.new.self.entries) ≡ marks_of (reports_in entries) + length r.entries =
     ap (λ es. marks_of (reports_in es)) inserted ∙ ap marks_of (values-insert old.program old.branches r entries kept.are_held) ∙ marks-with r (reports_in entries) absent in
     let before = ap marks_of reports in
-    let ours : IsOurs (record { program = old.program; branches = old.branches; reports = reports_in entries }) r = record { program = c.requires.ours.program ∙ sym program; sites = ap (λ bs. first_bad bs r.entries) branches ∙ c.requires.ours.sites } in record {
+    let ours : IsOfCollection (record { program = old.program; branches = old.branches; reports = reports_in entries }) r = record { program = c.requires.ours.program ∙ sym program; sites = ap (λ bs. first_bad bs r.entries) branches ∙ c.requires.ours.sites } in record {
       are_held = subst (AreHeld old.program old.branches) (sym inserted) (held-insert old.program old.branches r entries (record { run_is = refl; is_report = c.requires.is_report; program_is = ours.program; sites = ours.sites }) kept.are_held);
       few = omega (arith, ap length inserted, length-insert r entries, c.requires.room);
       marks_are = omega (arith, kept.marks_are, c.len-more.ensures, marks);

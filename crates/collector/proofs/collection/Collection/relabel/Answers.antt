@@ -3,7 +3,7 @@ use Rattle.std.specs.Prelude.{is_some}
 use Rattle.cbi_base.specs.declared.identity.ProgramId.{ProgramId}
 use Rattle.report_file.specs.declared.report.Report.{Report}
 use Rattle.collector.specs.declared.collection.Held.{Held}
-use Rattle.collector.specs.Collected.{marks_of, relabelled, report_at}
+use Rattle.collector.specs.Collected.{marks_of, report_relabelled, report_at}
 use Rattle.collector.specs.Kept.{AreHeld}
 use Rattle.collector.proofs.Keeping.{lookup-report, reports_in}
 use Rattle.collector.proofs.Relabelling.{held-set, marks-relabelled, relabelled-none, values-set, with_label}
@@ -26,7 +26,7 @@ returns-in_default-clause-after c =
     let old = c.self.inside in
     let reports : reports_in old.reports.entries ≡ c.args.self.now.reports = search rules in
     let none : report_at c.args.run c.args.self.now.reports ≡ None = sym (c.in_default.ensures.value ∙ lookup-report _ _ c.args.run _ c.self.invariant.are_held ∙ ap (report_at c.args.run) reports) in
-    shown old.program c.args.self.now.program old.branches c.args.self.now.branches _ (relabelled c.args.run c.args.label c.args.self.now.reports) (search rules) (search rules)
+    shown old.program c.args.self.now.program old.branches c.args.self.now.branches _ (report_relabelled c.args.run c.args.label c.args.self.now.reports) (search rules) (search rules)
     (ap (λ m. reports_in m.entries) c.get_mut.follows.holds-at-none ∙ reports ∙ sym (relabelled-none c.args.run c.args.label c.args.self.now.reports none))
 
 pub returns-clause-found : goal.returns-clause-found
@@ -40,8 +40,8 @@ returns-clause-after c =
     let reports : reports_in old.reports.entries ≡ c.args.self.now.reports = search rules in
     let found : report_at c.args.run (reports_in old.reports.entries) ≡ Some c.in-Some.report.now = sym (c.in-Some.ensures.value ∙ lookup-report _ _ c.args.run _ c.self.invariant.are_held) in
     let written = (c.get_mut.follows.holds (with_label c.args.label c.in-Some.report.now)).0 in
-    shown old.program c.args.self.now.program old.branches c.args.self.now.branches _ (relabelled c.args.run c.args.label c.args.self.now.reports) (search rules) (search rules)
-    (ap reports_in written ∙ values-set old.program old.branches c.args.run c.args.label c.in-Some.report.now old.reports.entries c.self.invariant.are_held found ∙ ap (relabelled c.args.run c.args.label) reports)
+    shown old.program c.args.self.now.program old.branches c.args.self.now.branches _ (report_relabelled c.args.run c.args.label c.args.self.now.reports) (search rules) (search rules)
+    (ap reports_in written ∙ values-set old.program old.branches c.args.run c.args.label c.in-Some.report.now old.reports.entries c.self.invariant.are_held found ∙ ap (report_relabelled c.args.run c.args.label) reports)
 
 pub invariant_of-self-2 : goal.invariant_of-self-2
 invariant_of-self-2 c =

@@ -1,5 +1,5 @@
 use Rattle.std.proofs.Common.{◌≡◌, codes, get_or, sym, ◌∙◌, rules}
-use Rattle.collector.specs.Grammar.{closed}
+use Rattle.collector.specs.Grammar.{current_report_closed}
 use Rattle.collector.specs.declared.draft.Due.TheVariants as due
 use Rattle.collector.proofs.Choices.{only-end, only-run, only-site}
 use Rattle.collector.proofs.draft.Draft.take_line.Goals as goal
@@ -8,7 +8,7 @@ pub returns-then-eq-clause-only : goal.returns-then-eq-clause-only
 returns-then-eq-clause-only c = λ next s.
     let d = c.args.self.now in
     let line : c.args.line.now ≡ codes "end" = search rules in
-    let new : record c.close.new.self { due = due.Nothing } ≡ record (closed d) { due = due.Nothing } = search rules in
+    let new : record c.close.new.self { due = due.Nothing } ≡ record (current_report_closed d) { due = due.Nothing } = search rules in
     new ∙ sym (only-end d c.args.line.now next line s).after_is
 
 pub returns-then-begins_run-clause-only : goal.returns-then-begins_run-clause-only

@@ -2,7 +2,7 @@ use Rattle.std.proofs.Common.{◌≡◌, ℕ, ◌<◌, Bool, true, false, List, 
 use Rattle.std.specs.Prelude.{get_or, set}
 use Rattle.std.proofs.lemmas.List.{with_items_is}
 use Rattle.compound_bits.specs.Bits.{facts_of, with_bit, with_bit_if}
-use Rattle.compound_bits.specs.Facts.{Fact, no_fact, seen}
+use Rattle.compound_bits.specs.Facts.{Fact, no_fact, fact_seen}
 use Rattle.compound_bits.proofs.Rows.{length-facts, seen-facts}
 use Rattle.compound_bits.proofs.row.FactRow.see.Goals as goal
 
@@ -16,12 +16,12 @@ set-requires-then-truth c =
 
 -- the view of the words with the new bits
 seen-view : (wanted truth : Bool) (place : ℕ) (ts ks ts' ks' : List ℕ) (facts : List Fact) → length ts ≡ length ks → place < length facts → facts_of ts ks ≡ facts
-    → truth ≡ wanted → ts' ≡ with_bit_if wanted place ts → ks' ≡ with_bit place ks → facts_of ts' ks' ≡ set facts place (seen truth (get_or facts place no_fact))
+    → truth ≡ wanted → ts' ≡ with_bit_if wanted place ts → ks' ≡ with_bit place ks → facts_of ts' ks' ≡ set facts place (fact_seen truth (get_or facts place no_fact))
 seen-view wanted truth place ts ks ts' ks' facts same h view is t k =
     ap (λ xs. facts_of xs ks') t ∙ ap (facts_of (with_bit_if wanted place ts)) k
     ∙ seen-facts wanted place ts ks same (omega (arith, ap length view, length-facts ts ks same, h))
-    ∙ ap (λ fs. set fs place (seen wanted (get_or fs place no_fact))) view
-    ∙ ap (λ b. set facts place (seen b (get_or facts place no_fact))) (sym is)
+    ∙ ap (λ fs. set fs place (fact_seen wanted (get_or fs place no_fact))) view
+    ∙ ap (λ b. set facts place (fact_seen b (get_or facts place no_fact))) (sym is)
 
 pub returns-then-truth : goal.returns-then-truth
 returns-then-truth c =

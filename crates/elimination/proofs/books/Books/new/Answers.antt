@@ -4,7 +4,7 @@ use Rattle.std.proofs.lemmas.List.{length-map}
 use Rattle.report_file.specs.declared.report.Report.{Report}
 use Rattle.elimination.specs.declared.books.Slot.{Slot}
 use Rattle.elimination_tallies.specs.declared.labelled.LabelledRun.{LabelledRun}
-use Rattle.elimination_tallies.specs.Recount.{failing_runs, labelled, runs_of}
+use Rattle.elimination_tallies.specs.Recount.{failing_runs, run_of_report, runs_of}
 use Rattle.elimination_tallies.specs.Runs.{AreEntriesOf, reports_after}
 use Rattle.elimination.specs.Slots.{left_of}
 use Rattle.elimination_tallies.specs.Tallies.{AreRecounts}
@@ -24,15 +24,15 @@ loop-report-smaller c = omega (arith, c.in-Some.ensures.later, c.loop-report.inv
 pub overflow_add-failing : goal.overflow_add-failing
 overflow_add-failing c =
     let all = runs_of c.args.collection.now.reports in
-    let r = labelled c.in-Some.report.now in
+    let r = run_of_report c.in-Some.report.now in
     let rest = runs_of (reports_after c.in-Some.report.now.run c.args.collection.now.reports) in
     let so_far = subst (λ (rs : List Report). Gathered c.args.collection.now.branches c.loop-report.slots.items c.loop-report.failing (runs_of rs) all) c.in-Some.ensures.value c.loop-report.invariant.0 in
-    omega (arith, c.failures-failing.ensures, gathered-next-fails c.args.collection.now.branches c.loop-report.slots.items c.loop-report.failing r rest all so_far, length-map c.args.collection.now.reports labelled, c.reports_held-left.ensures)
+    omega (arith, c.failures-failing.ensures, gathered-next-fails c.args.collection.now.branches c.loop-report.slots.items c.loop-report.failing r rest all so_far, length-map c.args.collection.now.reports run_of_report, c.reports_held-left.ensures)
 
 pub loop-report-preserved : goal.loop-report-preserved
 loop-report-preserved c =
     let all = runs_of c.args.collection.now.reports in
-    let r = labelled c.in-Some.report.now in
+    let r = run_of_report c.in-Some.report.now in
     let rest = runs_of (reports_after c.in-Some.report.now.run c.args.collection.now.reports) in
     let so_far = subst (λ (rs : List Report). Gathered c.args.collection.now.branches c.loop-report.slots.items c.loop-report.failing (runs_of rs) all) c.in-Some.ensures.value c.loop-report.invariant.0 in
     let items : c.push.new.self.items ≡ c.loop-report.slots.items ++ new_slot r ∷ [] = c.in_ok-push.ensures.items ∙ ap (λ (x : LabelledRun). c.loop-report.slots.items ++ new_slot x ∷ []) c.in_ok-labelled.ensures in
@@ -50,8 +50,8 @@ returns-clause-books c =
     record {
       recounts = subst (λ (rs : List LabelledRun). AreRecounts c.args.tallies.branches rs c.args.tallies) (sym runs) (subst (λ (xs : List Bool). AreRecounts xs all c.args.tallies) same table);
       failing = omega (arith, end.failing_are, ap failing_runs runs);
-      left = omega (arith, c.reports_held-left.ensures, ap length runs, length-map c.args.collection.now.reports labelled);
-      few = omega (arith, c.reports_held-left.ensures, end.as_many, length-map c.args.collection.now.reports labelled);
+      left = omega (arith, c.reports_held-left.ensures, ap length runs, length-map c.args.collection.now.reports run_of_report);
+      few = omega (arith, c.reports_held-left.ensures, end.as_many, length-map c.args.collection.now.reports run_of_report);
       runs = subst (λ (xs : List Bool). All (λ (s : Slot). AreEntriesOf xs s.run.entries) c.loop-report.slots.items) same end.entries;
     }
 

@@ -7,7 +7,7 @@ use Rattle.report_file.specs.declared.report.Entry.{Entry}
 use Rattle.elimination.specs.declared.books.Books.{Books}
 use Rattle.elimination.specs.declared.books.Slot.{Slot}
 use Rattle.elimination.specs.Elimination.{is_taken}
-use Rattle.elimination.specs.Slots.{change_of, pending, stepped_slot, taken_slot, takes_slot}
+use Rattle.elimination.specs.Slots.{change_of, slot_entries_taken, stepped_slot, taken_slot, takes_slot}
 use Rattle.elimination_tallies.specs.Tallies.{AllowsEntries, ChangedByAll}
 use Rattle.elimination.proofs.BooksLemmas.{IsTaken, step-allowed, step-books, step-fails, step-length}
 use Rattle.elimination.proofs.books.Books.step.Goals as goal
@@ -70,4 +70,4 @@ returns-clause-steps g c = λ x is.
     c.take_entries.ensures.steps
     ∙ ap (λ n. c.args.steps.now + n)
     (ap length c.as_slice-entries.ensures ∙ sym (cond-true (takes_slot b.tallies.branches c.args.policy c.args.leader s) (length s.run.entries) 0 (sym c.if-not-takes.ensures))
-    ∙ ap (pending b.tallies.branches c.args.policy c.args.leader) (same_Some s x (sym stands ∙ is)))
+    ∙ ap (slot_entries_taken b.tallies.branches c.args.policy c.args.leader) (same_Some s x (sym stands ∙ is)))

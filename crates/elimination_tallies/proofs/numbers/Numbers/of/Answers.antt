@@ -1,7 +1,7 @@
 use Rattle.std.proofs.Common.{◌≡◌, Bool, List, [], sym, ap, subst, ◌∙◌, arith}
 use Rattle.std.proofs.lemmas.List.{length-map}
 use Rattle.report_file.specs.declared.report.Report.{Report}
-use Rattle.elimination_tallies.specs.Recount.{labelled, runs_of}
+use Rattle.elimination_tallies.specs.Recount.{run_of_report, runs_of}
 use Rattle.elimination_tallies.specs.Runs.{reports_after}
 use Rattle.collector.specs.Sites.{branches_of}
 use Rattle.elimination_tallies.specs.Tallies.{AllowsEntries, AreRecounts, ChangedByAll, counted_as}
@@ -24,11 +24,11 @@ loop-report-init c =
 
 pub change_all-requires-clause-allows : goal.change_all-requires-clause-allows
 change_all-requires-clause-allows c =
-    let r = labelled c.in-Some.report.now in
+    let r = run_of_report c.in-Some.report.now in
     let rest = runs_of (reports_after c.in-Some.report.now.run c.args.collection.now.reports) in
     let all = runs_of c.args.collection.now.reports in
     let summed = subst (λ (rs : List Report). AreSummed c.args.collection.now.branches (runs_of rs) all c.loop-report.numbers) c.in-Some.ensures.value c.loop-report.invariant.0 in
-    let allowed = summed-allows c.args.collection.now.branches r rest all c.loop-report.numbers summed c.in-Some.ensures.entries (omega (arith, length-map c.args.collection.now.reports labelled, c.reports_held-held.ensures)) in
+    let allowed = summed-allows c.args.collection.now.branches r rest all c.loop-report.numbers summed c.in-Some.ensures.entries (omega (arith, length-map c.args.collection.now.reports run_of_report, c.reports_held-held.ensures)) in
     subst (λ (k : Counted). AllowsEntries (PutIn k) c.as_slice.result.now c.loop-report.numbers) (sym c.counted_as-counted.ensures)
     (subst (λ (es : List Entry). AllowsEntries (PutIn (counted_as r.label)) es c.loop-report.numbers) (sym c.as_slice.ensures) allowed)
 
@@ -37,7 +37,7 @@ loop-report-smaller c = omega (arith, c.in-Some.ensures.later, c.loop-report.inv
 
 pub loop-report-preserved : goal.loop-report-preserved
 loop-report-preserved c =
-    let r = labelled c.in-Some.report.now in
+    let r = run_of_report c.in-Some.report.now in
     let rest = runs_of (reports_after c.in-Some.report.now.run c.args.collection.now.reports) in
     let all = runs_of c.args.collection.now.reports in
     let summed = subst (λ (rs : List Report). AreSummed c.args.collection.now.branches (runs_of rs) all c.loop-report.numbers) c.in-Some.ensures.value c.loop-report.invariant.0 in

@@ -1,7 +1,7 @@
 use Rattle.std.proofs.Common.{IfNone, IfSome, subst, arith}
 use Rattle.std.proofs.lemmas.List.{length-map}
 use Rattle.elimination_tallies.specs.Leading.{IsLeader, NonePasses}
-use Rattle.elimination_tallies.specs.Recount.{labelled, runs_of}
+use Rattle.elimination_tallies.specs.Recount.{run_of_report, runs_of}
 use Rattle.elimination_tallies.proofs.RecountLemmas.{recounts-scanned}
 use Rattle.session.specs.Session.{SessionState}
 use Rattle.session.proofs.Changes.{few-fail, leader-is, none-is}
@@ -10,7 +10,7 @@ use Rattle.session.proofs.session.Session.leader.Goals as goal
 pub leader_in-requires-clause-tallies : goal.leader_in-requires-clause-tallies
 leader_in-requires-clause-tallies c =
     let held = c.self.inside.collection in
-    recounts-scanned held.branches (runs_of held.reports) c.self.inside.kept.numbers c.self.inside.kept.failing c.self.invariant.recounts (omega (arith, c.keeps.ensures.few, length-map held.reports labelled)) c.self.invariant.failing
+    recounts-scanned held.branches (runs_of held.reports) c.self.inside.kept.numbers c.self.inside.kept.failing c.self.invariant.recounts (omega (arith, c.keeps.ensures.few, length-map held.reports run_of_report)) c.self.invariant.failing
 
 pub leader_in-requires-clause-failing : goal.leader_in-requires-clause-failing
 leader_in-requires-clause-failing c = omega (arith, few-fail c.self.inside.collection c.keeps.ensures, c.self.invariant.failing)
