@@ -2,7 +2,7 @@
 use crate::runs::{expect_lines, tell_program};
 use cases_rows::{Page, has_any, has_head, rest_of};
 use cbi_base::{Observation, Seen};
-use probes::{FirstSeen, Hottest, LastSeen, Probe, see_all};
+use probes::{FirstSeen, Hottest, LastSeen, Probe, tell_all};
 
 /// Tells what isn't as the row says of its program, or of the sites that it lets three watchers see.
 pub fn tell_watched(texts: &str, row: &str, told: &mut Page) {
@@ -23,7 +23,7 @@ pub fn tell_watched(texts: &str, row: &str, told: &mut Page) {
         if let Ok(site) = word.parse::<u64>() {
             let site = u32::try_from(site).unwrap_or(u32::MAX);
             let seen = Seen::First;
-            told.done(see_all(&mut probes, Observation { site, seen }));
+            told.done(tell_all(&mut probes, &[Observation { site, seen }]));
         }
     }
     if has_head(row, "sees") {

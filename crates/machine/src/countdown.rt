@@ -1,4 +1,4 @@
-ghost use Rattle.std.specs.Prelude.{◌≡◌, ◌<◌, ◌≤◌};
+ghost use Rattle.std.specs.Prelude.{◌≡◌, ◌<◌, ◌≤◌, IfOk};
 ghost use Rattle.flow.specs.declared.node.View.TheVariants as view;
 ghost use Rattle.flow.specs.Fits.{IsLater};
 ghost use Rattle.machine.specs.Force.{force_in, set_countdown};
@@ -95,6 +95,8 @@ pub fn import(
     ensures next { ViewFollows program.now (view.Imports next) place state.old result state.new }
     ensures nearer { NearsItsEnd place state.old result state.new }
     ensures running { IsRunning program.now state.old → IsRunning program.now state.new }
+    ensures goes { IfOk result (λ to. to ≡ next) }
+    ensures kept { state.new ≡ record state.old { copy = state.new.copy } }
 {
     state.copy = Some(state.countdown);
     Ok(next)
@@ -113,6 +115,8 @@ pub fn export(
     ensures next { ViewFollows program.now (view.Exports next) place state.old result state.new }
     ensures nearer { NearsItsEnd place state.old result state.new }
     ensures running { IsRunning program.now state.old → IsRunning program.now state.new }
+    ensures goes { IfOk result (λ to. to ≡ next) }
+    ensures kept { state.new ≡ record state.old { copy = state.new.copy; countdown = state.new.countdown } }
 {
     let Some(copy) = state.copy else {
         return Err(Stop::from(Trap::Internal));

@@ -6,6 +6,7 @@ mod countdown;
 mod look;
 mod pending;
 mod runs;
+mod several;
 mod start;
 mod state;
 mod step;

@@ -48,10 +48,6 @@ AllGrew-end seen more place old new past below = record {
   each = λ k before after was stands. below.told k before after (omega (arith, slice_get_within new k after stands)) was stands;
 }
 
--- what was told nothing was told a prefix
-pub GrewByPrefix-none : (more before after : List Observation) → after ≡ before → GrewByPrefix more before after
-GrewByPrefix-none more before after same = record { cut = 0; is = same ∙ sym (append-nil before) }
-
 -- the one at the place was told a prefix, and those after it were not reached
 pub AllGrewByPrefix-stop : {B : Type 0} (seen : B → List Observation) (more : List Observation) (place : ℕ) (old now : List B) (b c : B)
     → place < length now → slice_get now place ≡ Some b → GrewByPrefix more (seen b) (seen c) → GrewBelow seen more place old now → AllGrewByPrefix seen more old (slice_set now place c)

@@ -14,4 +14,4 @@ pub use history::packed_observations_are_read;
 pub use hottest::{Hottest, hottest_leads};
 pub use last_seen::LastSeen;
 pub use probe::Probe;
-pub use told::{push_lines, see_all, tell_all};
+pub use told::{push_lines, tell_all};

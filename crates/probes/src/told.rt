@@ -5,33 +5,6 @@ ghost use Rattle.probes.specs.Told.{AllGrew, AllGrewByPrefix, GrewByPrefix};
 use crate::probe::Probe;
 use cbi_base::{Memory, Observation};
 
-/// Tells one watcher.
-fn see_one(probe: &mut Box<dyn Probe>, observation: Observation) -> Result<(), Memory>
-    ensures ok { OnOk result (seen probe.new ≡ seen probe.old ++ observation ∷ []) }
-    ensures memory { OnErr result (seen probe.new ≡ seen probe.old) }
-{
-    probe.see(observation)
-}
-
-/// Tells each of these watchers, in order.
-fn see_each(probes: &mut [Box<dyn Probe>], observation: Observation) -> Result<(), Memory>
-    ensures ok { OnOk result (AllGrew (λ b. seen b) (observation ∷ []) probes.old probes.new) }
-    ensures memory { OnErr result (AllGrewByPrefix (λ b. seen b) (observation ∷ []) probes.old probes.new) }
-{
-    for probe in probes.iter_mut() {
-        see_one(probe, observation)?;
-    }
-    Ok(())
-}
-
-/// Tells each watcher an observation. After `Memory` some of them were told it, and the others are as before.
-pub fn see_all(probes: &mut Vec<Box<dyn Probe>>, observation: Observation) -> Result<(), Memory>
-    ensures ok { OnOk result (AllGrew (λ b. seen b) (observation ∷ []) probes.old.items probes.new.items) }
-    ensures memory { OnErr result (AllGrewByPrefix (λ b. seen b) (observation ∷ []) probes.old.items probes.new.items) }
-{
-    see_each(probes.as_mut_slice(), observation)
-}
-
 /// Tells one watcher several.
 fn tell_one(probe: &mut Box<dyn Probe>, observations: &[Observation]) -> Result<(), Memory>
     ensures ok { OnOk result (seen probe.new ≡ seen probe.old ++ observations.now) }

@@ -1,7 +1,0 @@
-use Rattle.std.proofs.Common.{[], ◌∷◌}
-use Rattle.probes.proofs.Growing.{GrewBelow}
-use Rattle.probes.proofs.told.see_each.Given as goal
-
--- the watchers so far were told
-abbrev pub invariant-loop-probe : goal.invariant-loop-probe
-invariant-loop-probe g l = GrewBelow (λ b. (goal.Probe-dyn g (b.vtable, b.value)).seen b.value) (l.observation ∷ []) l.probe-index l.fn.probes l.probes
