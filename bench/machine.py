@@ -5,10 +5,13 @@ usage: machine.py [--instructions] CBI      where CBI is the built tool (README.
 
 Each program is written here as nodes; a label names the node after it. Printed are the processor seconds of the process and the most
 memory that it held, and for Lua the same, where lua5.4 is on the path. With --instructions those of a turn are printed, of a call or of a store, as
-the difference of two runs over the turns between them, as callgrind counts them.
+the difference of two runs over the turns between them, as callgrind counts them; and which functions of strides the compiler left outside the one
+loop, where each turn pays for the call.
 """
 import os
+import re
 import shutil
+import subprocess
 import sys
 import tempfile
 import time
@@ -74,6 +77,17 @@ def measured(words: List[str]) -> Tuple[int, float, int]:
     return best.status, best.seconds, best.memory
 
 
+def print_apart(tool: str) -> None:
+    """Prints the functions of strides that stand outside the loop in this executable, where nm is there (Debian's `binutils`)."""
+    nm = shutil.which("nm")
+    if not nm:
+        print("there is no nm: which functions stand outside the loop isn't told")
+        return
+    names = subprocess.run([nm, tool], stdout=subprocess.PIPE, check=True).stdout.decode("ascii", "replace")
+    apart = re.findall(r"\b(?:machine_strides|machine::strides|machine::several)::\S+", names)
+    print("outside the loop:", " ".join(sorted(apart)) or "none")
+
+
 def count_instructions(tool: str, folder: str) -> None:
     for name, (few, many, more) in PAIRS.items():
         counts = []
@@ -86,6 +100,7 @@ def count_instructions(tool: str, folder: str) -> None:
                 sys.exit("there is no valgrind: Debian's package of that name has it")
             counts.append(count)
         print(f"{name:8} {(counts[1] - counts[0]) / more:7.1f} instructions", flush=True)
+    print_apart(tool)
 
 
 def time_programs(tool: str, folder: str) -> None:
