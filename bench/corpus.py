@@ -1,7 +1,8 @@
 #!/usr/bin/env python3
 """Measures how far the rows of `cbi` are from known faults, beside coverage-based ranking on the same runs.
 
-usage: corpus.py CBI [--faults all|open|kept] [--runs N,..] [--rates D,..] [--again N,K] [--three N,..] [--table NAME:N,..] [--jobs N] [--results FILE] [--write FILE ..] [NAME ..]
+usage: corpus.py CBI [--faults all|open|kept|new] [--runs N,..] [--rates D,..] [--again N,K] [--three N,..] [--table NAME:N,..] [--jobs N] [--results FILE] [--write FILE ..] [NAME ..]
+       corpus.py --from FILE [--write FILE ..]
 
 Each fault of `bench/corpus/` is put in, and run on N inputs made from a seed (100, 1,000 and 10,000), whose due outputs are those of the right
 version as gcc builds it: with each visit observed, and with banks of mean distance D (1, 5 and 100), and at these N runs (1,000) with K on an
@@ -9,6 +10,7 @@ input (10). gcc's build of the same text is run on the same inputs, and gcov tel
 have them all at once, too (1,000 runs), and one of them has its table of rows and faults (allocator, 3,000 and 30,000 runs).
 Results are kept as JSON in FILE, and a second call with the same FILE measures what isn't there yet; what was measured stands in FILE.lines
 at once. With --write the tables and plots of docs/EVIDENCE.md, or what README has of it, are made anew of them. What the columns mean stands there.
+With --from they are made of what FILE has, and nothing is measured.
 """
 import argparse
 import json
@@ -19,18 +21,17 @@ import sys
 import tempfile
 import time
 from concurrent.futures import FIRST_COMPLETED, Executor, Future, ProcessPoolExecutor, wait
-from typing import Any, Dict, Iterator, List, NamedTuple, Set, Tuple
+from typing import Dict, Iterator, List, NamedTuple, Set, Tuple
 
 import corpus_tables
 from corpus_files import Subject, names, read_subject
 from corpus_gcc import CoverageError
 from corpus_measure import TOLD_RUNS, Measure
+from corpus_results import PARTS, Results, ResultsError, keep, load
 from corpus_runs import CallError, Runs, processor_seconds
 from corpus_subject import Bench, NotTaken, inputs_in, make_inputs
 from corpus_three import Three
 
-Results = Dict[str, Any]
-PARTS = ("programs", "faults", "three", "tables", "not taken", "seconds", "processor")
 IN_MEMORY = "/dev/shm"
 ROOM = 8 << 30
 RIGHT_RUNS = 100
@@ -88,9 +89,9 @@ def table(text: str) -> Tuple[str, List[int]]:
 
 
 def arguments() -> argparse.Namespace:
-    parser = argparse.ArgumentParser(usage=(__doc__ or "").split("\n")[2].replace("usage: ", ""))
-    parser.add_argument("cbi")
-    parser.add_argument("--faults", choices=("all", "open", "kept"), default="open")
+    parser = argparse.ArgumentParser(usage="\n".join((__doc__ or "").split("\n")[2:4]).replace("usage: ", ""))
+    parser.add_argument("cbi", nargs="?")
+    parser.add_argument("--faults", choices=("all", "open", "kept", "new"), default="open")
     parser.add_argument("--runs", type=numbers, default=[100, 1000, 10000])
     parser.add_argument("--rates", type=numbers, default=[1, 5, 100])
     parser.add_argument("--again", type=numbers, default=[1000, 10])
@@ -99,22 +100,27 @@ def arguments() -> argparse.Namespace:
     parser.add_argument("--seed", type=int, default=1)
     parser.add_argument("--jobs", type=int, default=os.cpu_count() or 1)
     parser.add_argument("--results")
+    parser.add_argument("--from", dest="made", metavar="FILE")
     parser.add_argument("--write", action="append")
     parser.add_argument("names", nargs="*")
     chosen = parser.parse_intermixed_args()
-    chosen.cbi = os.path.abspath(chosen.cbi)
+    if bool(chosen.cbi) == bool(chosen.made) or chosen.made and chosen.results:
+        parser.error("either CBI, which measures, or --from FILE, which measures nothing")
+    if chosen.made and not os.path.isfile(chosen.made):
+        parser.error(f"--from {chosen.made}: there is no such file")
+    chosen.cbi = os.path.abspath(chosen.cbi or "")
     return chosen
 
 
 def whole(found: Results, chosen: argparse.Namespace) -> bool:
-    return all(f"truth {rate} {count}" in found["ways"] for rate in chosen.rates for count in chosen.runs)
+    return all(f"chi {rate} {count}" in found["ways"] for rate in chosen.rates for count in chosen.runs)
 
 
 def missing(subject: Subject, chosen: argparse.Namespace, known: Results) -> Work:
     """What is to be measured of a program, and isn't yet."""
-    of_kind = [fault for fault in subject.faults if chosen.faults == "all" or fault.kept == (chosen.faults == "kept")]
+    of_kind = [fault for fault in subject.faults if fault.group() in (("open", "kept") if chosen.faults == "all" else (chosen.faults,))]
     faults = [fault.name for fault in of_kind if not (fault.title() in known["faults"] and whole(known["faults"][fault.title()], chosen))]
-    opened = bool(subject.three()) and chosen.faults != "kept"
+    opened = bool(subject.three()) and chosen.faults not in ("kept", "new")
     three = [count for count in chosen.three if opened and f"{subject.name} {count}" not in known["three"]]
     tables = [count for count in chosen.table[1] if opened and subject.name == chosen.table[0] and f"{subject.name} {count}" not in known["tables"]]
     return Work(subject.name, False, tuple(faults), tuple(three), tuple(tables), chosen)
@@ -170,26 +176,6 @@ def add(found: Results, chosen: argparse.Namespace, part: str, name: str, measur
         print(f"{time.strftime('%H:%M:%S')} {part} {name}: {measured['failed']} of {measured['runs']} runs failed", file=sys.stderr, flush=True)
 
 
-def load(path: str) -> Results:
-    results: Results = {part: {} for part in PARTS}
-    if path and os.path.exists(path):
-        with open(path, encoding="ascii") as file:
-            results.update(json.load(file))
-    if path and os.path.exists(path + ".lines"):
-        with open(path + ".lines", encoding="ascii") as file:
-            for line in file:
-                part, name, found = json.loads(line)
-                results[part][name] = found
-    return results
-
-
-def keep(path: str, results: Results) -> None:
-    if path:
-        with open(path + ".part", "w", encoding="ascii") as file:
-            json.dump(results, file, indent=0, sort_keys=True)
-        os.replace(path + ".part", path)
-
-
 def take(results: Results, done: Done, which: str) -> float:
     """Adds what was measured to the results, and tells of it; answers how many seconds of a processor it took."""
     name, title = done.work.name, done.work.title()
@@ -237,10 +223,14 @@ def measure_all(chosen: argparse.Namespace, work: List[Work], results: Results) 
 
 def main() -> int:
     chosen = arguments()
-    results = load(chosen.results)
-    work = [one for one in (missing(read_subject(name), chosen, results) for name in chosen.names or names()) if one.size()]
-    if work:
-        measure_all(chosen, work, results)
+    try:
+        results = load(chosen.made or chosen.results)
+    except ResultsError as error:
+        sys.exit(f"corpus.py: {error}")
+    if not chosen.made:
+        work = [one for one in (missing(read_subject(name), chosen, results) for name in chosen.names or names()) if one.size()]
+        if work:
+            measure_all(chosen, work, results)
     print(corpus_tables.summary(results))
     if chosen.write:
         corpus_tables.write_documents(results, chosen.write)

@@ -1,11 +1,12 @@
 #!/usr/bin/env python3
 """Looks whether the corpus is what it says: right versions without a warning, faults that some runs show.
 
-usage: corpus_check.py [--runs N] [--seed S] [--numbers] [NAME ..]
+usage: corpus_check.py [--runs N] [--seed S] [--numbers] [--new] [NAME ..]
 
 Each right version is built by gcc -Wall -Wextra with its checks of addresses and of undefined behaviour, and run on N inputs (300), where none of them
-may find anything. Then each fault is put in, and it is told how many of these inputs fail: by a check, or by other output. With --numbers
-the files of faults are written anew, with the numbers of their lines. The status is 1 where something isn't as it should be.
+may find anything. Then each fault is put in, with --new each of the second set that is kept back alone, and it is told how many of these inputs
+fail: by a check, or by other output. With --numbers the files of faults are written anew, with the numbers of their lines. The status is 1 where
+something isn't as it should be.
 """
 import argparse
 import os
@@ -57,8 +58,8 @@ def check_fault(subject: Subject, fault: Fault, folder: str, inputs: List[bytes]
     return f"  {fault.kind:24} {fault.name:32} {fails}"
 
 
-def check(subject: Subject, folder: str, runs: int, seed: int) -> bool:
-    """Tells of a program; answers whether its right version is right."""
+def check(subject: Subject, folder: str, runs: int, seed: int, new: bool) -> bool:
+    """Tells of a program and its faults, or of its new ones alone; answers whether its right version is right."""
     inputs = subject.inputs(runs, seed)
     program, said = built(folder, subject.name, subject.text())
     done = [run(program, given) for given in inputs]
@@ -70,7 +71,7 @@ def check(subject: Subject, folder: str, runs: int, seed: int) -> bool:
         print(said)
     for place in bad[:2]:
         print(f"  input {place}: status {done[place].status} {done[place].said[:400]}\n  {inputs[place]!r}")
-    for fault in subject.faults:
+    for fault in [fault for fault in subject.faults if fault.new or not new]:
         print(check_fault(subject, fault, folder, inputs, [one.output for one in done]), flush=True)
     if subject.three():
         built(folder, subject.name + "_three", subject.text(subject.three()))
@@ -82,6 +83,7 @@ def main() -> int:
     parser.add_argument("--runs", type=int, default=300)
     parser.add_argument("--seed", type=int, default=1)
     parser.add_argument("--numbers", action="store_true")
+    parser.add_argument("--new", action="store_true")
     parser.add_argument("names", nargs="*")
     chosen = parser.parse_args()
     right = True
@@ -90,7 +92,7 @@ def main() -> int:
             with open(os.path.join(CORPUS, subject.name, "faults"), "w", encoding="ascii") as file:
                 file.write(spelled(subject))
         with tempfile.TemporaryDirectory() as folder:
-            right &= check(subject, folder, chosen.runs, chosen.seed)
+            right &= check(subject, folder, chosen.runs, chosen.seed, chosen.new)
     return 0 if right else 1
 
 

@@ -5,12 +5,15 @@
     fault NAME
     kind KIND
     kept                    where the fault is one of those that are kept back for the last measurement
+    new                     where it is one of the second set that is kept back, of which no ranking was looked at
+    in FUNCTION, ..         of a new fault: the functions that its lines belong to
     alone                   where it isn't one of the three of its program that are put in at once
     says SENTENCE
     LINE- TEXT              the line as it stands, without the blanks before it
     LINE+ TEXT              and what stands there in its place, which may be nothing
 
-A fault replaces one to three lines and never changes how many there are, so that a line has one number in all versions of a program.
+A fault replaces one to three lines, a new one up to six, and never changes how many there are, so that a line has one number in all versions of
+a program. Where code is missing its lines are empty, and a statement that is too much stands behind the one of its line.
 """
 import importlib.util
 import os
@@ -22,6 +25,8 @@ HERE = os.path.dirname(os.path.abspath(__file__))
 CORPUS = os.path.join(HERE, "corpus")
 KINDS = ("off by one", "missing check", "wrong operator", "wrong variable", "missing initialisation", "use after free", "wrong order", "missing case",
          "wrong constant", "integer overflow", "two facts at once", "rare")
+NEW_KINDS = ("missing statement", "missing call", "missing block", "two places", "one in a thousand", "extraneous code")
+WORDS = {"fault", "kind", "kept", "new", "in", "alone", "says"}
 CHANGE = re.compile(r"(\d*)([-+]) ?(.*)")
 
 
@@ -37,6 +42,11 @@ class Fault(NamedTuple):
     alone: bool
     says: str
     changes: Dict[int, str]
+    new: bool = False
+
+    def group(self) -> str:
+        """Which measurement it is of. A new fault counts as kept back everywhere else."""
+        return "new" if self.new else "kept" if self.kept else "open"
 
     def lines(self) -> List[int]:
         return sorted(self.changes)
@@ -98,18 +108,33 @@ def read_faults(name: str, lines: List[str], text: str) -> List[Fault]:
             else:
                 word, _, rest = line.partition(" ")
                 words[word] = rest
-        where = f"{name}/{words.get('fault', '?')}"
-        if words.get("kind") not in KINDS or not words.get("says") or not 1 <= len(changes) <= 3 or set(words) - {"fault", "kind", "kept", "alone", "says"}:
-            raise CorpusError(f"{where}: no fault")
-        faults.append(Fault(name, words["fault"], words["kind"], "kept" in words, "alone" in words, words["says"], changes))
+        faults.append(made_fault(name, lines, words, changes))
     return faults
+
+
+def made_fault(name: str, lines: List[str], words: Dict[str, str], changes: Dict[int, str]) -> Fault:
+    """A fault by what stands in its file, which is looked at."""
+    new = "new" in words
+    fault = Fault(name, words.get("fault", "?"), words.get("kind", ""), new or "kept" in words, "alone" in words, words.get("says", ""), changes, new)
+    if fault.kind not in (NEW_KINDS if new else KINDS) or not fault.says or not 1 <= len(changes) <= (6 if new else 3) or set(words) - WORDS:
+        raise CorpusError(f"{fault.title()}: no fault")
+    if words.get("in", "") != (within(fault, lines) if new else ""):
+        raise CorpusError(f"{fault.title()}: its lines are in {within(fault, lines)}")
+    return fault
+
+
+def within(fault: Fault, lines: List[str]) -> str:
+    """The functions of a fault's lines, in their order."""
+    known = functions(lines)
+    return ", ".join(dict.fromkeys(known[line] for line in fault.lines() if line in known))
 
 
 def spelled(subject: Subject) -> str:
     """The faults of a program as a file, with the numbers of their lines."""
     blocks = []
     for fault in subject.faults:
-        head = [f"fault {fault.name}", f"kind {fault.kind}"] + ["kept"] * fault.kept + ["alone"] * fault.alone + [f"says {fault.says}"]
+        group = ["new", f"in {within(fault, subject.lines)}"] if fault.new else ["kept"] * fault.kept
+        head = [f"fault {fault.name}", f"kind {fault.kind}", *group] + ["alone"] * fault.alone + [f"says {fault.says}"]
         for number in fault.lines():
             head += [f"{number}- {subject.lines[number - 1].strip()}", f"{number}+ {fault.changes[number]}".rstrip()]
         blocks.append("\n".join(head) + "\n")

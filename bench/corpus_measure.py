@@ -9,7 +9,7 @@ import corpus_scores as scores
 from corpus_collections import Collection, Read, observed, tallies
 from corpus_files import Fault
 from corpus_gcc import Covered
-from corpus_scores import Found, Place, Target
+from corpus_scores import Found, Place
 from corpus_subject import Bench, Known, best_pair, chosen_places, first_card, known_of, program_of, ranked, shown, without_pairs
 
 Measured = Dict[str, Any]
@@ -35,10 +35,12 @@ class Look:
         return spelled(scores.found_by_rows(places, self.target, self.coded, self.fault.lines(), self.bench.functions))
 
     def judge_lines(self, by_line: Dict[int, float]) -> Measured:
-        """Lines that have sites, in an order; the others are met by going around them, or not at all."""
-        found = spelled(scores.found_by_lines(by_line, self.target)) if by_line else spelled(Found(None, None, None, 1.0))
-        found["exam"] = found["walk"] = scores.walked_by_lines(by_line, self.target, self.coded)
-        return found
+        return spelled(scores.found_by_lines(by_line, self.target, self.coded))
+
+    def add_lines(self, name: str, by_line: Dict[int, float]) -> None:
+        """A list of lines as it comes, and with one line for each three around it."""
+        self.ways[name] = self.judge_lines(by_line)
+        self.ways[f"thin-{name}"] = spelled(scores.found_by_thinned(by_line, self.target, self.coded, self.bench.functions))
 
 
 class Measure:
@@ -64,7 +66,7 @@ class Measure:
         known = known_of(bench.built(fault.name, text))
         path, seconds = bench.collected(known.built, bench.some(self.most), 1, f"{fault.name}_rate1")
         covered, covering = bench.covered(f"cover_{fault.name}", text, self.most)
-        found: Measured = {"program": fault.program, "fault": fault.name, "kind": fault.kind, "kept": fault.kept, "coded": covered.lines, "ways": {}, "judged": {},
+        found: Measured = {"program": fault.program, "fault": fault.name, "kind": fault.kind, "kept": fault.kept, "new": fault.new, "coded": covered.lines, "ways": {}, "judged": {},
                            "site lines": {}, "times": {f"coverage {self.most}": covering, f"runs 1 {self.most}": seconds}}
         look = Look(bench, fault, known, covered.lines, found)
         labels, rows = self.by_predicates(look, path, 1)
@@ -95,10 +97,9 @@ class Measure:
             count, times = self.spread
             path, _ = self.bench.collected(built, self.bench.some(count, times), rate, f"{name}_again{rate}")
             collection = self.bench.read(built, path, [count])
-            reached, true = scores.by_line(tallies(collection, count, look.known.counters), look.lines)
             look.ways[f"again rows {rate} {count} {times}"] = look.judge(ranked(self.bench.runs, built, path).places)
-            look.ways[f"again reach {rate} {count} {times}"] = look.judge_lines(reached)
-            look.ways[f"again truth {rate} {count} {times}"] = look.judge_lines(true)
+            for name, by_line in scores.by_line(tallies(collection, count, look.known.counters), look.lines).items():
+                look.ways[f"again {name} {rate} {count} {times}"] = look.judge_lines(by_line)
             os.remove(path)
 
     def by_predicates(self, look: Look, path: str, rate: int) -> Tuple[List[str], List[Place]]:
@@ -138,9 +139,8 @@ class Measure:
     def without_elimination(self, look: Look, collection: Collection, rate: int, count: int) -> None:
         """Predicates, and lines by their predicates, where no run is set aside."""
         found, places = tallies(collection, count, look.known.counters), look.known.places
-        reached, true = scores.by_line(found, look.lines)
-        look.ways[f"reach {rate} {count}"] = look.judge_lines(reached)
-        look.ways[f"truth {rate} {count}"] = look.judge_lines(true)
+        for name, by_line in scores.by_line(found, look.lines).items():
+            look.add_lines(f"{name} {rate} {count}", by_line)
         look.ways[f"increase {rate} {count}"] = look.judge(chosen_places(places, scores.by_increase(found)))
         look.ways[f"importance {rate} {count}"] = look.judge(chosen_places(places, scores.by_importance(found)))
 
@@ -151,7 +151,5 @@ class Measure:
             failures = sum(failed for failed, _ in told)
             visits = scores.visits(told)
             for name, formula in scores.FORMULAS.items():
-                by_line = scores.suspicious(formula, look.coded, visits, failures, len(told) - failures)
-                look.ways[f"{name} {count}"] = spelled(scores.found_by_lines(by_line, look.target))
-                look.ways[f"{name} {count}"]["walk"] = scores.walked_by_lines(by_line, look.target, look.coded)
-        look.ways["chance"] = spelled(scores.found_by_chance(look.target, look.coded))
+                look.add_lines(f"{name} {count}", scores.suspicious(formula, look.coded, visits, failures, len(told) - failures))
+        look.found["right"] = dict(scores.right_lines(look.target, look.coded)._asdict())

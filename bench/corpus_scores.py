@@ -7,11 +7,13 @@ import math
 import random
 from collections import Counter
 from functools import lru_cache
-from typing import Callable, Dict, FrozenSet, Iterable, List, NamedTuple, Optional, Sequence, Set, Tuple
+from statistics import mean, median_high
+from typing import Callable, Dict, FrozenSet, Iterable, Iterator, List, NamedTuple, Optional, Sequence, Set, Tuple
 
 from corpus_collections import Tallies, Tally
 
 NEAR = 5
+APART = 3  # lines of a function that one line of a thinned list stands for, on each side
 QUANTILE = 1.96
 SHUFFLES = 5
 
@@ -35,11 +37,23 @@ class Target(NamedTuple):
 
 
 class Found(NamedTuple):
-    """The place of the first row that is right, from 1; None where none is."""
+    """The place of the first row or line that is right, from 1; None where none is.
+
+    `walk` and `alone` are shares of the lines with code that are looked at until a line of the fault: `walk` goes on at each place to the lines
+    around it, the same for rows and for lists of lines, and `alone` takes the lines of a list one by one, which rows don't allow."""
     line: Optional[float]
     near: Optional[float]
     function: Optional[float]
-    exam: float
+    walk: Optional[float] = None
+    alone: Optional[float] = None
+
+
+class Right(NamedTuple):
+    """How many lines have code, and how many of these are lines of the fault, near it, and in its function."""
+    coded: int
+    line: int
+    near: int
+    function: int
 
 
 def target_of(changed: Iterable[int], coded: Sequence[int], functions: Dict[int, str]) -> Target:
@@ -152,27 +166,59 @@ def expected(scores: Dict[int, float], wanted: Set[int]) -> Optional[float]:
     return above + (equal + 1) / (right + 1)
 
 
-def found_by_lines(scores: Dict[int, float], target: Target) -> Found:
-    line = expected(scores, target.lines)
-    return Found(line, expected(scores, target.near), expected(scores, target.function), (line or len(scores)) / len(scores))
+def found_by_lines(scores: Dict[int, float], target: Target, coded: Sequence[int]) -> Found:
+    """By a list of lines; a line that isn't in it stands behind it, where the order is by chance."""
+    every = {**{line: -math.inf for line in coded}, **scores}
+    alone = expected(every, target.lines)
+    return Found(expected(scores, target.lines), expected(scores, target.near), expected(scores, target.function),
+                 walked_by_lines(scores, target, coded), None if alone is None else alone / len(every))
 
 
-def walked_by_lines(scores: Dict[int, float], target: Target, coded: Sequence[int]) -> float:
-    """As `walked`, by lines and those around them; equals stand in an order by chance, and the mean of some orders is taken."""
+def orders(scores: Dict[int, float], coded: Sequence[int]) -> Iterator[List[int]]:
+    """Some orders of the lines by how suspicious they are, in each of which equals stand by chance."""
     chance = random.Random(1)
-    around = surroundings(coded)
-    total = 0.0
     for _ in range(SHUFFLES):
         order = list(coded)
         chance.shuffle(order)
-        order = [line for line in order if line in scores]
-        order.sort(key=lambda line: -scores[line])
-        total += walked(order, target.lines, coded, around)
-    return total / SHUFFLES
+        yield sorted((line for line in order if line in scores), key=lambda line: -scores[line])
 
 
-def found_by_chance(target: Target, coded: Sequence[int]) -> Found:
-    return found_by_lines({line: 0.0 for line in coded}, target)
+def walked_by_lines(scores: Dict[int, float], target: Target, coded: Sequence[int]) -> float:
+    """As `walked`, by lines and those around them: the mean of some orders."""
+    around = surroundings(coded)
+    return mean(walked(order, target.lines, coded, around) for order in orders(scores, coded))
+
+
+def thinned(order: Iterable[int], functions: Dict[int, str]) -> List[int]:
+    """The lines of an order without those that have one of their function before them in the list, at most three lines away."""
+    kept: List[int] = []
+    for line in order:
+        if not any(abs(line - one) <= APART and functions.get(line) == functions.get(one) for one in kept):
+            kept.append(line)
+    return kept
+
+
+def found_by_thinned(scores: Dict[int, float], target: Target, coded: Sequence[int], functions: Dict[int, str]) -> Found:
+    """By a thinned list; where equals make several, the median of some."""
+    several = [thinned(order, functions) for order in orders(scores, sorted({*coded, *scores}))]
+
+    def place(wanted: Set[int]) -> Optional[float]:
+        middle = median_high([next((number for number, line in enumerate(order, 1) if line in wanted), math.inf) for order in several])
+        return None if middle == math.inf else float(middle)
+
+    return Found(place(target.lines), place(target.near), place(target.function))
+
+
+# Lines by chance
+
+def right_lines(target: Target, coded: Sequence[int]) -> Right:
+    return Right(len(coded), len(target.lines), len(target.near), len(target.function))
+
+
+def within_by_chance(right: int, coded: int, most: int) -> float:
+    """How likely one of so many lines, drawn by chance out of all with code, is a right one: 1 - C(coded - right, most) / C(coded, most)."""
+    drawn = min(most, coded)
+    return 1 - math.comb(coded - right, drawn) / math.comb(coded, drawn)
 
 
 # Predicates without elimination
@@ -182,7 +228,7 @@ def increase(t: Tally) -> float:
 
 
 def passes(t: Tally) -> bool:
-    """The test of docs/RANKING.md."""
+    """The test of docs/METHOD.md."""
     a, b, c, d = t
     return a * d > b * c and (a * d - b * c) ** 2 * c * d * 10000 > 38416 * (a * (c - a) * d ** 3 + b * (d - b) * c ** 3)
 
@@ -205,14 +251,23 @@ def by_importance(found: Tallies) -> List[int]:
     return sorted(passing, key=lambda predicate: (-importance(found.of[predicate], found.failures), predicate))
 
 
-def by_line(found: Tallies, lines: Dict[int, Optional[int]]) -> Tuple[Dict[int, float], Dict[int, float]]:
-    """Ochiai of each line with a predicate: of how often failing runs came to it, and of its best predicate's truth."""
-    reached: Dict[int, float] = {}
-    true: Dict[int, float] = {}
+def strength(failing: int, successful: int, failures: int, successes: int) -> float:
+    """The chi-square of a fact and failing, over the number of runs: 1 where the fact is true in all failing and in no other runs; 0 where it is no sign of failing."""
+    true, ahead = failing + successful, failing * successes - successful * failures
+    below = failures * successes * true * (failures + successes - true)
+    return ahead * ahead / below if ahead > 0 and below else 0.0
+
+
+def by_line(found: Tallies, lines: Dict[int, Optional[int]]) -> Dict[str, Dict[int, float]]:
+    """Each line with a predicate, three ways: by Ochiai of how often failing runs came to it, and by Ochiai and by chi-square of its best predicate's truth."""
+    ways: Dict[str, Dict[int, float]] = {"reach": {}, "truth": {}, "chi": {}}
     for predicate, tally in found.of.items():
         line = lines[predicate]
         if line is None:
             continue
-        reached[line] = max(reached.get(line, 0.0), ochiai(tally.observed_failing, tally.observed_successful, found.failures, found.successes))
-        true[line] = max(true.get(line, 0.0), ochiai(tally.failing, tally.successful, found.failures, found.successes))
-    return reached, true
+        whole = found.failures, found.successes
+        scored = (("reach", ochiai(tally.observed_failing, tally.observed_successful, *whole)), ("truth", ochiai(tally.failing, tally.successful, *whole)),
+                  ("chi", strength(tally.failing, tally.successful, *whole)))
+        for way, score in scored:
+            ways[way][line] = max(ways[way].get(line, 0.0), score)
+    return ways

@@ -10,28 +10,26 @@ from typing import Any, Callable, Dict, List, Optional, Sequence, Tuple
 import corpus_plots
 import corpus_words as words
 from corpus_files import KINDS, read_corpus
-from corpus_words import capped, percent
+from corpus_words import by_lines_of_chance, capped, percent, table
 
 Results = Dict[str, Any]
+WITHIN = (("function", 5), ("line", 5), ("near", 1), ("near", 3), ("near", 5), ("near", 10))
 SHOWN = 1000  # runs of which tables without a number in their name and plots are made, where there are so many
 WAYS = (("rows {rate} {runs}", "`rank`"), ("shown {rate} {runs}", "`rank` as `cbi-hunt` shows it"), ("narrow {rate} {runs}", "`rank` of branches and returns alone"),
         ("card {rate} {runs}", "the first card of `cards`"), ("pair {rate} {runs}", "`pairs`"),
         ("importance {rate} {runs}", "predicates by Importance, nothing set aside"), ("increase {rate} {runs}", "predicates by Increase alone"),
         ("reach {rate} {runs}", "lines with sites by reach (Ochiai of being observed)"),
-        ("truth {rate} {runs}", "lines with sites by Ochiai of a predicate's truth"),
+        ("truth {rate} {runs}", "lines with sites by Ochiai of a predicate's truth"), ("thin-truth {rate} {runs}", "the same, thinned"),
+        ("chi {rate} {runs}", "lines with sites by the chi-square of a predicate's truth"), ("thin-chi {rate} {runs}", "the same, thinned"),
         ("turns {rate} {runs}", "`rank` and reach by turns"),
-        ("Ochiai {runs}", "Ochiai"), ("Tarantula {runs}", "Tarantula"), ("DStar {runs}", "DStar"), ("chance", "lines by chance"))
+        ("Ochiai {runs}", "Ochiai over gcov"), ("thin-Ochiai {runs}", "the same, thinned"), ("Tarantula {runs}", "Tarantula over gcov"),
+        ("DStar {runs}", "DStar over gcov"))
 
 
 def told(value: Optional[float]) -> str:
     if value is None:
         return "-"
     return f"{value:.0f}" if value == int(value) or value >= 10 else f"{value:.1f}"
-
-
-def table(head: Sequence[str], rows: Sequence[Sequence[str]]) -> str:
-    lines = ["| " + " | ".join(head) + " |", "|" + "---|" * len(head)]
-    return "\n".join(lines + ["| " + " | ".join(row) + " |" for row in rows])
 
 
 def where(line: Optional[int], function: str, text: str) -> str:
@@ -58,7 +56,7 @@ def within(faults: Sequence[Any], way: str, what: str, most: int) -> str:
     return str(sum(value is not None and value <= most for value in values)) if values else ""
 
 
-def exams(faults: Sequence[Any], way: str, what: str = "exam") -> List[float]:
+def exams(faults: Sequence[Any], way: str, what: str = "walk") -> List[float]:
     return [found[what] for found in (way_of(fault, way) for fault in faults) if found is not None and found.get(what) is not None]
 
 
@@ -80,16 +78,14 @@ def by_way(faults: Sequence[Any], runs: int) -> str:
     rows = []
     for form, name in WAYS:
         way = form.format(rate=1, runs=runs)
-        values = exams(faults, way)
-        walks = exams(faults, way, "walk")
-        looked = [percent(median(values)), percent(mean(values))] if values else ["", ""]
-        around = percent(median(walks)) if walks else "" if name.startswith("lines by chance") else looked[0]
-        near = [within(faults, way, "near", most) for most in (1, 3, 5, 10)]
         there = sum(way in fault["ways"] for fault in faults)
-        if not there:
-            continue
-        rows.append([name if there == len(faults) else f"{name} ({there} of the faults)"] + near + [within(faults, way, "line", 5), within(faults, way, "function", 5)] + looked + [around])
-    return table(["Way", "near in 1", "in 3", "in 5", "in 10", "the line in 5", "the function in 5", "EXAM, median", "mean", "with lines around, median"], rows)
+        if there:
+            walks, alone = exams(faults, way), exams(faults, way, "alone")
+            rows.append([name if there == len(faults) else f"{name} ({there} of the faults)"]
+                        + [within(faults, way, what, most) for what, most in WITHIN]
+                        + ([percent(median(walks)), percent(mean(walks))] if walks else ["", ""]) + [percent(median(alone)) if alone else ""])
+    rows.append(["lines by chance"] + [by_lines_of_chance(faults, what, most) for what, most in WITHIN] + [""] * 3)
+    return table(["Way", "the function in 5", "the line in 5", "near in 1", "in 3", "in 5", "in 10", "EXAM, median", "mean", "line by line, median"], rows)
 
 
 def rates_of(faults: Sequence[Any]) -> List[Tuple[int, int]]:
@@ -211,7 +207,7 @@ def by_fault(faults: Sequence[Any], runs: int) -> str:
         text = where(*first[:3]) if first else "none"
         fails = percent(fault["failed"] / max(1, fault["runs"] - fault["cut"]))
         rows.append([f"{fault['program']}/{fault['fault']}", fault["kind"], fails, told(found["line"]), told(found["near"]), told(found["function"]),
-                     percent(found["exam"]), told(ways[f"truth 1 {runs}"]["near"]), told(lines["line"]), told(lines["near"]), percent(lines["exam"]), text])
+                     percent(found["walk"]), told(ways[f"truth 1 {runs}"]["near"]), told(lines["line"]), told(lines["near"]), percent(lines["walk"]), text])
     return table(["Fault", "Kind", "fails", "row: line", "near", "function", "EXAM", "truth: near", "Ochiai: line", "near", "EXAM", "the first row"], rows)
 
 
@@ -319,20 +315,20 @@ def corpus_table() -> str:
         for place, fault in enumerate(subject.faults):
             lines = ", ".join(map(str, fault.lines()))
             rows.append([subject.name if place == 0 else "", str(len(subject.lines)) if place == 0 else "", fault.name, fault.kind, lines,
-                         "yes" if fault.kept else "", fault.says])
+                         "new" if fault.new else "yes" if fault.kept else "", fault.says])
     return table(["Program", "Lines", "Fault", "Kind", "At line", "Kept back", "What"], rows)
 
 
 def plots(faults: Sequence[Any], runs: int) -> List[Tuple[str, str]]:
     drawn = (("rows {rate} {runs}", "rows of rank"), ("reach {rate} {runs}", "lines by reach"), ("truth {rate} {runs}", "lines by truth"),
-             ("increase {rate} {runs}", "Increase alone"), ("Ochiai {runs}", "Ochiai"), ("Tarantula {runs}", "Tarantula"), ("DStar {runs}", "DStar"),
-             ("chance", "chance"))
+             ("increase {rate} {runs}", "Increase alone"), ("Ochiai {runs}", "Ochiai"), ("Tarantula {runs}", "Tarantula"), ("DStar {runs}", "DStar"))
     rows, looks = [], []
     for form, name in drawn:
         way = form.format(rate=1, runs=runs)
         places = [capped(fault["ways"][way]["near"]) for fault in faults]
         rows.append((name, [(float(k), sum(place <= k for place in places) / len(faults)) for k in range(1, 21)]))
         looks.append((name, corpus_plots.share_curve(exams(faults, way), 0.5, 50)))
+    rows.append(("chance", [(float(k), words.expected_by_chance(faults, "near", k) / len(faults)) for k in range(1, 21)]))
     of = f"({len(faults)} faults, {runs:,} runs)"
     return [("evidence-rows.svg", corpus_plots.plot(f"Faults within five lines of one of the first k rows, or lines {of}", "k", rows,
                                                     [(float(k), str(k)) for k in (1, 3, 5, 10, 15, 20)], 1, 20)),
@@ -349,7 +345,8 @@ def of_faults(faults: Sequence[Any], runs: int, most: int, prefix: str) -> Dict[
     """The tables of some faults, of so many runs; and some of the most runs."""
     made = {"measured": f"{words.measured(faults, runs)}, each visit observed.", "by way": by_way(faults, runs), "by kind": by_kind(faults, runs),
             "by importance": by_importance(faults, runs), "by failing": by_failing(faults, runs), "by fault": by_fault(faults, runs), "apart": apart(faults, runs),
-            "beside Ochiai": words.beside_ochiai(faults, runs), "of rankings": words.of_rankings(faults, runs), "unseen": words.kinds_unseen(faults, runs), "gcc alone": words.by_gcc_alone(faults),
+            "beside Ochiai": words.beside_ochiai(faults, runs), "of chance": words.of_chance(faults, runs), "thinned": words.of_thinned(faults, runs),
+            "of rankings": words.of_rankings(faults, runs), "unseen": words.kinds_unseen(faults, runs), "gcc alone": words.by_gcc_alone(faults),
             "by rate": by_rate(faults), "by policy": by_policy(faults), "by inputs": by_inputs(faults),
             "by failures": by_failures(faults), "by section": by_section(faults)}
     if most != runs:
@@ -368,12 +365,13 @@ def is_empty(text: str) -> bool:
 def parts(results: Results) -> Dict[str, str]:
     """Each table, and each sentence with numbers, by its name."""
     runs, most = shown_count(results), counts_of(results)[-1]
-    opened, kept = faults_of(results, lambda fault: not fault["kept"]), faults_of(results, lambda fault: bool(fault["kept"]))
-    for fault in opened + kept:
+    opened, kept = faults_of(results, lambda fault: not fault["kept"]), faults_of(results, lambda fault: fault["kept"] and not fault.get("new"))
+    new = faults_of(results, lambda fault: bool(fault.get("new")))
+    for fault in opened + kept + new:
         add_turns(fault)
     made = {"three": three_at_once(results), "three summed": three_summed(results), "speeds": speeds(results, most), "corpus": corpus_table(),
             "headline": words.headline(opened, kept, three_of(results)[1], runs), "decided": words.decided(kept, opened, runs)}
-    for some, prefix in ((opened, ""), (kept, "kept ")):
+    for some, prefix in ((opened, ""), (kept, "kept "), (new, "new ")):
         if some:
             made.update(of_faults(some, runs, most, prefix))
     for name, three in results["tables"].items():

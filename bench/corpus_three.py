@@ -78,5 +78,5 @@ class Three:
                 judged = spelled(scores.found_by_rows(rows, target, covered.lines, fault.lines(), self.bench.functions))
                 about["policies"][policy] = {**judged, "own": own_row(true, self.alone, place)}
             about.update(about["policies"]["all"])
-            about.update({name: spelled(scores.found_by_lines(lines, target)) for name, lines in by_line.items()})
+            about.update({name: spelled(scores.found_by_lines(lines, target, covered.lines)) for name, lines in by_line.items()})
         return found

@@ -1,14 +1,19 @@
-"""Sentences of docs/EVIDENCE.md and README that have numbers in them, of what was measured."""
+"""Sentences and small tables of docs/EVIDENCE.md and README that have numbers in them, of what was measured."""
 import re
 from math import comb
 from statistics import median
 from typing import Any, List, Optional, Sequence, Tuple
+
+from corpus_scores import within_by_chance
 
 Faults = Sequence[Any]
 FEW = 5  # failing runs
 SURE = 0.05
 LATE = (("truth", "lines by a predicate's truth"), ("turns", "rows and lines by reach in turn"), ("reach", "lines by reach"), ("shown", "rows as `cbi-hunt` shows them"))
 JUDGED = "truth"
+HEADED = (("rows 1 {}", "rows of `rank`"), ("truth 1 {}", "lines by a predicate's truth"), ("thin-chi 1 {}", "lines by chi-square, thinned"),
+          ("Ochiai {}", "lines by Ochiai over gcov"), ("thin-Ochiai {}", "the same, thinned"))
+KINDS_OF_PLACE = ("function", "line", "near")
 
 
 def capped(value: Optional[float]) -> float:
@@ -19,14 +24,33 @@ def percent(share: float) -> str:
     return f"{100 * share:.1f} %" if share < 0.0995 else f"{100 * share:.0f} %"
 
 
+def among(faults: Faults, way: str, what: str, most: int = 5) -> int:
+    """How many faults have the first place that is right among the first so many."""
+    return sum(capped(fault["ways"][way][what]) <= most for fault in faults)
+
+
 def near(faults: Faults, way: str, most: int = 5) -> int:
-    """How many faults have a place within five lines among the first so many."""
-    return sum(capped(fault["ways"][way]["near"]) <= most for fault in faults)
+    """The same of a place within five lines."""
+    return among(faults, way, "near", most)
+
+
+def expected_by_chance(faults: Faults, what: str, most: int) -> float:
+    """How many of the faults have a right line among so many that are drawn by chance, on average: the sum of their probabilities."""
+    return sum(within_by_chance(fault["right"][what], fault["right"]["coded"], most) for fault in faults)
+
+
+def by_lines_of_chance(faults: Faults, what: str, most: int) -> str:
+    return f"{expected_by_chance(faults, what, most):.1f}"
+
+
+def table(head: Sequence[str], rows: Sequence[Sequence[str]]) -> str:
+    lines = ["| " + " | ".join(head) + " |", "|" + "---|" * len(head)]
+    return "\n".join(lines + ["| " + " | ".join(row) + " |" for row in rows])
 
 
 def looked(faults: Faults, way: str) -> str:
     """The median of the share of lines that are looked at."""
-    return percent(median(fault["ways"][way]["exam"] for fault in faults))
+    return percent(median(fault["ways"][way]["walk"] for fault in faults))
 
 
 def has(faults: Faults, way: str) -> bool:
@@ -39,25 +63,23 @@ def measured(faults: Faults, runs: int) -> str:
 
 
 def headline(opened: Faults, kept: Faults, three: Sequence[Any], runs: int) -> str:
-    """The two lines of README."""
-    def counts(some: Faults) -> str:
-        turns = near(some, f"turns 1 {runs}")
-        return (f"{near(some, f'rows 1 {runs}')} have one of the first five rows within five lines, {near(some, f'Ochiai {runs}')} one of Ochiai's first "
-                f"five lines over gcov, and {turns} one of five where rows and lines by reach are taken in turn")
-
-    last = f"Of {len(kept)} more, which were kept back until nothing was changed any more, {counts(kept)}." if has(kept, f"turns 1 {runs}") else \
-        "Turns were thought of while these faults were measured, and aren't shown on others yet."
+    """The two made lines of README and a table: of how many faults the first five places are right."""
+    both = [opened] + [kept] * has(kept, f"turns 1 {runs}")
+    rows = [[name] + [str(among(some, form.format(runs), what)) for some in both for what in KINDS_OF_PLACE]
+            for form, name in HEADED if all(has(some, form.format(runs)) for some in both)]
+    rows.append(["five lines by chance"] + [by_lines_of_chance(some, what, 5) for some in both for what in KINDS_OF_PLACE])
+    head = ["Among the first five"]
+    for some, which in zip(both, ("", " kept back")):
+        head += [f"of {len(some)}{which}: the fault's function", "its line", "a line within five"]
     every = [fault for one in three for fault in one["faults"]]
     own = sum(capped(fault["own"]) <= 5 for fault in every)
-    together = f" Of three faults in one program at once {own} of {len(every)} have a row of their own among the first five." if every else ""
-    return f"Of {measured(opened, runs)}, {counts(opened)}. {last}{together}"
+    together = f"\n\nOf three faults in one program at once {own} of {len(every)} have a row of their own among the first five." if every else ""
+    return f"{measured([*opened, *kept], runs)}.\n\n{table(head, rows)}{together}"
 
 
-def compared(faults: Faults, runs: int, way: str, name: str) -> Tuple[int, str]:
-    """How far a way is ahead of Ochiai within five places, and a line of it."""
-    ahead = near(faults, f"{way} 1 {runs}") - near(faults, f"Ochiai {runs}")
-    said = f"{name}: near in five for {near(faults, f'{way} 1 {runs}')}, Ochiai for {near(faults, f'Ochiai {runs}')} of {len(faults)}"
-    return ahead, f"- {said}; lines to look at, by the median: {looked(faults, f'{way} 1 {runs}')} and {looked(faults, f'Ochiai {runs}')}."
+def compared(faults: Faults, way: str, name: str) -> Tuple[int, List[str]]:
+    """How many faults a way has near in five, and its row."""
+    return near(faults, way), [name] + [str(among(faults, way, what)) for what in KINDS_OF_PLACE] + [looked(faults, way)]
 
 
 NAMES = (("rows", "rows of `rank`"), ("shown", "rows as `cbi-hunt` shows them"), ("narrow", "rows without pairs"), ("card", "the first card"),
@@ -66,9 +88,31 @@ NAMES = (("rows", "rows of `rank`"), ("shown", "rows as `cbi-hunt` shows them"),
 
 
 def beside_ochiai(faults: Faults, runs: int) -> str:
-    """Each way beside Ochiai, the one that is furthest behind first."""
-    lines = [compared(faults, runs, way, name) for way, name in NAMES if has(faults, f"{way} 1 {runs}")]
-    return "\n".join(said for _, said in sorted(lines, key=lambda one: one[0]))
+    """Each way beside Ochiai, the one that has the fewest near in five first."""
+    ways = [(f"{way} 1 {runs}", name) for way, name in NAMES] + [(f"Ochiai {runs}", "**Ochiai over gcov**")]
+    rows = sorted((compared(faults, way, name) for way, name in ways if has(faults, way)), key=lambda one: one[0])
+    chance = ["five lines by chance"] + [by_lines_of_chance(faults, what, 5) for what in KINDS_OF_PLACE] + [""]
+    return table([f"Way, of {len(faults)} faults", "the function in 5", "the line in 5", "near in 5", "EXAM, median"], [chance] + [row for _, row in rows])
+
+
+def of_chance(faults: Faults, runs: int) -> str:
+    """What the counts are worth beside lines that are drawn by chance."""
+    shares = [100 * expected_by_chance(faults, "near", most) / len(faults) for most in (5, 10)]
+    rows = sum(within_by_chance(fault["right"]["near"], fault["right"]["coded"], min(5, len(fault["judged"][f"1 {runs}"]))) for fault in faults)
+    return (f"Five lines drawn by chance have one near the fault for {by_lines_of_chance(faults, 'near', 5)} of {len(faults)} faults ({shares[0]:.0f} %), ten for "
+            f"{by_lines_of_chance(faults, 'near', 10)} ({shares[1]:.0f} %); as many lines as `rank` has rows, at most five, for {rows:.1f}.")
+
+
+def of_thinned(faults: Faults, runs: int) -> str:
+    """Coverage and truth with the same thinning."""
+    ways = [(form.format(runs), name) for form, name in (("truth 1 {}", "lines by a predicate's truth"), ("thin-truth 1 {}", "the same, thinned"),
+            ("chi 1 {}", "lines by the chi-square of a predicate's truth"), ("thin-chi 1 {}", "the same, thinned"),
+            ("Ochiai {}", "Ochiai over gcov"), ("thin-Ochiai {}", "the same, thinned"))]
+    there = [(way, name) for way, name in ways if has(faults, way)]
+    if not any(way.startswith("thin-") for way, _ in there):
+        return "Thinned lists aren't measured yet."
+    return table([f"Way, of {len(faults)} faults", "the function in 5", "the line in 5", "near in 5"],
+                 [[name] + [str(among(faults, way, what)) for what in KINDS_OF_PLACE] for way, name in there])
 
 
 def of_rankings(faults: Faults, runs: int) -> str:
@@ -123,26 +167,28 @@ def apart_by(faults: Faults, way: str, other: str) -> Tuple[int, int]:
     return sum(one > two for one, two in found), sum(one < two for one, two in found)
 
 
-def beside(faults: Faults, runs: int, way: str) -> str:
-    """A way beside rows and Ochiai, fault by fault."""
-    said = [f"near in five for {near(faults, f'{way} 1 {runs}')} of {len(faults)}"]
-    for other, name in ((f"rows 1 {runs}", "rows"), (f"Ochiai {runs}", "Ochiai")):
-        ahead, behind = apart_by(faults, f"{way} 1 {runs}", other)
-        said.append(f"{name} for {near(faults, other)} (alone {ahead}, {name} alone {behind}, by chance {by_chance(ahead, behind):.2g})")
-    return ", ".join(said)
+def beside(sets: Sequence[Faults], way: str, other: str) -> List[str]:
+    """A way beside another one, fault by fault, in some sets of faults: which has how many near in five that the other hasn't, and the sign test."""
+    cells = []
+    for faults in sets:
+        ahead, behind = apart_by(faults, way, other)
+        cells.append(f"{near(faults, way)} and {near(faults, other)}; {ahead} to {behind}, p = {by_chance(ahead, behind):.2g}")
+    return cells
 
 
 def decided(kept: Faults, opened: Faults, runs: int) -> str:
     """What the faults that were kept back say of the ways that were added late, and of the one that is judged."""
     if not has(kept, f"turns 1 {runs}"):
         return "The faults that are kept back aren't measured yet."
-    lines = [f"- {name}: {beside(opened, runs, way)}; of those that were kept back {beside(kept, runs, way)}." for way, name in LATE if has(kept, f"{way} 1 {runs}")]
-    counts = [near(kept, way) for way in (f"{JUDGED} 1 {runs}", f"rows 1 {runs}", f"Ochiai {runs}")]
-    chances = [by_chance(*apart_by(kept, f"{JUDGED} 1 {runs}", other)) for other in (f"rows 1 {runs}", f"Ochiai {runs}")]
-    ahead = counts[0] > max(counts[1:])
-    verdict = "is ahead of both, and more than chance makes of so few" if ahead and max(chances) <= SURE else \
-        "is ahead of both, but chance would make that of so few too" if ahead else "isn't ahead of both"
-    return "\n".join([*lines, "", f"Judged is {dict(LATE)[JUDGED]}: on the faults that were kept back it {verdict}."])
+    sets, others = (kept, opened, [*kept, *opened]), ((f"rows 1 {runs}", "rows of `rank`"), (f"Ochiai {runs}", "Ochiai over gcov"))
+    rows = [[name, other] + beside(sets, f"{way} 1 {runs}", form) for way, name in LATE if has(kept, f"{way} 1 {runs}") for form, other in others]
+    judged, shown, coverage = f"{JUDGED} 1 {runs}", f"rows 1 {runs}", f"Ochiai {runs}"
+    (ahead, behind), (over, under) = apart_by(kept, judged, shown), apart_by(kept, judged, coverage)
+    first = "more than chance makes of so few" if ahead > behind and by_chance(ahead, behind) <= SURE else "no more than chance makes of so few"
+    second = "more than chance makes of so few" if over > under and by_chance(over, under) <= SURE else "no more than chance makes of so few"
+    head = ["Way", "beside", f"{len(kept)} kept back", f"{len(opened)} open", f"all {len(kept) + len(opened)}"]
+    return (f"{table(head, rows)}\n\nOf the faults that were kept back {dict(LATE)[JUDGED]} have {ahead} near in five that rows haven't, and rows {behind} that they "
+            f"haven't: {first}. Beside Ochiai over gcov it is {over} to {under}: {second}.")
 
 
 def is_pair(text: str) -> bool:

@@ -64,18 +64,18 @@ class Farm(Hunting):
         if not shutil.which("parallel") or "GNU parallel" not in call("parallel", "--version")[1]:
             self.skipTest("there is no GNU parallel here")
         self.write("hosts", "2/:\n")
-        self.hunt("--inputs", "both", "--runs", "60", "--keep", "here")
-        self.hunt("--inputs", "both", "--runs", "60", "--keep", "farm", "--farm", "hosts")
+        self.hunt("--inputs", "both", "--rate", "2", "--runs", "60", "--keep", "here")
+        self.hunt("--inputs", "both", "--rate", "2", "--runs", "60", "--keep", "farm", "--farm", "hosts")
         self.assertEqual(self.read("farm/runs"), self.read("here/runs"))
-        self.hunt("--inputs", "both", "--runs", "60", "--keep", "parts here", "--parts", "2")
-        self.hunt("--inputs", "both", "--runs", "60", "--keep", "parts farm", "--parts", "2", "--farm", "hosts")
+        self.hunt("--inputs", "both", "--rate", "2", "--runs", "60", "--keep", "parts here", "--parts", "2")
+        self.hunt("--inputs", "both", "--rate", "2", "--runs", "60", "--keep", "parts farm", "--parts", "2", "--farm", "hosts")
         self.assertEqual(self.read("parts farm/runs"), self.read("parts here/runs"))
-        self.assertIn("there is no such file", self.hunt("--inputs", "both", "--runs", "99", "--keep", "farm", "--farm", "no hosts", due=2))
+        self.assertIn("there is no such file", self.hunt("--inputs", "both", "--rate", "2", "--runs", "99", "--keep", "farm", "--farm", "no hosts", due=2))
         self.assertEqual(self.left([]), [])
 
     def test_a_farm_asks_for_no_home_of_ours(self):
         homes = self.farm("near")
-        words = ["cbi-hunt", "upper.c", "--inputs", "both", "--runs", "60", "--jobs", "1"]
+        words = ["cbi-hunt", "upper.c", "--inputs", "both", "--rate", "2", "--runs", "60", "--jobs", "1"]
         self.call(*words, "--keep", "here")
         for number, home in enumerate((None, "/", self.path("nowhere"))):
             given = {name: value for name, value in environment().items() if name != "HOME"}
@@ -91,7 +91,7 @@ class Farm(Hunting):
         shutil.rmtree(self.path("gone"))
         self.write("dying/dies", "")
         self.write("leaving/leaves", "")
-        words = ["upper.c", "--inputs", "both", "--runs", "130", "--jobs", "1"]  # six batches, so that each host has one at once
+        words = ["upper.c", "--inputs", "both", "--rate", "2", "--runs", "130", "--jobs", "1"]  # six batches, so that each host has one at once
         self.call("cbi-hunt", *words, "--keep", "here")
         _, err = self.call("cbi-hunt", *words, "--keep", "farm", "--farm", "hosts")
         self.assertEqual(self.read("farm/runs"), self.read("here/runs"))
@@ -109,7 +109,7 @@ class Farm(Hunting):
     def test_tasks_of_slurm_make_the_same_runs(self):
         place = tempfile.mkdtemp(prefix="cbi-slurm-")
         self.addCleanup(shutil.rmtree, place)
-        words = ["cbi-hunt", "upper.c", "--inputs", "both", "--runs", "130", "--jobs", "1"]
+        words = ["cbi-hunt", "upper.c", "--inputs", "both", "--rate", "2", "--runs", "130", "--jobs", "1"]
         self.call(*words, "--keep", "here")
         bare = os.pathsep.join([os.path.dirname(looking.CBI), looking.TOOLS, os.path.dirname(sys.executable)])
         if not shutil.which("sbatch", path=bare):
@@ -134,7 +134,7 @@ class Farm(Hunting):
 
     def test_a_farm_that_is_interrupted_leaves_nothing_on_a_host(self):
         homes = self.farm("near")
-        words = ["cbi-hunt", "upper.c", "--inputs", "both", "--runs", "2000", "--jobs", "1", "--keep", "farm", "--farm", "hosts"]
+        words = ["cbi-hunt", "upper.c", "--inputs", "both", "--rate", "2", "--runs", "2000", "--jobs", "1", "--keep", "farm", "--farm", "hosts"]
         begun = subprocess.Popen(words, cwd=self.room, env=environment(), stdout=subprocess.PIPE, stderr=subprocess.PIPE, start_new_session=True, preexec_fn=heed_interrupts)
         self.wait_for(lambda: os.path.isdir(self.path("farm/batches")) and os.listdir(self.path("farm/batches")))
         os.killpg(begun.pid, signal.SIGINT)

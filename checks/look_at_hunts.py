@@ -44,8 +44,8 @@ class Hunt(Hunting):
 
     def test_at_rate_1_a_run_needs_no_bank(self):
         """A made bank of rate 1 has ones alone, and without a bank each visit is observed: the reports are the same, counters and work."""
-        self.hunt("--inputs", "in puts", "--expect", "due", "--runs", "14", "--rate", "1", "--keep", "kept")
-        self.assertEqual(self.read("kept/runs"), self.runs_by_hand(14, 1))
+        self.hunt("--inputs", "in puts", "--expect", "due", "--rate", "1", "--keep", "kept")
+        self.assertEqual(self.read("kept/runs"), self.runs_by_hand(12, 1))
 
     def test_runs_of_parts_are_those_that_the_commands_make(self):
         self.hunt("--inputs", "in puts", "--expect", "due", "--runs", "27", "--rate", "5", "--parts", "3", "--keep", "kept")
@@ -69,21 +69,23 @@ class Hunt(Hunting):
         for words in (["--inputs", "in puts", "--expect", "due"], ["--inputs", "both"], ["--inputs", "in puts", "--oracle", "python3 judge.py"],
                       ["--inputs", "lines", "--expect", "due lines"], ["--inputs", "lines", "--oracle", f"{sys.executable} judge.py"]):
             folder = f"kept {len(os.listdir(self.room))}"
-            self.hunt(*words, "--runs", "120", "--keep", folder)
+            self.hunt(*words, "--rate", "2", "--runs", "120", "--keep", folder)
             self.assertNotIn(b"label none", self.read(folder + "/runs"))
             rankings.add((words[1] == "lines", self.read(folder + "/ranking")))
         self.assertEqual(len(rankings), 2)
 
-    def test_the_bug_is_in_the_first_row_and_the_page_is_sound(self):
-        out = self.hunt("--inputs", "both", "--runs", "200", "--rate", "2", "--html", "a page.html")
+    def test_the_bug_leads_and_so_does_its_row_and_the_page_is_sound(self):
+        self.more_inputs()
+        out = self.hunt("--inputs", "both", "--runs", "600", "--rate", "2", "--all", "--html", "a page.html")
         first = next(line for line in out.split("\n") if line.startswith("  1. "))
         self.assertIn(first, ("  1. line 9, main: c > 'a' (left of &&) is false", "  1. line 6, main: c == 97 'a' after c = getchar()"))
+        self.assertRegex(out, r"^[0-9]+ bugs?,? .*explains? all 9 failing inputs \(600 runs on 36 inputs\)\.\n\n(A\. )?upper.c:(6|9) in main: (c == 97 'a' after c = getchar|c > 'a' \(left of &&\) was false|if \(c > 'a' && c <= 'z'\) was false)")
         page = Page(self.read("a page.html").decode())
         self.assertEqual([link for link in page.links if link[1:] not in page.ids], [])
 
     def test_it_goes_on_where_it_stopped(self):
-        self.hunt("--inputs", "both", "--runs", "20000", "--keep", "whole")
-        words = ["cbi-hunt", "upper.c", "--inputs", "both", "--runs", "20000", "--jobs", "2", "--keep", "parts"]
+        self.hunt("--inputs", "both", "--rate", "2", "--runs", "20000", "--keep", "whole")
+        words = ["cbi-hunt", "upper.c", "--inputs", "both", "--rate", "2", "--runs", "20000", "--jobs", "2", "--keep", "parts"]
         begun = subprocess.Popen(words, cwd=self.room, env=environment(), stdout=subprocess.PIPE, stderr=subprocess.PIPE, start_new_session=True, preexec_fn=heed_interrupts)
         self.wait_for(lambda: os.path.isdir(self.path("parts/batches")) and os.listdir(self.path("parts/batches")))
         os.killpg(begun.pid, signal.SIGINT)
@@ -93,13 +95,13 @@ class Hunt(Hunting):
         made = re.search(rb"^(\d+) runs on", out, re.MULTILINE)
         assert made, out
         self.assertLess(int(made[1]), 20000)
-        self.hunt("--inputs", "both", "--runs", "12000", "--keep", "parts")
-        self.hunt("--inputs", "both", "--runs", "20000", "--keep", "parts")
+        self.hunt("--inputs", "both", "--rate", "2", "--runs", "12000", "--keep", "parts")
+        self.hunt("--inputs", "both", "--rate", "2", "--runs", "20000", "--keep", "parts")
         self.assertEqual(self.read("parts/runs"), self.read("whole/runs"))
         self.assertEqual([name for name in os.listdir(self.path("parts")) if "worker" in name or "merge" in name], [])
 
     def test_a_hunt_that_is_ended_by_force_leaves_its_folder_free(self):
-        begun = subprocess.Popen(["cbi-hunt", "upper.c", "--inputs", "both", "--runs", "1000000", "--jobs", "2", "--keep", "kept"], cwd=self.room, env=environment())
+        begun = subprocess.Popen(["cbi-hunt", "upper.c", "--inputs", "both", "--rate", "2", "--runs", "1000000", "--jobs", "2", "--keep", "kept"], cwd=self.room, env=environment())
         self.wait_for(lambda: os.path.isdir(self.path("kept")) and [name for name in os.listdir(self.path("kept")) if name.startswith("worker-")])
         _, err = self.call("cbi-hunt", "upper.c", "--inputs", "both", "--runs", "12", "--keep", "kept", due=2)
         self.assertIn("another hunt is at work", err)
@@ -109,8 +111,8 @@ class Hunt(Hunting):
         self.assertTrue(workers)
         self.wait_for(lambda: not any(os.path.exists(f"/proc/{worker}") for worker in workers))
         self.assertEqual([worker for worker in workers if os.path.exists(f"/proc/{worker}")], [])
-        self.hunt("--inputs", "both", "--runs", "12", "--keep", "kept")
-        self.hunt("--inputs", "both", "--runs", "12", "--keep", "anew")
+        self.hunt("--inputs", "both", "--rate", "2", "--runs", "12", "--keep", "kept")
+        self.hunt("--inputs", "both", "--rate", "2", "--runs", "12", "--keep", "anew")
         if os.listdir(self.path("kept/batches")) == os.listdir(self.path("anew/batches")):
             self.assertEqual(self.read("kept/runs"), self.read("anew/runs"))
 
@@ -128,7 +130,7 @@ class Hunt(Hunting):
         self.assertEqual(err, "")
 
     def test_progress_is_on_a_terminal(self):
-        status, said = on_terminal(["cbi-hunt", "upper.c", "--inputs", "both", "--runs", "60"], self.room)
+        status, said = on_terminal(["cbi-hunt", "upper.c", "--inputs", "both", "--rate", "2", "--runs", "60"], self.room)
         self.assertEqual(status, 0)
         self.assertRegex(said.decode(), r"\d+ of 60 runs, \d+ failed, 0 cut, 0:\d\d left")
         self.assertTrue(said.endswith(b"\r\x1b[K"))
@@ -148,22 +150,26 @@ class Hunt(Hunting):
         self.assertIn("All runs that count failed", out)
         self.assertIn("The expected outputs have carriage returns", out)
 
-    def test_where_no_row_passes_it_says_what_to_do(self):
+    def test_where_no_fact_is_beyond_chance_it_says_what_to_do(self):
         """The program does the same with both inputs, and one is called wrong. At rate 1 each visit is looked at, and each run on an input is the same."""
         for name, text in (("few/1", "b"), ("few/2", "c"), ("wanted/1", "X"), ("wanted/2", "C"), ("not_b.py", "import sys\nsys.exit(open(sys.argv[1]).read() == 'b')\n")):
             self.write(name, text)
         for words, due in ((["--oracle", "python3 not_b.py"], ["More inputs that differ, also in little (--mutate N makes them)."]),
                            (["--expect", "wanted"], ["More inputs that differ, also in little."]),
                            (["--expect", "wanted", "--rate", "1000", "--schemes", "returns"],
-                            ["More runs (--runs), of which each has other countdowns.", "A smaller rate (--rate 1 looks at every visit).", "All kinds of sites: leave --schemes out."])):
+                            ["More inputs that differ, also in little.", "A smaller rate (--rate 1 looks at every visit).", "More runs (--runs), of which each has other countdowns.",
+                             "All kinds of sites: leave --schemes out."])):
             out = self.hunt("--inputs", "few", *words, due=1)
-            told = out.split("none makes a failure more likely beyond chance. What may help:\n")[1]
-            self.assertEqual([line[2:] for line in told.split("\n") if line.startswith("- ")], due)
+            self.assertTrue(out.startswith("No fact is beyond chance.\nWhat may help:\n- "), out)
+            self.assertEqual([line[2:] for line in out.split("\n") if line.startswith("- ")], due)
+            self.assertIn("\nsmallest failing input, 1 (1 byte): b\n", out)
 
     def test_crashes_fail_by_themselves(self):
         self.write("in puts/13 !", "a!")
-        out = self.hunt("--inputs", "in puts", "--rate", "1", "--runs", "65")
+        out = self.hunt("--inputs", "in puts", "--rate", "1", "--all")
         self.assertIn("failing inputs: 13 !\n", out)
+        self.assertIn("\nPerhaps by chance, upper.c:7 in main: if (c == '!') was true\n", out)
+        self.assertIn("      8 |             abort();                  <- runs only where this is true\n", out)
         self.assertIn("  1. line 6, main: c == 33 '!' after c = getchar()\n", out)
 
     def test_an_oracle_that_cannot_tell_and_one_that_is_none(self):
@@ -265,33 +271,49 @@ class Sample(Case):
                       out.replace("\n", " "))
         self.assertEqual(self.read("kept/runs").count(b" label fail "), 6)
         self.assertEqual(self.read("kept/runs").count(b" label pass "), 54)
-        self.assertIn("All 6 ranked runs that saw it failed", out)
-        self.assertIn("All 6 ranked failing runs ended by a call of abort (trap 14).", out.replace("\n", " "))
-        self.assertIn("     fails 5 % of the time when reached, 100 % when this is true\n", out)  # 14 of 280, where of those ranked 10 % fail
-        self.assertIn("true in 6 failing runs and no successful runs; looked at in 6 failing and 54 successful", out)
+        self.assertTrue(out.startswith("1 bug explains all 6 failing runs (60 ranked runs).\n\nupper.c:7 in main: if (c == '!') was true\n"), out)
+        self.assertIn("\nended by: a call of abort (trap 14, 6 runs)\n", out)
+        every = self.call("cbi-show", "--hunt", "kept", "--all")[0]
+        self.assertIn("     fails 5 % of the time when reached, 100 % when this is true\n", every)  # 14 of 280, where of those ranked 10 % fail
+        self.assertIn("true in 6 failing runs and no successful runs; looked at in 6 failing and 54 successful", every)
         self.assertEqual(self.call("cbi-show", "--hunt", "kept")[0], out.split("page: ")[0])
         page = Page(self.read("kept/page.html").decode())
         self.assertIn([2, "How ranked runs ended"], page.headings)
 
-    def test_all_failing_runs_are_told_as_all(self):
+    def test_shares_are_those_of_all_runs(self):
         """Of a hunt that was kept the words alone are changed: it is as if a thousand times as many runs had succeeded."""
         self.write("upper.c", UPPER)
         self.write("lines", "a!\n" + "bc\n" * 9)
-        self.call("cbi-hunt", "upper.c", "--inputs", "lines", "--jobs", "1", "--keep", "kept", "--runs", "30")
+        self.call("cbi-hunt", "upper.c", "--inputs", "lines", "--jobs", "1", "--keep", "kept")
         told = json.loads(self.read("kept/told.json"))
         self.assertIsNone(told["sample"])
-        told["sample"] = [3, 3, 27, 27000, False]
+        told["sample"] = [1, 1, 9, 9000, False]
         self.write("kept/told.json", json.dumps(told))
-        out, _ = self.call("cbi-show", "--hunt", "kept")
-        self.assertIn("All 3 failing runs ended by", out)
-        self.assertIn("All 3 ranked runs that saw it failed", out)
+        out, _ = self.call("cbi-show", "--hunt", "kept", "--all")
         self.assertIn("     fails under 1 % of the time when reached, 100 % when this is true\n", out)
         told["policy"] = "relabel"
         self.write("kept/told.json", json.dumps(told))
-        self.assertIn("     fails 10 % of the time when reached, 100 % when this is true\n", self.call("cbi-show", "--hunt", "kept")[0])
-        del told["sample"]  # as a hunt has it that was kept before there was one
+        self.assertIn("     fails 10 % of the time when reached, 100 % when this is true\n", self.call("cbi-show", "--hunt", "kept", "--all")[0])
+
+    def test_a_hunt_that_an_earlier_version_kept_is_shown(self):
+        """It said nothing of a sample, of where it was made, or of how inputs can be opened; it had one example, and of runs without end a text."""
+        self.write("upper.c", UPPER)
+        self.write("lines", "a!\n" + "bc\n" * 9)
+        self.call("cbi-hunt", "upper.c", "--inputs", "lines", "--jobs", "1", "--keep", "kept")
+        told = json.loads(self.read("kept/told.json"))
+        example = told.pop("examples")[0]
+        for key in ("broke", "status"):
+            del example[key]
+        for key in ("sample", "folder", "files", "helps", "by_status"):
+            del told[key]
+        told.update(example={**example, "of_row": False}, hanging=[["line 6, main: if (c)", 2]])
         self.write("kept/told.json", json.dumps(told))
-        self.assertIn("     fails 10 % of the time when reached, 100 % when this is true\n", self.call("cbi-show", "--hunt", "kept")[0])
+        out, _ = self.call("cbi-show", "--hunt", "kept", "--all")
+        self.assertTrue(out.startswith("2 runs that went on without end were made again, and last seen at line 6, main: if (c) (2).\n"), out)
+        self.assertIn("\nsmallest failing input, line01 (3 bytes): a!\\n\n", out)
+        self.assertIn("     fails 10 % of the time when reached, 100 % when this is true\n", out)
+        for form in ("html", "sarif", "quickfix"):
+            self.call("cbi-show", "--hunt", "kept", "--format", form)
 
     def test_batches_are_what_is_missing(self):
         batch, missing = Batch, missing_batches

@@ -12,13 +12,18 @@ import looking
 from looking import Case, Hunting, environment
 
 sys.path.insert(0, looking.TOOLS)
+import cbi_answer  # noqa: E402
+import cbi_bugs  # noqa: E402
 import cbi_files  # noqa: E402
 import cbi_highlight  # noqa: E402
 import cbi_page  # noqa: E402
+import cbi_page_bugs  # noqa: E402
 import cbi_rows  # noqa: E402
 import cbi_sarif  # noqa: E402
+import cbi_source  # noqa: E402
 import cbi_style  # noqa: E402
 import cbi_where  # noqa: E402
+import cbi_wording  # noqa: E402
 
 SCHEMA = os.path.join(looking.TOP, "checks", "sarif-2.1.0.json")
 # What checks a document by a schema; the schema's own faults are told too.
@@ -146,34 +151,48 @@ class Pages(Hunting):
         return sound(self, text), text
 
     def test_the_answer_is_first_and_jargon_is_folded(self):
+        self.more_inputs()
         page, text = self.page("--inputs", "in puts", "--expect", "due", "--rate", "1")
-        self.assertEqual(page.headings[0], [1, "c == 97 'a' after c = getchar() at upper.c:6 in main"])
-        self.assertEqual([said for level, said in page.headings if level == 2][:2], ["Facts that go with failures", "How runs ended"])
-        self.assertIn([3, "c == 97 'a' after c = getchar()"], page.headings)
-        for said in ("All 3 runs that saw it failed; of the 9 others that looked there none did. All 3 failing runs ended by other output.", "Line 1 of its output", "aBC", "fails 25 % of the time when reached, 100 % when this is true"):
+        self.assertEqual(page.headings[0], [1, "if (c > 'a' && c <= 'z') was false at upper.c:9 in main"])
+        self.assertEqual([said for level, said in page.headings if level == 2][:3], ["Suspicious lines", "How runs ended", "The ranking of cbi rank"])
+        self.assertIn([4, "c == 97 'a' after c = getchar()"], page.headings)
+        for said in ("1 bug explains all 9 failing inputs (36 inputs).", "True in all 9 failing runs that came there, and in none of the 27 others that did.", "other output (9 runs)", "Line 1 of its output", "aBC",
+                     "Line 1 that was expected", "ABC", "cbi run --expect 'due/02 abc' --input 'in puts/02 abc'", "in puts/02 abc (3 bytes), in puts/04 zza (3 bytes), in puts/08 caa (3 bytes) and 6 more", "1.000line 9 of main"):
             self.assertIn(said, page.text)
+        self.assertIn("fails 25 % of the time when reached, 100 % when this is true", page.folded)
         for word in ("predicate", "Increase", "increase", "context", "elimination", "Importance"):
             self.assertNotIn(word, page.text.replace("proved to be the elimination of", ""))
             self.assertIn(word.lower(), page.folded.lower())
-        self.assertLess(text.index('id="answer"'), text.index('id="rows"'))
-        self.assertLess(text.index('id="rows"'), text.index('id="source"'))
+        places = [text.index(f'id="{part}"') for part in ("answer", "suspicious", "endings", "ranking", "source")]
+        self.assertEqual(places, sorted(places))
+
+    def test_blanks_of_outputs_stay(self):
+        self.write("upper.c", looking.UPPER.replace("putchar(c);", "putchar(c);\n        putchar(' ');"))
+        _, text = self.page("--inputs", "in puts", "--expect", "due", due=1)
+        self.assertIn("<dt>Line 1 of its output</dt><dd><code>Q </code></dd>", text)
+        self.assertIn("dd code { white-space: pre-wrap; }", cbi_style.STYLE)
+
+    def test_a_member_is_not_broken_in_two_lines(self):
+        self.assertEqual(cbi_page_bugs.unbroken("more = to->balance + a"), '<code>more = <span class="whole">to-&gt;balance</span> + a</code>')
+        self.assertEqual(cbi_page_bugs.unbroken("a->" + "b" * 60), "<code>a-&gt;" + "b" * 60 + "</code>")
+        self.assertIn(".whole { white-space: nowrap; }", cbi_style.STYLE)
 
     def test_how_runs_ended_is_drawn(self):
         self.write("in puts/13 !", "!")
         page, text = self.page("--inputs", "in puts", "--rate", "1", "--runs", "26")
-        self.assertIn('<tr><td>failed: a call of abort (trap 14)</td><td>2</td><td aria-hidden="true"><span class="tall" style="width:8.3%"></span>', text)
-        self.assertIn('<tr class=well><td>as it should</td><td>24</td><td aria-hidden="true"><span class="tall" style="width:100.0%"></span>', text)
+        self.assertIn('<tr><td>failed: a call of abort (trap 14)</td><td>1</td><td aria-hidden="true"><span class="tall" style="width:8.3%"></span>', text)
+        self.assertIn('<tr class=well><td>as it should</td><td>12</td><td aria-hidden="true"><span class="tall" style="width:100.0%"></span>', text)
 
     def test_what_made_it_is_said(self):
-        done = subprocess.run(["cbi-hunt", "upper.c", "--inputs", "both", "--rate", "1", "--seed", "7", "--keep", "a b", "--runs", "24"], cwd=self.room,
+        done = subprocess.run(["cbi-hunt", "upper.c", "--inputs", "both", "--rate", "2", "--seed", "7", "--keep", "a b", "--runs", "24"], cwd=self.room,
                               env=dict(environment(), SOURCE_DATE_EPOCH="86400"), stdout=subprocess.PIPE, check=False)
         self.assertEqual(done.returncode, 0)
         page = sound(self, self.read("a b/page.html").decode())
         program = cbi_files.read_program(self.path("a b", "program")).identity
         source = subprocess.run(["sha256sum", "upper.c"], cwd=self.room, stdout=subprocess.PIPE, check=True).stdout.decode().split()[0]
         made = self.made_by(self.read("a b/page.html").decode())
-        self.assertEqual(made, {"Command": "cbi-hunt upper.c --inputs both --rate 1 --seed 7 --keep &#x27;a b&#x27; --runs 24", "Version": cbi_files.VERSION, "Date": "1970-01-02", "Runs": "24", "Seed": "7",
-                                "Rate": "1", "Turns": "1000000", "Policy": "all", "SHA-256 of the text": source, "SHA-256 of the program": program})
+        self.assertEqual(made, {"Command": "cbi-hunt upper.c --inputs both --rate 2 --seed 7 --keep &#x27;a b&#x27; --runs 24", "Version": cbi_files.VERSION, "Date": "1970-01-02", "Runs": "24", "Seed": "7",
+                                "Rate": "2", "Turns": "1000000", "Policy": "all", "SHA-256 of the text": source, "SHA-256 of the program": program})
         self.assertIn("What made this page", page.text)
 
     def made_by(self, text):
@@ -187,7 +206,7 @@ class Pages(Hunting):
         self.assertIn(self.made_by(self.read("page.html").decode())["Date"], days)
 
     def test_its_words_are_those_of_the_glossary(self):
-        with open(os.path.join(looking.TOP, "docs", "GLOSSARY.md"), encoding="utf-8") as file:
+        with open(os.path.join(looking.TOP, "docs", "METHOD.md"), encoding="utf-8") as file:
             glossary = {row.split(" | ")[0][2:]: row.split(" | ")[1] for row in file if row.startswith("| ")}
         for word, meaning in cbi_page.WORDS:
             self.assertIn(glossary[word][len(meaning):][:1], ("", ":"), word)
@@ -197,22 +216,24 @@ class Pages(Hunting):
             self.assertIn(dict(cbi_page.WORDS)[word].replace("`", ""), page.folded)
 
     def test_lines_are_the_darker_the_more_they_say(self):
+        self.more_inputs()
         _, text = self.page("--inputs", "in puts", "--expect", "due", "--rate", "1")
-        marked = re.search(r'<p id="L6" class="marked" style="background:rgb\(var\(--hot\) / (0\.\d\d)\)">(.*?)</p>', text)
-        self.assertEqual(marked[1], f"{0.12 + 0.23 * 0.857:.2f}")
-        self.assertIn("1. c == 97 &#x27;a&#x27; after c = getchar()</a></span>", marked[2])
+        marked = re.search(r'<p id="L9" class="marked" style="background:rgb\(var\(--hot\) / (0\.\d\d)\)">(.*?)</p>', text)
+        self.assertEqual(marked[1], f"{0.12 + 0.23:.2f}")
+        self.assertIn('<a href="#answer">if (c &gt; &#x27;a&#x27; &amp;&amp; c &lt;= &#x27;z&#x27;) is false</a></span>', marked[2])
         self.assertIn('<p id="L5"><code>    <b>int</b> c;</code></p>', text)
 
     def test_the_lines_of_the_card_begin_at_its_edge(self):
-        self.assertEqual(cbi_page.shared_blank(["        a", "", "      b", "            c"]), "      ")
-        self.assertEqual(cbi_page.shared_blank(["\ta", "\t\tb"]), "\t")
-        self.assertEqual(cbi_page.shared_blank(["  a", "\tb"]), "")
+        self.assertEqual(cbi_page_bugs.shared_blank(["        a", "", "      b", "            c"]), "      ")
+        self.assertEqual(cbi_page_bugs.shared_blank(["\ta", "\t\tb"]), "\t")
+        self.assertEqual(cbi_page_bugs.shared_blank(["  a", "\tb"]), "")
         for line, due in (("      <b>if</b> (a)", "<b>if</b> (a)"), ("<i>      b */</i> c", "<i>b */</i> c"), ("", ""), ("        a", "  a")):
-            self.assertEqual(cbi_page.without_blank(line, "      "), due)
+            self.assertEqual(cbi_page_bugs.without_blank(line, "      "), due)
         _, text = self.page("--inputs", "in puts", "--rate", "1", "--oracle", "false", "--runs", "12", due=1)
         self.assertNotIn('class="lines" style="counter-reset', text)
+        self.more_inputs()
         _, text = self.page("--inputs", "in puts", "--expect", "due", "--rate", "1")
-        self.assertIn('<code>{</code></p>', text.split("</header>")[0])
+        self.assertIn('<p><code>    abort();</code></p>', text.split("</header>")[0])
 
     def test_the_command_is_marked_as_a_whole(self):
         _, text = self.page("--inputs", "in puts", "--expect", "due", "--rate", "1")
@@ -239,7 +260,7 @@ class Pages(Hunting):
         given = cbi_rows.Given(cbi_where.one_file("a_program.c", source), source, None, cbi_files.read_cards(self.path("cards")))
         text = "".join(line + "\n" for line in cbi_page.page_of(cbi_rows.view_of(cbi_files.Ranking(rows, None), given)))
         page = sound(self, text)
-        self.assertEqual(len([level for level, _ in page.headings if level == 3]), 30)
+        self.assertEqual(len([level for level, _ in page.headings if level == 4]), 30)
         self.assertLessEqual(len(text.encode()), 60000)
         self.assertIn('id="L270"', text)
 
@@ -253,9 +274,15 @@ class Sarif(Hunting):
                 return subprocess.run([python, "-c", VALIDATE, SCHEMA, "log.json"], cwd=self.room, stdout=subprocess.PIPE, check=True).stdout.decode().strip()
         self.skipTest("there is no python3-jsonschema here")
 
-    def log(self):
+    def log(self, folder=None):
+        self.more_inputs()
         self.hunt("--inputs", "in puts", "--expect", "due", "--rate", "1", "--keep", "kept")
-        return json.loads(self.call("cbi-show", "--hunt", "kept", "--format", "sarif")[0])
+        return self.shown(folder or self.room)
+
+    def shown(self, folder):
+        """The log of the hunt, as it is shown in a folder."""
+        done = subprocess.run(["cbi-show", "--hunt", self.path("kept"), "--format", "sarif"], cwd=folder, env=environment(), stdout=subprocess.PIPE, check=True)
+        return json.loads(done.stdout)
 
     def test_it_keeps_the_schema(self):
         log = self.log()
@@ -266,7 +293,7 @@ class Sarif(Hunting):
             self.assertNotEqual(self.valid({**log, "runs": [{**log["runs"][0], "results": [wrong]}]}), "valid", key)
 
     def test_what_it_says(self):
-        """Importance 0.857 is an error; what falls with the first row stands beside it."""
+        """A fact that is true in all failing runs and in no other is an error; further places stand beside it."""
         os.makedirs(self.path(".git"))
         log = self.log()
         run = log["runs"][0]
@@ -277,18 +304,38 @@ class Sarif(Hunting):
             self.assertTrue(rule["help"]["text"] and rule["fullDescription"]["text"])
         first = run["results"][0]
         place = first["locations"][0]["physicalLocation"]
-        self.assertEqual(place, {"artifactLocation": {"uri": "upper.c", "uriBaseId": "%SRCROOT%"}, "region": {"startLine": 6, "snippet": {"text": "    while ((c = getchar()) != EOF) {"}}})
-        self.assertEqual((first["level"], driver["rules"][first["ruleIndex"]]["id"], first["ruleId"]), ("error", "pairs", "pairs"))
-        self.assertTrue(first["message"]["text"].startswith("c == 97 'a' after c = getchar(): true in 3 failing runs and no successful runs; looked at in 3 failing and 9 successful. Fails 25 % of"), first["message"])
-        self.assertEqual([place["id"] for place in first["relatedLocations"]], list(range(1, len(first["relatedLocations"]) + 1)))
-        self.assertTrue(first["relatedLocations"][0]["message"]["text"].startswith("falls with it: "))
+        self.assertEqual(place, {"artifactLocation": {"uri": "upper.c", "uriBaseId": "%SRCROOT%"}, "region": {"startLine": 9, "snippet": {"text": "        if (c > 'a' && c <= 'z')"}}})
+        self.assertEqual((first["level"], driver["rules"][first["ruleIndex"]]["id"], first["ruleId"], first["rank"]), ("error", "branches", "branches", 100))
+        self.assertTrue(first["message"]["text"].startswith("if (c > 'a' && c <= 'z') was false. True in all 9 failing runs that came there, and in none of the 27 others that did. Ended by: other output (9 runs). Failing inputs: "),
+                        first["message"])
+        self.assertEqual((first["properties"]["strength"], first["properties"]["failingRuns"], first["properties"]["endings"]), (1000000, 9, {"ended": 9}))
+        self.assertEqual(first["attachments"], [{"artifactLocation": {"uri": "kept/failing/02%20abc", "uriBaseId": "%SRCROOT%"}, "description": {"text": "the smallest failing input"}}])
 
-    def test_levels_go_by_importance(self):
-        self.assertEqual([cbi_sarif.level_of(importance) for importance in (500000, 499999, 100000, 99999, 0)], ["error", "warning", "warning", "note", "note"])
+    def test_places_are_those_of_where_the_hunt_was_made(self):
+        """Shown in another folder, in a repository and in none."""
+        os.makedirs(self.path("elsewhere"))
+        there, here = self.log(self.path("elsewhere"))["runs"][0], self.shown(self.room)["runs"][0]
+        self.assertEqual(there, here)
+        self.assertEqual(there["originalUriBaseIds"], {"%SRCROOT%": {"uri": cbi_sarif.pathlib.Path(self.room).as_uri() + "/"}})
+        self.assertEqual(there["results"][0]["locations"][0]["physicalLocation"]["artifactLocation"], {"uri": "upper.c", "uriBaseId": "%SRCROOT%"})
+        fixes = [subprocess.run(["cbi-show", "--hunt", self.path("kept"), "--format", "quickfix"], cwd=folder, env=environment(), stdout=subprocess.PIPE, check=True).stdout.decode()
+                 for folder in (self.room, self.path("elsewhere"))]
+        self.assertTrue(fixes[0].startswith("upper.c:9: if (c > 'a' && c <= 'z') was false: True in all 9 failing runs"), fixes[0])
+        self.assertEqual(fixes[1], fixes[0].replace("upper.c", "../upper.c"))
+
+    def test_levels_go_by_strength_and_doubt(self):
+        for strength, expected, due in ((250000, 0.0, "error"), (249999, 0.049, "warning"), (1000000, 0.05, "note"), (0, 900.0, "note")):
+            found = cbi_bugs.Found(0, "main", 1, 1, 0, 1, 0, strength, "")
+            told = cbi_answer.Stated(found, cbi_wording.Told(cbi_source.Fact("if", "is true"), cbi_where.Spot("a.c", 1), "main"))
+            self.assertEqual(cbi_sarif.level_of_bug(cbi_answer.BugShown(1, told, 1, [1], expected, [], [], [], {})), due)
+        row = cbi_files.Row(1, 0, "branches", "main", 1, "if is true", 1, 0, 1, 0, 0, 0, 0, 0)
+        for importance, chance, due in ((500000, None, "error"), (499999, 0.9, "warning"), (100000, None, "warning"), (99999, None, "note"), (900000, 1.0, "note")):
+            shown = cbi_rows.Shown(row._replace(importance=importance), told.told.fact, told.told.spot, None, cbi_rows.Bands(0, 0, 0, 0, 0), None, None, [], chance)
+            self.assertEqual(cbi_sarif.level_of(shown), due)
 
     def test_fingerprints_stay_when_lines_come_in_above(self):
         before = self.log()["runs"][0]["results"][0]["partialFingerprints"]
         self.write("upper.c", "/* one more line */\n" + looking.UPPER)
         shutil.rmtree(self.path("kept"))
         after = self.log()["runs"][0]["results"][0]
-        self.assertEqual((after["partialFingerprints"], after["locations"][0]["physicalLocation"]["region"]["startLine"]), (before, 7))
+        self.assertEqual((after["partialFingerprints"], after["locations"][0]["physicalLocation"]["region"]["startLine"]), (before, 10))

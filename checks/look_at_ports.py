@@ -22,6 +22,7 @@ from cbi_port.files import too_large  # noqa: E402
 
 TABLE = os.path.join(TOP, "checks", "ports_table")
 TURNS = 100000000
+STUMBLED = "what cbi-port doesn't take"  # a refusal that comes of an exception of Python's: a defect of the tool, and never what is expected
 
 
 def builds_32():
@@ -84,6 +85,7 @@ class Programs(Case):
                     with self.assertRaises(cbi_port.Refused) as caught:
                         cbi_port.port([os.path.join(TABLE, name)], args=due.words)
                     told = [(problem.line, f"{problem.construct}: {problem.advice}") for problem in caught.exception.problems]
+                    self.assertFalse([row for _, row in told if STUMBLED in row], name)
                     for line, words in due.refused:
                         self.assertTrue(any(at == line and words in row for at, row in told), f"{name}: {line} {words} in {told}")
                     self.assertLessEqual({at for at, _ in told}, {line for line, _ in due.refused}, f"{name}: {told}")
@@ -182,12 +184,51 @@ class Files(Case):
         self.assertTrue(any(int(row[3]) == of_second[0] and row[5] == "if" for row in rows))
         self.assertTrue(any(line.file.endswith("shared.h") and line.line == 6 for line in ported.lines))
 
+    def test_structs_that_a_header_names_first(self):
+        """A struct that is named before it is defined is one type in all files that have the header. Where two files define it for themselves, each has its own."""
+        self.write("list.h", "typedef struct item *link;\ntypedef struct item { int n; link next; } item_t;\ntypedef struct hidden *handle;\nstruct later;\n"
+                   "int sum(link);\nhandle open_one(int);\nint asked(handle);\nint of_later(struct later *);\nint own(void);\n")
+        self.write("later.h", "struct later { char c; int n; };\n")
+        main = self.write("main.c", "#include <stdio.h>\n#include \"list.h\"\n#include \"later.h\"\nstruct own { int a, b, c; };\n"
+                          "int main(void)\n{\n    item_t b = { 4, 0 }, a = { 3, &b };\n    link p = &a;\n    struct later l = { 'x', 7 };\n"
+                          "    printf(\"%d %d %d %d %d %d\\n\", sum(p), p->next->n, asked(open_one(5)), of_later(&l), own(), (int)sizeof(struct own));\n    return 0;\n}\n")
+        more = self.write("more.c", "#include <stdlib.h>\n#include \"list.h\"\n#include \"later.h\"\nstruct hidden { char tag; int n; };\nstruct own { char c; };\n"
+                          "int sum(link l)\n{\n    int n = 0;\n    for (; l; l = l->next)\n        n += l->n;\n    return n + (int)sizeof(item_t) + (int)sizeof *l;\n}\n"
+                          "handle open_one(int n)\n{\n    handle h = malloc(sizeof *h);\n    h->n = n;\n    h->tag = 'h';\n    return h;\n}\n"
+                          "int asked(handle h) { int n = h->n + h->tag; free(h); return n; }\nint of_later(struct later *l) { return l->n + l->c; }\nint own(void) { return sizeof(struct own); }\n")
+        third = self.write("third.c", "#include \"list.h\"\nstruct hidden { int deep[4]; };\nint third(void) { struct hidden h = { { 1, 2, 3, 4 } }; handle p = &h; return p->deep[3] + (int)sizeof *p; }\n")
+        for memory in ("cells", "bytes"):
+            ported = cbi_port.port([main, more, third], ["-I" + self.room], memory=memory)
+            checked = check.compare([main, more, third], ["-I" + self.room], ported, [("none", b"")], CBI, None, TURNS)
+            self.assertEqual(checked.equal, 1, checked.differences)
+
+    def test_what_is_told_of_the_system(self):
+        """`perror` writes glibc's texts where stderr is joined, and that there is no environment is told."""
+        name = self.write("told.c", "#include <errno.h>\n#include <stdio.h>\n#include <stdlib.h>\nint main(void)\n{\n    char *home = getenv(\"NOWHERE_AT_ALL\");\n    errno = ENOENT;\n"
+                          "    perror(\"prog\");\n    errno = 200;\n    perror(NULL);\n    return home != NULL;\n}\n")
+        for memory in ("cells", "bytes"):
+            ported = cbi_port.port([name], stderr=True, memory=memory)
+            self.assertEqual(ported.liberties, ["getenv gives NULL, whatever the environment has"])
+            got = check.run_ported(CBI, check.transformed(CBI, ported, self.room)[0], b"", self.room, TURNS)
+            built = check.compiled([name], [], self.room, "built", ["-O0"])
+            by_gcc = subprocess.run([built], stdout=subprocess.PIPE, stderr=subprocess.STDOUT, check=False)
+            self.assertEqual((got.output, got.status), (by_gcc.stdout, by_gcc.returncode))
+            self.assertEqual(by_gcc.stdout, b"prog: No such file or directory\nUnknown error 200\n")
+
     def test_not_there(self):
         with self.assertRaises(cbi_port.Refused) as caught:
             cbi_port.port([self.write("a.c", "#include \"none.h\"\nint main(void) { return 0; }\n")])
         self.assertEqual((caught.exception.problems[0].line, caught.exception.problems[0].construct), (1, "`#include` of none.h"))
         with self.assertRaises(OSError):
             cbi_port.port([self.path("none.c")])
+        # All headers that aren't there at once, in all files, and of the rest what doesn't come of them.
+        first = self.write("c.c", "#include <none/at_all.h>\n#include <stdio.h>\n#include \"mine.h\"\nint main(void)\n{\n    WINDOW *w = initscr();\n    if (system(\"true\"))\n        rewind(stdin);\n    return mine(w);\n}\n")
+        second = self.write("d.c", "#include \"mine.h\"\n#include <math.h>\nint mine(int w) { return pow(2, 3) > 1 + refused(w); }\n")
+        with self.assertRaises(cbi_port.Refused) as caught:
+            cbi_port.port([first, second])
+        self.assertEqual([(os.path.basename(it.file), it.line, it.construct) for it in caught.exception.problems],
+                         [("c.c", 1, "`#include` of none/at_all.h"), ("c.c", 3, "`#include` of mine.h"), ("d.c", 1, "`#include` of mine.h"),
+                          ("c.c", 7, "`system`"), ("c.c", 8, "`rewind`"), ("d.c", 3, "`pow`")])
         with self.assertRaises(cbi_port.Refused) as caught:
             cbi_port.port([self.write("b.c", "int f(void) { return 0; }\n")])
         self.assertEqual(caught.exception.problems[0].construct, "no `main`")

@@ -17,7 +17,7 @@ class Signals(Hunting):
     def begun(self, *more, **kinds):
         self.room_of_files = tempfile.mkdtemp(prefix="cbi tmp ")
         self.addCleanup(shutil.rmtree, self.room_of_files, True)
-        words = ["cbi-hunt", "upper.c", "--inputs", "both", "--runs", "1000000", "--jobs", "2", *more]
+        words = ["cbi-hunt", "upper.c", "--inputs", "both", "--rate", "2", "--runs", "1000000", "--jobs", "2", *more]
         return subprocess.Popen(words, cwd=self.room, env=dict(environment(), TMPDIR=self.room_of_files), stdout=subprocess.PIPE, stderr=subprocess.PIPE, start_new_session=True, **kinds)
 
     def at_work(self):
@@ -33,6 +33,18 @@ class Signals(Hunting):
             self.assertEqual((begun.returncode, err), (130, b""), (number, whole))
             self.assertIn(b"interrupted, so this is what there is", out)
             self.assertEqual(os.listdir(self.room_of_files), [])
+
+    def test_one_that_timeout_ends_tells_what_it_has(self):
+        """`timeout` sends its signal to the process, and then to its group: that is one asking."""
+        begun = self.begun(preexec_fn=heed_interrupts)
+        self.wait_for(self.at_work)
+        os.kill(begun.pid, signal.SIGTERM)
+        time.sleep(0.02)
+        os.killpg(begun.pid, signal.SIGTERM)
+        out, err = begun.communicate()
+        self.assertEqual((begun.returncode, err), (130, b""))
+        self.assertIn(b"interrupted, so this is what there is", out)
+        self.assertEqual(os.listdir(self.room_of_files), [])
 
     def test_a_second_signal_ends_it_too(self):
         """It comes while the hunt waits for what its processes are at. It then tells nothing of its runs; the first by itself has it tell what it has."""
@@ -96,7 +108,7 @@ def taken(*words):
     before(*words)
     Going()
 here.taken = taken
-sys.argv = ["cbi-hunt", "upper.c", "--inputs", "both", "--runs", "1000000", "--jobs", "1"]
+sys.argv = ["cbi-hunt", "upper.c", "--inputs", "both", "--rate", "2", "--runs", "1000000", "--jobs", "1"]
 sys.exit(hunting.main())
 """)
         out, _ = self.call(sys.executable, "lose.py", due=130)

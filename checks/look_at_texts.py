@@ -72,21 +72,21 @@ class Ported(Hunting):
         self.write("in puts/09 fgh", "fg!")
 
     def hunted(self, *words, due=0):
-        return self.call("cbi-hunt", "main.c", "check.c", "--inputs", "in puts", "--rate", "1", "--runs", "24", "--jobs", "1", *words, "--", "-I", "include", due=due)
+        return self.call("cbi-hunt", "main.c", "check.c", "--inputs", "in puts", "--rate", "1", "--jobs", "1", *words, "--", "-I", "include", due=due)
 
     def test_files_and_lines_are_those_of_the_text_that_is_given(self):
         out, err = self.hunted("--html", "page.html", "--keep", "kept")
-        self.assertTrue(out.startswith("if (c == '!') was true at check.c:5 in check. All 4 runs that saw it failed; of the 20 others that looked\n"
-                                       "there none did. All 4 failing runs ended by a call of abort (trap 14).\n\n      3 | int check(int c)\n      4 | {\n>     5 |     if (c == '!')\n"), out)
+        self.assertIn("\nPerhaps by chance, check.c:5 in check: if (c == '!') was true\nTrue in both failing runs that came there, and in none of the 10 others that did. ", out)
+        self.assertIn("\n\n      3 | int check(int c)\n      4 | {\n>     5 |     if (c == '!')\n      6 |         abort();   <- runs only where this is true\n      7 |     return c;\n\nended by: a call of abort (trap 14, 2 runs)\n", out)
         self.assertRegex(out, r"\nported: [^\n]*1 switch" + ("[^\n]*; 10 of 12 outputs as gcc's, 2 runs end in trap 14 where gcc's aborts\n" if shutil.which("gcc") else ""))
-        self.assertIn("\n  1. check.c:5, check: if (c == '!') is true\n", out)
+        self.assertIn("\n  1. check.c:5, check: if (c == '!') is true\n", self.call("cbi-show", "--hunt", "kept", "--all")[0])
         page = sound(self, self.read("page.html").decode())
         self.assertIn([3, "check.c"], page.headings)
         self.assertIn("#F2L5", page.links)
-        self.assertTrue(self.call("cbi-show", "--hunt", "kept", "--format", "quickfix")[0].startswith("check.c:5: if (c == '!') is true: "))
+        self.assertTrue(self.call("cbi-show", "--hunt", "kept", "--format", "quickfix")[0].startswith("check.c:5: Perhaps by chance, if (c == '!') was true: "))
         log = json.loads(self.call("cbi-show", "--hunt", "kept", "--format", "sarif")[0])
         place = log["runs"][0]["results"][0]["locations"][0]["physicalLocation"]
-        self.assertTrue(place["artifactLocation"]["uri"].endswith("/check.c"))
+        self.assertEqual(place["artifactLocation"], {"uri": "check.c", "uriBaseId": "%SRCROOT%"})
         self.assertEqual(place["region"], {"startLine": 5, "snippet": {"text": "    if (c == '!')"}})
 
     def test_the_run_is_made_again_without_what_was_kept(self):
@@ -94,6 +94,35 @@ class Ported(Hunting):
         self.assertNotIn("outputs as gcc's", out)
         command = re.search(r"^the run again: (.*)$", out, re.MULTILINE)[1]
         self.assertIn("It trapped: 14 Abort", self.call("bash", "-c", command)[0])
+
+    def test_a_text_of_cbi_port_is_hunted_with_the_map_beside_it(self):
+        self.call("cbi-port", "-I", "include", "--quiet", "main.c", "check.c", "-o", "joined.c")
+        words = ["cbi-hunt", "joined.c", "--inputs", "in puts", "--rate", "1", "--runs", "24", "--jobs", "1"]
+        out, _ = self.call(*words)
+        self.assertIn("\nPerhaps by chance, check.c:5 in check: if (c == '!') was true\n", out)
+        self.assertIn("\nlines are those that joined.c.lines names\n", out)
+        command = re.search(r"^the run again: (.*)$", out, re.MULTILINE)[1]
+        self.assertTrue(command.startswith("cbi transform --mode plain joined.c | "), command)
+        for text, told in (("cbi-lines 1\nfiles 0\nfunctions 0\nlines 1\nadded\nend\n", "has 1 line and the text hasn't"), ("no map\n", "is no map of lines")):
+            self.write("joined.c.lines", text)
+            out, _ = self.call(*words)
+            self.assertIn(f"joined.c.lines {told}, so lines are those of joined.c", out)
+
+    def test_what_the_porter_is_told_a_hunt_is_told_too(self):
+        """Options of the preprocessor, what goes to stderr, and how memory is kept; the command for the run again has them."""
+        self.write("told.c", "#ifdef FAST\n#error fast\n#endif\n#include <stdio.h>\n#include \"check.h\"\nint main(void)\n{\n    int c;\n    while ((c = getchar()) != EOF)\n"
+                   "        if (c == BAD)\n            fputs(\"bad\", stderr);\n        else\n            fputc(check(c), stderr);\n    return 0;\n}\n")
+        self.write("before.h", "#define BAD '!'\n")
+        self.write("judge", "#!/bin/sh\n! grep -q bad \"$2\"\n")
+        os.chmod(self.path("judge"), 0o755)
+        words = ["cbi-hunt", "told.c", "check.c", "--inputs", "in puts", "--rate", "1", "--runs", "24", "--jobs", "1", "--no-check", "--oracle", "./judge", "-D", "FAST", "-U", "FAST", "-I", "include",
+                 "-include", "before.h", "--stderr"]
+        for memory in ("cells", "bytes"):
+            out, _ = self.call(*words, "--memory", memory)
+            self.assertIn("told.c:10 in main: if (c == BAD) was true", out)
+            command = re.search(r"^the run again: (.*)$", out, re.MULTILINE)[1]
+            self.assertIn(f"cbi-port --quiet --stderr --memory {memory} told.c check.c -Iinclude -DFAST -UFAST -include before.h | ", command)
+            self.assertIn("bad", self.call("bash", "-c", command)[0])
 
     def test_what_the_porter_refuses_is_told_with_its_line(self):
         self.write("check.c", CHECK.replace("    return c;", "    return undeclared_name;"))
@@ -135,7 +164,7 @@ class Lines(Case):
         view = cbi_rows.view_of(cbi_files.Ranking(rows, None), cbi_rows.Given(where))
         self.assertEqual([shown.row.rank for shown in view.added], [1, 3])
         text, whole = ("\n".join(cbi_text.text_of(view, every=every)) for every in (False, True))
-        self.assertTrue(text.startswith("if was true at check.c:5 in main. "), text)
+        self.assertTrue(text.startswith("check.c:5 in main: if was true\n"), text)
         self.assertIn("\n2 rows of what the port added aren't shown (--all shows them).\n", text)
         self.assertNotIn("cbi_strlen", text)
         self.assertIn("\n  1. what the port added, cbi_strlen: if is true\n", whole)

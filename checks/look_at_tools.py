@@ -16,6 +16,8 @@ sys.dont_write_bytecode = True
 import looking  # noqa: E402
 from looking import EXAMPLES, TOOLS, TOP, Case, environment, sources  # noqa: E402
 from look_at_answers import Answer, Facts, Hangs, Numbers, Sections  # noqa: E402,F401: their cases are among those that are looked at
+from look_at_broken import Loops, Marks, Memory, Outputs, Traps  # noqa: E402,F401
+from look_at_bugs import Bugs, Evidence, PortedFacts, Words  # noqa: E402,F401
 from look_at_farms import Farm  # noqa: E402,F401
 from look_at_hunts import Hunt, Sample  # noqa: E402,F401
 from look_at_inputs import Folders, Mutants, Oracles, Smaller  # noqa: E402,F401
@@ -23,6 +25,7 @@ from look_at_lists import Listed, Retold, Without  # noqa: E402,F401
 from look_at_pages import Pages, Sarif, Style, sound  # noqa: E402,F401
 from look_at_screens import Screens  # noqa: E402,F401
 from look_at_signals import Signals  # noqa: E402,F401
+from look_at_statuses import Statuses  # noqa: E402,F401
 from look_at_texts import Lines, Port, Ported  # noqa: E402,F401
 from look_at_ways import Ways  # noqa: E402,F401
 
@@ -231,19 +234,13 @@ class Explain(Case):
         self.call("cbi-explain", "missing.c", given=b"cbi: refusal 12 Syntax line 1\n", due=2)
 
 
-# A program with one branch, and 20 runs of it: those of docs/RANKING.md. Its thermometer, by hand: context 10/20, failure 9/10. The shares of
+# A program with one branch, and 20 runs of it: those of docs/METHOD.md. Its thermometer, by hand: context 10/20, failure 9/10. The shares of
 # failing and successful runs are 9/10 and 1/10, the interval of their difference 0.8 +- 1.96 * sqrt(0.09/10 + 0.09/10) = 0.8 +- 0.262962, and that
 # of Increase half of it, from 0.268519 to 0.531481.
 BRANCH = "int main(void){int a=getchar();if(a);return 0;}\n"
 BRANCH_ROW = "1,0,branches,main,1,if is true,9,1,10,10,900000,500000,400000,563706\n"
-BRANCH_TEXT = """\
-if (a) was true at prog.c:1 in main. 9 of the 10 runs that saw it failed; of the 10 others that looked there 1
-in 10 did. All 10 failing runs ended by a call of abort (trap 14).
-
->     1 | int main(void){int a=getchar();if(a);return 0;}
-
-ranked: 20 runs, of which 10 failed and 10 succeeded
-
+# Its strength: e = 9 * 10 - 1 * 10 = 80, and 6400 / (100 * 10 * 10). In the run that is left `if` is false, as in nine others.
+BRANCH_ROWS = """\
   1. line 1, main: if (a) is true
      fails 50 % of the time when reached, 90 % when this is true
      [################=========----...] importance 0.564
@@ -256,6 +253,28 @@ Each row is about the runs that no row above it explains. A bar is the longer th
 how often runs fail that come to the place, = what the predicate adds to that for sure (95 %), - what it may
 add, and . how often runs succeed in which it was true.
 """
+BRANCH_TEXT = """\
+1 bug explains 9 of the 10 failing runs; 1 is left over (20 runs).
+
+prog.c:1 in main: if (a) was true
+True in 9 of the 10 failing runs that looked there, and in 1 of the 10 others that did.
+
+>     1 | int main(void){int a=getchar();if(a);return 0;}
+
+ended by: a call of abort (trap 14, 9 runs)
+
+1 weak fact of 1 other failing run: chance alone would make one as strong more often than once in 20 hunts
+(--all shows it).
+
+ranked: 20 runs, of which 10 failed and 10 succeeded
+
+Suspicious lines:
+  0.640  line 1, main: if (a) was true (9 of 10 failing, 1 of 10 others)
+Each line by its best fact, one for each three around. Strength is the square of the correlation between the
+fact and failing: 1 where it was true in all failing runs and in no other.
+
+"""
+BRANCH_FOLDED = "The ranking of cbi rank has 1 row (--all shows it, with what falls with each).\n"
 
 
 class Show(Case):
@@ -282,15 +301,22 @@ class Show(Case):
         return page, text
 
     def test_the_worked_ranking_as_text(self):
-        self.assertEqual(self.show("ranking", "--source", "prog.c", "--program", "prog.cbi", "--reports", "runs"), BRANCH_TEXT)
+        self.assertEqual(self.show("ranking", "--source", "prog.c", "--program", "prog.cbi", "--reports", "runs"), BRANCH_TEXT + BRANCH_FOLDED)
         self.write("cards", self.call("cbi", "cards", "prog.cbi", "runs")[0])
         self.assertEqual(self.read("cards"), b"card 1 0 main 1 if is true\ntruth 9 1 first 1\nend\n")
-        self.assertEqual(self.show("ranking", "--source", "prog.c", "--program", "prog.cbi", "--reports", "runs", "--cards", "cards"), BRANCH_TEXT)
-        head, rest = BRANCH_TEXT.split("\n\nranked: 20 runs, of which 10 failed and 10 succeeded\n\n")
-        head, rest = (text.replace("if (a)", "if") for text in (head.replace(" All 10 failing runs ended by a call of abort (trap 14).", ""), rest))
-        rest = rest.replace("     its failing runs ended by a call of abort (trap 14, 9 runs)\n", "").replace("getchar();if;", "getchar();if(a);")
-        self.assertEqual(self.show("ranking", "--source", "prog.c", "--cards", "cards").replace("1 in\n10 did", "1\nin 10 did"), head + "\n\n" + rest)
-        self.assertEqual(self.show("-", "--source", "prog.c", "--program", "prog.cbi", "--reports", "runs", given=self.read("ranking").replace(b"\n", b"\r\n")), BRANCH_TEXT)
+        self.assertEqual(self.show("ranking", "--source", "prog.c", "--program", "prog.cbi", "--reports", "runs", "--cards", "cards"), BRANCH_TEXT + BRANCH_FOLDED)
+        self.assertEqual(self.show("-", "--source", "prog.c", "--program", "prog.cbi", "--reports", "runs", given=self.read("ranking").replace(b"\n", b"\r\n")), BRANCH_TEXT + BRANCH_FOLDED)
+        every = self.show("ranking", "--source", "prog.c", "--program", "prog.cbi", "--reports", "runs", "--all")
+        self.assertTrue(every.endswith("\n\nThe ranking of cbi rank:\n\n" + BRANCH_ROWS), every)
+        self.assertIn("B. Perhaps by chance, prog.c:1 in main: if (a) was false\nOf the 1 failing run that no bug above explains, true in the one that looked there, and in 9 of the 10 others\nthat did. Weak evidence: of the 2 facts that were looked at, chance alone would make 1.8 look as strong.\n", every)
+
+    def test_a_ranking_alone_is_shown_by_its_rows(self):
+        self.write("cards", self.call("cbi", "cards", "prog.cbi", "runs")[0])
+        rows = BRANCH_ROWS.replace("     its failing runs ended by a call of abort (trap 14, 9 runs)\n", "").replace("main: if (a) is", "main: if is")
+        self.assertEqual(self.show("ranking", "--source", "prog.c", "--cards", "cards"), "prog.c:1 in main: if was true\n\n" + rows)
+        page, _ = self.page("ranking", "--source", "prog.c")
+        self.assertEqual(page.headings[0], [1, "prog.c:1 in main: if was true"])
+        self.assertIn("True in 9 failing runs and 1 successful run; looked at in 10 failing and 10 successful.", page.text)
 
     def test_its_thermometer(self):
         row = cbi_files.read_ranking(self.path("ranking")).rows[0]
@@ -301,10 +327,10 @@ class Show(Case):
 
     def test_its_page(self):
         page, text = self.page("ranking", "--source", "prog.c", "--program", "prog.cbi", "--reports", "runs")
-        self.assertIn("True in 9 failing runs and 1 successful run; looked at in 10 failing and 10 successful.", page.text)
+        self.assertIn("True in 9 failing runs and 1 successful run; looked at in 10 failing and 10 successful.", page.folded)
         self.assertIn("Importance 0.564: context 50 %, increase at least 27 % and up to 13 % more, successful runs 10 %.", page.folded)
         self.assertIn("p0", page.ids)
-        self.assertEqual(page.links, ["#main", "#rows", "#endings", "#source", "#reading", "#L1", "#p0"])
+        self.assertEqual(page.links, ["#main", "#suspicious", "#endings", "#ranking", "#source", "#reading", "#L1", "#L1", "#answer"])
 
     def test_sarif_has_what_the_standard_requires(self):
         log = json.loads(self.show("ranking", "--source", "prog.c", "--format", "sarif"))

@@ -33,8 +33,8 @@ class Ways(Case):
     """The commands for a fresh clone."""
 
     def test_words_that_are_wrong_are_told(self):
-        usages = {"build": "usage: ./build FOLDER [--man FOLDER] [--gate]\n", "demo": "usage: ./demo [PAGE]\n", "check": "usage: ./check [--all] [CRATE..]\n"}
-        for words in (["build"], ["build", "--what", "a"], ["build", "a", "b"], ["build", "a", "--man"], ["build", "--help"], ["demo", "a", "b"], ["demo", "--help"], ["check", "--help"]):
+        usages = {"build": "usage: ./build FOLDER [--man FOLDER] [--gate | --unproved | --checked]\n", "demo": "usage: ./demo [--build] [PAGE]\n", "check": "usage: ./check [--all] [CRATE..]\n"}
+        for words in (["build"], ["build", "--what", "a"], ["build", "a", "b"], ["build", "a", "--man"], ["build", "a", "--gate", "--unproved"], ["build", "--help"], ["demo", "a", "b"], ["demo", "--help"], ["check", "--help"]):
             self.executable("rt", "#!/bin/sh\necho \"$*\" >>'" + self.path("asked") + "'\n")
             self.assertEqual(self.way(*words), (2, "", usages[words[0]]), words)
         self.assertFalse(os.path.exists(self.path("asked")))
@@ -61,9 +61,9 @@ class Ways(Case):
                 self.write("top/crates/" + part, "\n")
             self.write("top/crates.txt", "# two rooms\nlow:\nhigh: low\ncbi: low kit\n")
             self.write("top/HANDLES", "Handles allowed: none.\n")
-            for part in ("demo", "check", "build"):
+            for part in ("demo", "check", "build", "install"):
                 shutil.copy(os.path.join(looking.TOP, part), self.path("top", part))
-            for part in ("tools", "examples", "docs"):
+            for part in ("tools", "examples", "docs", "house"):
                 os.symlink(os.path.join(looking.TOP, part), self.path("top", part))
         plain = os.pathsep.join([self.path("bin"), os.path.dirname(sys.executable), "/usr/local/bin", "/usr/bin", "/bin"])
         given = dict(environment(), PATH=path or plain, **({"TMPDIR": tmp} if tmp else {}))
@@ -127,7 +127,7 @@ echo "$(wc -l <"$said") ok, 0 not" >>"$said"
     def test_rows_that_are_met_and_rows_that_are_not(self):
         """What is due is what the gate asks of the program, but for the rows that are left out."""
         slow = sum(1 for crate, *_ in self.slow_rows() if crate == "cases_pairs")
-        begins = r"^\./check: rt builds and runs programs without their proofs, [^\n]* of a processor each: cases_pairs\. \.ci/run proves, [^\n]*\n"
+        begins = r"^\./check: rt builds and runs programs without their proofs, [^\n]* CPU minutes each: cases_pairs\. \.ci/run proves, [^\n]*\n"
         out, err = self.checked('cat "$said"', "cases_pairs")
         self.assertRegex(out, begins + rf"cases_pairs: {29 - slow} ok, 0 not, in \d+ s; {slow} slow rows left out\n$")
         self.assertEqual(err, "")
@@ -143,6 +143,8 @@ echo "$(wc -l <"$said") ok, 0 not" >>"$said"
             self.assertEqual(err, f"./check: {name} is no program of cases\n")
 
     def test_all_programs_of_cases_are_looked_at_where_none_is_named(self):
+        # no git, so the released executable isn't taken for the tree's own, which checks/process and checks/examples would look at
+        self.executable("git", "#!/bin/sh\nexit 1\n")
         out, _ = self.checked('cat "$said"')
         found = {line.split(": ")[0]: int(line.split()[1]) for line in out.splitlines()[1:]}
         due = collections.Counter({crate: self.of_crate(crate, "stdout").count("\nok ") + 1 for crate in found})
@@ -180,8 +182,9 @@ echo "$(wc -l <"$said") ok, 0 not" >>"$said"
         tool = os.path.abspath(looking.CBI)
         self.executable("cbi", f"#!/bin/sh\nexec '{tool}' \"$@\"\n")
         status, out, err = self.way("demo", "page.html")
-        self.assertEqual((status, err), (0, f"./demo: has {self.path('bin/cbi')} hunt the bug of examples/lookup in 1,000 runs, which look at every visit: seconds.\n"))
-        self.assertTrue(out.startswith("find(name) returned NULL at examples/lookup/lookup.c:41 in main. All 164 runs that saw it failed; of the 828"), out)
+        self.assertEqual((status, err), (0, f"./demo: has {self.path('bin/cbi')} hunt the bug of examples/lookup in 250 runs, which look at every visit: seconds.\n"
+                                             "./demo: next: ./install, and then cbi-hunt YOUR.c --inputs FOLDER (docs/HUNTING.md)\n"))
+        self.assertTrue(out.startswith("1 bug explains all 41 failing inputs (250 inputs).\n\nexamples/lookup/lookup.c:41 in main: find(name) returned NULL\n"), out)
         self.assertTrue(out.endswith(f"page: {self.path('page.html')}\n"), out)
         self.assertIn(b"<h1><code>find(name)</code> returned NULL at examples/lookup/lookup.c:41", self.read("page.html"))
 
@@ -194,12 +197,13 @@ echo "$(wc -l <"$said") ok, 0 not" >>"$said"
         self.wait_for(lambda: not self.at_work_in(self.path("tmp")))
         self.assertEqual(self.at_work_in(self.path("tmp")), [])
         self.assertEqual(status, 0, err)
-        self.assertTrue(out.startswith("find(name) returned NULL at examples/lookup/lookup.c:41 in main. All 12 runs that saw it failed; of the 87\n"
-                                       "others that looked there none did. All 12 failing runs ended by a null pointer that is used (trap 8).\n"), out)
+        self.assertTrue(out.startswith("1 bug explains all 12 failing inputs (100 inputs).\n\nexamples/lookup/lookup.c:41 in main: find(name) returned NULL\n"
+                                       "True in all 12 failing runs that came there, and in none of the 87 others that did.\n"), out)
+        self.assertIn("\nended by: a null pointer that is used (trap 8, 12 runs)\n", out)
         self.assertIn("\nthe run again: printf 'd=6 d? d? d? c? d? d?\\n' >input; cbi transform --mode plain examples/lookup/lookup.c | ", out)
         self.assertTrue(out.endswith(f"page: {self.path('page.html')}\n"), out)
-        self.assertRegex(err, r"^\./demo: there is no cbi yet, so rt builds it without its proofs and makes each call of a hunt of 100 runs, [^\n]* of a processor\.\n")
-        self.assertTrue(err.endswith("tools/try-cbi: nothing was kept of the cbi that was built; ./build proves one and leaves it\n"), err)
+        self.assertRegex(err, r"^\./demo: there is no cbi yet, so rt builds it without its proofs and makes each call of a hunt of 100 runs, [^\n]* CPU minutes\.\n")
+        self.assertTrue(err.endswith("tools/try-cbi: nothing was kept of the cbi that was built; ./build FOLDER --unproved leaves one\n"), err)
         self.assertIn(b"<h1><code>find(name)</code> returned NULL at examples/lookup/lookup.c:41", self.read("page.html"))
 
     def test_a_demo_that_is_ended_while_it_builds_leaves_nothing(self):
@@ -213,7 +217,7 @@ echo "$(wc -l <"$said") ok, 0 not" >>"$said"
             (os.killpg if number == signal.SIGINT else os.kill)(begun.pid, number)
             _, err = begun.communicate(timeout=300)
             self.assertEqual((begun.returncode, os.listdir(folder)), (130, []), err)
-            self.assertTrue(err.endswith(b" of a processor.\ncbi-hunt: interrupted\n"), err)
+            self.assertTrue(err.endswith(b" CPU minutes.\ncbi-hunt: interrupted\n"), err)
             self.wait_for(lambda: not self.at_work_in(folder))
             self.assertEqual(self.at_work_in(folder), [])
 
@@ -235,7 +239,7 @@ echo "$(wc -l <"$said") ok, 0 not" >>"$said"
 
     def test_text_and_pictures_in_the_documents_are_of_what_the_hunt_writes(self):
         shutil.copytree(os.path.join(looking.EXAMPLES, "lookup"), self.path("lookup"))
-        out, _ = self.call("cbi-hunt", "lookup/lookup.c", "--inputs", "lookup/inputs", "--runs", "1000", "--html", "page.html")
+        out, _ = self.call("cbi-hunt", "lookup/lookup.c", "--inputs", "lookup/inputs", "--html", "page.html")
         with open(os.path.join(looking.TOP, "docs", "hunt.txt"), encoding="utf-8") as file:
             self.assertEqual(out, file.read())
         with open(os.path.join(looking.TOP, "docs", "hunt.sha256"), encoding="utf-8") as file:

@@ -140,6 +140,16 @@ class Hunting(Case):
         self.write("due lines", "".join(word.upper() + "\n" for word in words))
         self.write("judge.py", "import sys\ninput, output = [open(name).read() for name in sys.argv[1:]]\nsys.exit(0 if output == input.upper() else 3)\n")
 
+    def more_inputs(self):
+        """Three times as many inputs, of which nine fail: so many that a fact of these is beyond chance."""
+        for letter, behind in (("x", 12), ("y", 24)):
+            for name in [name for name in sorted(os.listdir(self.path("in puts"))) if int(name[:2]) < 12]:
+                number, word = int(name[:2]) + behind, name[3:] + letter
+                self.write(f"in puts/{number} {word}", word)
+                self.write(f"due/{number} {word}", word.upper())
+                self.write(f"both/{number}", word)
+                self.write(f"both/{number}.expected", word.upper())
+
     def hunt(self, *words, due=0):
         """A hunt, whose status is looked at unless it may be any; what it says, or where it is to fail what it is refused for."""
         out, err = self.call("cbi-hunt", "upper.c", "--jobs", "1", *words, due=due)

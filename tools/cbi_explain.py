@@ -234,6 +234,8 @@ def explain_report(name: str, text: str, program: Optional[str], judged: bool = 
     yield explain_outcome(run.outcome)
     if run.label == "fail" and run.outcome.startswith("ended"):
         yield "It counts as failing: its output wasn't the expected one."
+    elif run.label == "pass" and not judged and cbi_files.status_of(run.outcome):
+        yield "It counts as successful, since its output decides and no --expect says what that should be; cbi-hunt --status fail counts such a run as failed."
     elif run.label == "pass" and not judged:
         yield "It counts as successful, since no --expect says what it should write."
     else:

@@ -18,19 +18,16 @@ NOT_PROVED = "This script is not proved; the executable cbi, which it stands bes
 
 # Statuses of the scripts, as `grep` has them: found, nothing found, trouble.
 FOUND, NOTHING, TROUBLE = 0, 1, 2
-INTERRUPTED = 130
-# What a shell says of a process that a closed pipe ended.
-CLOSED = 141
+# What a shell says of a process that ^C ended, and of one that a closed pipe did.
+INTERRUPTED, CLOSED = 130, 141
 
-RANKING_COLUMNS = ("rank,predicate,scheme,function,line,text,f,s,fobs,sobs,"
-                   "failure,context,increase,importance").split(",")
+RANKING_COLUMNS = "rank,predicate,scheme,function,line,text,f,s,fobs,sobs,failure,context,increase,importance".split(",")
 STUDY_LINE = re.compile(r"study runs (\d+) failed (\d+) ended (\d+) cut (\d+) fast (\d+) slow (\d+) tests (\d+)")
 
 TRAPS = {
     1: ("Overflow", "a signed result is out of range"),
     2: ("Divide", "a divisor is zero"),
-    3: ("Shift", "a shift isn't defined: its count is below 0 or above 31, or an int is shifted left that is "
-                 "negative or becomes too great"),
+    3: ("Shift", "a shift isn't defined: its count is below 0 or above 31, or an int is shifted left that is negative or becomes too great"),
     4: ("Undefined", "a value is used that nothing was stored to"),
     5: ("WrongKind", "a cell is read as another type than the one that was stored there"),
     6: ("Bounds", "a pointer or an index goes past the ends of its object"),
@@ -54,6 +51,12 @@ ENDINGS = {
     "trapped 11": "pointers into two objects, compared or subtracted", "trapped 12": "too many calls within one another", "trapped 13": "an assert that is false",
     "trapped 14": "a call of abort", "trapped 99": "a damaged program file", "ended": "other output", "cut turns": "going back more often than --turns allows", "cut output": "writing too much",
 }
+
+
+def ending_said(ending: str) -> str:
+    """How a failing run ended, as `ended by ..` goes on; a run that failed by its status has it in its ending."""
+    return ENDINGS[ending] if ending in ENDINGS else f"an exit status of {ending.partition(' ')[2]}"
+
 
 # The six relations of a returned value or a pair, with the counters (less, equal, greater) that each sums up.
 RELATIONS = (("<", (0,)), ("<=", (0, 1)), (">", (2,)), (">=", (1, 2)), ("==", (1,)), ("!=", (0, 2)))
@@ -87,6 +90,9 @@ def call_main(name: str, main: Callable[[], int]) -> None:
     for stream in (sys.stdout, sys.stderr):
         if hasattr(stream, "reconfigure"):
             stream.reconfigure(errors="backslashreplace")
+    if sys.stdout is None:
+        print(f"{name}: standard output is closed", file=sys.stderr)
+        sys.exit(TROUBLE)
     try:
         status = main()
         sys.stdout.flush()
@@ -320,6 +326,12 @@ class Run(NamedTuple):
 def label_by(outcome: str) -> str:
     """The label of a report of the first version, which has none."""
     return {"trapped": "fail", "ended": "pass"}.get(outcome.split(" ")[0], "none")
+
+
+def status_of(outcome: str) -> int:
+    """The status that a process of this end would have: the low byte of what main returned or exit was given; 0 where the run didn't end."""
+    word, _, value = outcome.partition(" ")
+    return int(value) & 255 if word == "ended" else 0
 
 
 class Report(NamedTuple):

@@ -6,11 +6,12 @@ import json
 from typing import Any, Dict, List, NamedTuple, Optional, Tuple
 
 import cbi_files
+from cbi_broke import Broke, plain_of, read_broke
 from cbi_files import Fault
 
 
 class Example(NamedTuple):
-    """A failing run to look at: its input, what it wrote beside what was due, and how it is made again. Where `of_row`, a smaller input fails in which the fact of the first row wasn't seen."""
+    """A failing run to look at: its input, what it wrote beside what was expected, how it is made again, and where it broke; `status` is its exit status where that fails."""
     name: str
     run: int
     input: bytes
@@ -22,7 +23,23 @@ class Example(NamedTuple):
     again: str
     made_from: Optional[int] = None
     steps: int = 0
-    of_row: bool = False
+    status: int = 0
+    broke: Optional[Broke] = None
+
+
+class Hanging(NamedTuple):
+    """Where some of the runs that were cut were seen last: at this statement, and how many of those that were looked at."""
+    file: str
+    line: int
+    function: str
+    statement: str
+    times: int
+
+
+class File(NamedTuple):
+    """A failing input as it can be opened: its path, or the file and the number of its line; and its size."""
+    path: str
+    size: int
 
 
 class Sample(NamedTuple):
@@ -35,8 +52,8 @@ class Sample(NamedTuple):
 
 
 class Hunted(NamedTuple):
-    """How a hunt was made. `names` are those of the failing inputs by their places, of which there are `inputs`; `notes` sum the hunt up, and `hanging` says where runs that were cut
-    were seen last, and how many of those that were looked at."""
+    """How a hunt was made. `names` are those of the failing inputs by their places, of which there are `inputs`, and `files` how these can be opened; `notes` sum the hunt up. `folder` is
+    where it was made: paths are relative to it. `examples` has a failing run for each bug, or one alone where there is no bug, and `helps` what may help where facts are weak."""
     command: str
     version: str
     date: str
@@ -53,9 +70,20 @@ class Hunted(NamedTuple):
     names: Dict[int, str]
     notes: List[str]
     advice: str
-    hanging: List[Tuple[str, int]]
-    example: Optional[Example] = None
+    hanging: List[Hanging]
+    examples: List[Example] = []
     sample: Optional[Sample] = None
+    folder: str = ""
+    files: Dict[int, File] = {}
+    helps: List[str] = []
+    by_status: bool = False
+
+    def example_of(self, bug: int) -> Optional[Example]:
+        """The failing run of a bug, by its number."""
+        return self.examples[bug - 1] if bug <= len(self.examples) else None
+
+    def place_of(self, run: int) -> int:
+        return (run - 1) % self.inputs
 
     def weighed(self, failing: int, successful: int) -> Tuple[int, int]:
         """As many ranked runs as numbers that stand to each other as these do among all runs. Under `relabel` failing runs come to count as successful ones, so
@@ -67,29 +95,42 @@ class Hunted(NamedTuple):
 
     def names_of(self, runs: List[int]) -> List[str]:
         """The names of the inputs of these runs, each once."""
-        places = dict.fromkeys((run - 1) % self.inputs for run in runs)
-        return [self.names[place] for place in places if place in self.names]
+        return [self.names[place] for place in dict.fromkeys(map(self.place_of, runs)) if place in self.names]
+
+    def files_of(self, runs: List[int]) -> List[File]:
+        """The inputs of these runs as they can be opened, each once, the smallest first."""
+        places = [place for place in dict.fromkeys(map(self.place_of, runs)) if place in self.files]
+        return [self.files[place] for place in sorted(places, key=lambda place: (self.files[place].size, place))]
+
+
+OF_BYTES = ("input", "wrote", "due")
 
 
 def write_hunted(path: str, hunted: Hunted) -> None:
-    example = hunted.example
     plain: Dict[str, Any] = hunted._asdict()
-    plain["names"] = sorted(hunted.names.items())
-    plain["example"] = example and {key: value.decode("latin-1") if isinstance(value, bytes) else value for key, value in example._asdict().items()}
+    plain["names"], plain["files"] = sorted(hunted.names.items()), [(place, *file) for place, file in sorted(hunted.files.items())]
+    plain["examples"] = [{**{key: value.decode("latin-1") if isinstance(value, bytes) else value for key, value in example._asdict().items()}, "broke": plain_of(example.broke)}
+                         for example in hunted.examples]
     with open(path, "w", encoding="utf-8") as file:
         json.dump(plain, file, indent=1)
 
 
+def example_in(plain: Dict[str, Any]) -> Example:
+    plain.pop("of_row", None)
+    broke = read_broke(plain.pop("broke", None))
+    return Example(broke=broke, **{key: value.encode("latin-1") if key in OF_BYTES and value is not None else value for key, value in plain.items()})
+
+
 def read_hunted(path: str) -> Hunted:
+    """What a hunt left, also one of an earlier version, which had one example, and no places of what it says of runs without end."""
     try:
         plain = json.loads(cbi_files.read_bytes(path).decode("utf-8"))
-        example = plain.pop("example")
-        if example:
-            for key in ("input", "wrote", "due"):
-                example[key] = example[key] if example[key] is None else example[key].encode("latin-1")
+        before = plain.pop("example", None)
+        examples = [example_in(one) for one in plain.pop("examples", [before] if before else [])]
         names = {int(place): str(name) for place, name in plain.pop("names")}
-        hanging = [(str(text), int(count)) for text, count in plain.pop("hanging")]
+        hanging = [Hanging(*one) if len(one) > 2 else Hanging("", 0, "", str(one[0]), int(one[1])) for one in plain.pop("hanging")]
+        files = {int(place): File(str(name), int(size)) for place, name, size in plain.pop("files", [])}
         sample = plain.pop("sample", None)
-        return Hunted(names=names, hanging=hanging, example=example and Example(**example), sample=sample and Sample(*sample), **plain)
+        return Hunted(names=names, hanging=hanging, examples=examples, sample=sample and Sample(*sample), files=files, **plain)
     except (ValueError, KeyError, TypeError, UnicodeError):
         raise Fault(f"{path}: it hasn't what cbi-hunt leaves there")

@@ -8,8 +8,8 @@ import subprocess
 import time
 from typing import Callable, Dict, List, Optional
 
-from cbi_files import Fault
-from cbi_runs import Batch, Plan, Runner, asked, call, call_to
+from cbi_files import Fault, status_of
+from cbi_runs import Batch, Plan, Runner, asked, call, call_to, outcome_of
 
 MOST_LINES = 10000     # of one call
 FIRST_LINES = 1        # of the first call, by which it is seen how long a run takes
@@ -93,9 +93,9 @@ class ListRunner(Runner):
         except Fault as fault:
             raise Fault(f"the input {plan.names[place]}: {fault}")
         with open(report, encoding="ascii") as file:
-            ended = "\noutcome ended " in file.read()
-        if ended:
-            self.judged[place] = asked(plan, plan.inputs[place], output).label
+            outcome = outcome_of(file.read())
+        if outcome.startswith("ended ") and not (plan.status and status_of(outcome)):
+            self.judged[place] = asked(plan, plan.inputs[place], output, outcome).label
             if self.judged[place] == "fail":
                 size = os.path.getsize(output)
                 with open(output, "wb") as out:
@@ -103,8 +103,10 @@ class ListRunner(Runner):
         return output
 
     def relabel(self, run: int, told: bytes) -> Optional[bytes]:
-        """Another label than a run's own: of one that was cut where such a run counts as failed, and of one of which the oracle can't tell."""
+        """Another label than a run's own: of one that was cut, or ended with a status other than 0, where such a run counts as failed, and of one of which the oracle can't tell."""
         if told == b"cut turns none" and self.plan.hangs:
+            return b"fail"
+        if self.plan.status and status_of(told.decode("ascii").rpartition(" ")[0]):
             return b"fail"
         if told.startswith(b"ended ") and self.judged.get(self.plan.input_of(run)) == "none":
             return b"none"
@@ -124,7 +126,7 @@ class ListRunner(Runner):
             large = LARGE.search(str(fault))
             on = f"run {first + int(large[1]) - 1}, on the input {plan.names[places[int(large[1]) - 1]]}" if large else f"runs {first} to {last}"
             raise Fault(f"{on}: {fault}")
-        if plan.parts or plan.hangs or "none" in self.judged.values():
+        if plan.parts or plan.hangs or plan.status or "none" in self.judged.values():
             with open(target, "rb") as file:
                 text = file.read()
             with open(target, "wb") as file:

@@ -1,23 +1,22 @@
 """The page of cbi-show: one HTML file that stands alone, without a script. Not proved.
 
-The answer stands first, then the rows, then the source, whose lines are the darker the more their best row says.
+The bugs stand first, then suspicious lines, then the rows, and the source, whose lines are the darker the more their best fact says.
 Bands of a bar differ in how light they are and in their pattern, so that they are told apart without colours, and
 each has its share in words. All is reached by links and folds, so that a keyboard is enough: no part of the page
 scrolls by itself, and long words are broken, so that the page scrolls up and down alone.
 """
-import itertools
-import os
 import re
-from typing import Dict, Iterable, Iterator, List, Optional, Set
+from typing import Dict, Iterable, Iterator, List, NamedTuple, Optional, Set, Tuple
 
 import cbi_told
-from cbi_files import ENDINGS, share
+from cbi_files import ending_said, share
 from cbi_highlight import escaped, highlighted
+from cbi_page_bugs import anchor, answer, bugs, code, fact, line_link, marked, shaded, suspicious
 from cbi_rows import Bands, Shown, View
-from cbi_source import Fact
 from cbi_style import STYLE
 from cbi_text import UNIMPORTANT, UNRELATED
-from cbi_where import Spot, Where
+from cbi_told import capital
+from cbi_where import Spot
 
 # As much is shown as a page of so many bytes has room for: all of the source, or the lines that stand near a row; and so many of what falls with a row.
 MOST_BYTES = 60000
@@ -26,7 +25,7 @@ BANDS = (("context", "how often runs fail that come to the place"),
          ("sure", "what the fact adds to that for sure (95 %)"),
          ("unsure", "what it may add beyond that"),
          ("successful", "how often runs succeed in which it was true"))
-# The words of docs/GLOSSARY.md that the page has, as they stand there.
+# The words of docs/METHOD.md that the page has, as they stand there.
 WORDS = (("site", "a place of a program at which runs are observed"),
          ("predicate", "a fact at a site that is true or not"),
          ("failure", "the share of failing runs among those in which a predicate was true"),
@@ -41,77 +40,6 @@ WORDS = (("site", "a place of a program at which runs are observed"),
          ("policy", "which runs are set aside behind a leader: `all`, `failing` or `relabel`"))
 
 
-def code(text: object) -> str:
-    return f"<code>{escaped(text)}</code>"
-
-
-def fact(said: Fact, past: bool = False) -> str:
-    """A fact with the pieces of the text in its letters: `c == 97 after c = getchar()` has two of them."""
-    says = said.past()[len(said.code):].strip() if past else said.says
-    before, after, statement = says.partition("after ")
-    return code(said.code) + (f" after {code(statement)}" if after and not before else f" {escaped(says)}" if says else "")
-
-
-def marked(text: str) -> str:
-    """A text with what stands between backquotes in the letters of a program."""
-    return re.sub("`([^`]*)`", r"<code>\1</code>", escaped(text))
-
-
-def capital(text: str) -> str:
-    return text[:1].upper() + text[1:]
-
-
-# The card
-
-def card(view: View) -> Iterator[str]:
-    """What broke, where, how often, and one failing run."""
-    first, said = view.first(), cbi_told.sentences(view)
-    yield '<header class="card" id="answer">'
-    if first:
-        yield f"<h1>{cbi_told.perhaps(first)}{fact(first.fact, True)} at {escaped(first.spot.file)}:{first.spot.line} in {code(first.row.function)}</h1>"
-        yield f"<p>{escaped(' '.join(said[1:]))}</p>"
-    else:
-        yield f"<h1>{code(view.where.main)}: no fact stands out</h1>"
-        yield from advised(said)
-    hanging = cbi_told.hanging_line(view)
-    if hanging:
-        yield f"<p>{escaped(hanging)}</p>"
-    lines = cbi_told.excerpt(view)
-    if lines and first:
-        coloured, before = highlighted(view.where.files[first.spot.file]), shared_blank([text for _, text, _ in lines])
-        yield f'<div class="lines" style="counter-reset:line {lines[0][0] - 1}">'
-        yield from (source_line("", without_blank(coloured[number - 1], before), first.row.importance if marked else None, "") for number, _, marked in lines)
-        yield "</div>"
-    if view.hunted and view.hunted.example:
-        yield '<dl class="run">'
-        for what, value in cbi_told.example_of(view.hunted.example):
-            yield f"<dt>{escaped(capital(what))}</dt><dd>{code(value)}</dd>"
-        yield "</dl>"
-    yield "</header>"
-
-
-def advised(said: List[str]) -> Iterator[str]:
-    """What is told where there is no fact; what may help is a list."""
-    for listed, lines in itertools.groupby(said, lambda line: line.startswith("- ")):
-        if listed:
-            yield "<ul>" + "".join(f"<li>{escaped(line[2:])}</li>" for line in lines) + "</ul>"
-        else:
-            yield from (f"<p>{escaped(line)}</p>" for line in lines)
-
-
-def shared_blank(lines: List[str]) -> str:
-    """The blanks that all of these lines begin with, so that the few lines of the card have room on a phone too."""
-    full = [line for line in lines if line.strip()]
-    return os.path.commonprefix([line[:len(line) - len(line.lstrip(" \t"))] for line in full])
-
-
-def without_blank(coloured: str, before: str) -> str:
-    """A line as HTML without the blanks that it begins with, be they within an element or before it."""
-    tag = re.match(r"(?:<[biu]>)?", coloured)
-    start = tag.end() if tag else 0
-    return coloured[:start] + (coloured[start + len(before):] if coloured.startswith(before, start) else coloured[start:])
-
-
 def endings(view: View) -> Iterator[str]:
     """A histogram of how runs ended."""
     if not view.seen:
@@ -122,7 +50,7 @@ def endings(view: View) -> Iterator[str]:
         yield f"<p>{escaped(capital(note))}</p>"
     yield '<table class="ends"><tbody>'
     for (label, outcome), count in sorted(view.seen.endings.items(), key=lambda item: (item[0][0] != "fail", -item[1])):
-        how = {"pass": "as it should", "fail": ENDINGS[outcome], "none": f"{ENDINGS[outcome]}, left out" if outcome != "ended" else "left out"}[label]
+        how = {"pass": "as it should", "fail": ending_said(outcome), "none": f"{ending_said(outcome)}, left out" if outcome != "ended" else "left out"}[label]
         trap = cbi_told.trap_of(outcome)
         yield (f'<tr{"" if label == "fail" else " class=well"}><td>{escaped(("" if label != "fail" else "failed: ") + how + trap)}</td><td>{count}</td>'
                f'<td aria-hidden="true"><span class="tall" style="width:{100 * count / most:.1f}%"></span></td></tr>')
@@ -149,18 +77,6 @@ def keys() -> str:
     return '<p class="quiet">In the bars: ' + "; ".join(f'<span class="key {name}"></span>{escaped(meaning)}' for name, meaning in BANDS) + ". A bar is the longer the more runs it is about.</p>"
 
 
-def anchor(spot: Spot, where: Where) -> str:
-    """The name of a line: `L41`, and in the second file `F2L41`."""
-    number = list(where.files).index(spot.file) + 1
-    return f"{f'F{number}' if number > 1 else ''}L{spot.line}"
-
-
-def line_link(spot: Spot, where: Where, here: Set[Spot]) -> str:
-    """A link to a line of the source, where the page has it."""
-    named = escaped(where.named(spot))
-    return f"<a href=#{anchor(spot, where)}>{named}</a>" if spot in here else named
-
-
 def near_items(shown: Shown, view: View, rows: Iterable[int], here: Set[Spot]) -> Iterator[str]:
     """What falls with a row: a link to its own row, or else to its line."""
     for near in cbi_told.falling(shown):
@@ -175,7 +91,7 @@ def near_items(shown: Shown, view: View, rows: Iterable[int], here: Set[Spot]) -
 def row_lines(shown: Shown, view: View, rows: Iterable[int], here: Set[Spot]) -> Iterator[str]:
     row = shown.row
     yield f'<article class="row" id="p{row.predicate}" aria-label="Row {row.rank}"><div>{row.rank}</div>'
-    yield f"<div><h3>{fact(shown.fact)}</h3><div>{line_link(shown.spot, view.where, here)} of {code(row.function)}; {cbi_told.likely(shown, view)}</div>"
+    yield f"<div><h4>{fact(shown.fact)}</h4><div>{line_link(shown.spot, view.where, here)} of {code(row.function)}; {cbi_told.likely(shown, view)}</div>"
     said = [cbi_told.counts(shown), cbi_told.ended_of_row(shown), cbi_told.inputs_of_row(shown, view)]
     yield f'<div class="quiet">{escaped(" ".join(capital(text) + "." for text in said if text))}</div>'
     yield f"<details><summary>Numbers of row {row.rank}</summary>"
@@ -198,69 +114,96 @@ def groups_of(rows: List[List[Shown]], view: View, every: Iterable[int], here: S
 
 
 def sections(view: View, here: Set[Spot]) -> Iterator[str]:
+    """The rows of the ranking, in their sections."""
     every = {shown.row.predicate for shown in view.every()}
     if view.together:
-        yield '<section id="rows"><h2>Facts that go with failures</h2>'
+        yield '<section id="rows"><h3>Facts that go with failures</h3>'
         yield '<p class="quiet">Each is about the runs that no fact above it explains.</p>'
         yield from groups_of(view.together, view, every, here)
         yield keys()
         yield "</section>"
-    for name, title, rows in (("unrelated", UNRELATED, view.unrelated), ("unimportant", UNIMPORTANT, view.unimportant)):
+    for name, title, rows in (("unrelated", UNRELATED, view.unrelated), ("unimportant", UNIMPORTANT, view.unimportant), ("weak", capital(cbi_told.weak_line(view)), view.weak),
+                              ("added", capital(cbi_told.added_line(view)), view.added)):
         if rows:
-            yield f'<section id="{name}"><h2>{title}</h2>'
+            yield f'<section id="{name}"><h3>{escaped(title)}</h3>'
             yield from groups_of([[shown] for shown in rows], view, every, here)
             yield "</section>"
-    if view.weak:
-        yield f'<section id="weak"><h2>Weak rows</h2><details><summary>{escaped(capital(cbi_told.weak_line(view)))}.</summary>'
-        yield from groups_of([[shown] for shown in view.weak], view, every, here)
-        yield "</details></section>"
-    if view.added:
-        yield f'<section id="added"><h2>Rows of the port</h2><details><summary>{cbi_told.added_line(view)}</summary>'
-        yield from groups_of([[shown] for shown in view.added], view, every, here)
-        yield "</details></section>"
     if view.pair:
-        yield f'<section id="pair"><h2>{cbi_told.PAIR}</h2><ul>' + "".join(f"<li>{escaped(line)}</li>" for line in cbi_told.pair_lines(view.pair, view)) + "</ul></section>"
-    places = cbi_told.places_of(view)
-    if places and view.totals:
-        yield f'<section id="places"><h2>{cbi_told.PLACES}</h2><p class="quiet">{cbi_told.PLACES_SAID}</p><ul>'
+        yield f'<section id="pair"><h3>{cbi_told.PAIR}</h3><ul>' + "".join(f"<li>{escaped(line)}</li>" for line in cbi_told.pair_lines(view.pair, view)) + "</ul></section>"
+
+
+def ranking(view: View, here: Set[Spot]) -> Iterator[str]:
+    """The ranking of the method: folded where the bugs are there."""
+    rows = len(view.every())
+    if not rows:
+        return
+    yield f'<section id="ranking"><h2>{cbi_told.RANKING}</h2>'
+    if view.answer:
+        yield f"<details><summary>{'1 row' if rows == 1 else f'{rows} rows'}, with what falls with each{' and the best pair' if view.pair else ''}</summary>"
+    yield from sections(view, here)
+    yield "</details></section>" if view.answer else "</section>"
+
+
+def places(view: View, here: Set[Spot]) -> Iterator[str]:
+    found = cbi_told.places_of(view)
+    if found and view.totals:
+        yield f'<section id="places"><h2>{cbi_told.PLACES}</h2><p class="quiet">{cbi_told.places_said(view)}</p><ul>'
         yield from (f"<li>{line_link(place.spot, view.where, here)}{escaped(cbi_told.place_line(place, view.totals, view.where)[len(view.where.named(place.spot)):])}</li>"
-                    for place in places)
+                    for place in found)
         yield "</ul></section>"
 
 
 # The source
 
-def source_line(name: str, coloured: str, importance: Optional[int], end: str) -> str:
-    """A line of the source, the darker the more its best row says. Its number is counted by the style."""
-    shade = "" if importance is None else f' class="marked" style="background:rgb(var(--hot) / {0.12 + 0.23 * importance / 1000000:.2f})"'
-    named = f' id="{name}"' if name else ""
-    return f"<p{named}{shade}><code>{coloured}</code>{f'<span>{end}</span>' if end else ''}</p>"
+class Mark(NamedTuple):
+    """What stands at the end of a line of the source: a link to what is told of it, the darker the more that says."""
+    strength: int
+    target: str
+    said: str
+
+
+def marks_of(view: View) -> Dict[Spot, List[Mark]]:
+    """The marks of each line: its bugs and what makes it suspicious, or where there is the ranking alone its rows."""
+    found: Dict[Spot, List[Mark]] = {}
+    if view.answer is None:
+        for shown in sorted(view.every(), key=lambda shown: shown.row.rank):
+            found.setdefault(shown.spot, []).append(Mark(shown.row.importance, f"p{shown.row.predicate}", f"{shown.row.rank}. {shown.text}"))
+        return found
+    told = view.answer
+    for bug in told.leading():
+        target = "answer" if told.strong() and bug is told.first() else f"b{bug.number}"
+        found.setdefault(bug.lead.told.spot, []).append(Mark(bug.lead.found.strength, target, f"{cbi_told.letter(bug, view)}{bug.lead.told.fact.text()}"))
+    for said in told.lines if told.told_apart() else []:
+        if said.told.spot not in found:
+            found[said.told.spot] = [Mark(said.found.strength, "suspicious", said.told.fact.text())]
+    return found
+
+
+def source_line(name: str, coloured: str, marks: List[Mark]) -> str:
+    """A line of the source. Its number is counted by the style."""
+    shade = f' class="marked"{shaded(max(mark.strength for mark in marks))}' if marks else ""
+    end = "<br>".join(f'<a href="#{mark.target}">{escaped(mark.said)}</a>' for mark in marks)
+    return f'<p id="{name}"{shade}><code>{coloured}</code>{f"<span>{end}</span>" if end else ""}</p>'
 
 
 def lines_here(view: View, near: Optional[int]) -> Set[Spot]:
-    """The lines of the sources that the page has: all, or those near a row."""
+    """The lines of the sources that the page has: all, or those near what is told."""
     last = {name: len(lines) - (1 if lines and lines[-1] == "" else 0) for name, lines in view.where.files.items()}
     if near is None:
         return {Spot(name, number) for name, count in last.items() for number in range(1, count + 1)}
-    spots = [shown.spot for shown in view.every() if not shown.spot.added] + [place.spot for place in cbi_told.places_of(view)]
-    return {Spot(spot.file, number) for spot in spots if spot.file in last for number in range(max(1, spot.line - near), min(last[spot.file], spot.line + near) + 1)}
+    spots = [*marks_of(view), *(shown.spot for shown in view.every()), *(place.spot for place in cbi_told.places_of(view))]
+    return {Spot(spot.file, number) for spot in spots if spot.file in last and not spot.added for number in range(max(1, spot.line - near), min(last[spot.file], spot.line + near) + 1)}
 
 
 def source_of(name: str, view: View, here: Set[Spot]) -> Iterator[str]:
-    """A source; a marked line has its predicates at its end, as links back to their rows."""
-    rows: Dict[int, List[Shown]] = {}
-    for shown in view.every():
-        if shown.spot.file == name and not shown.spot.added:
-            rows.setdefault(shown.spot.line, []).append(shown)
-    coloured, before = highlighted(view.where.files[name]), 0
+    """A source; a marked line has what is told of it at its end, as links."""
+    marks, coloured, before = marks_of(view), highlighted(view.where.files[name]), 0
     yield '<div class="lines">'
     for spot in sorted(spot for spot in here if spot.file == name):
         if spot.line > before + 1:
             yield f'<div class="gap" style="counter-set:line {spot.line - 1}">lines {before + 1} to {spot.line - 1} are left out here</div>'
         before = spot.line
-        marks = sorted(rows.get(before, []), key=lambda shown: shown.row.rank)
-        end = "<br>".join(f'<a href="#p{shown.row.predicate}">{shown.row.rank}. {escaped(shown.text)}</a>' for shown in marks)
-        yield source_line(anchor(spot, view.where), coloured[before - 1], max(shown.row.importance for shown in marks) if marks else None, end)
+        yield source_line(anchor(spot, view.where), coloured[before - 1], marks.get(spot, []))
     yield "</div>"
 
 
@@ -288,8 +231,11 @@ def made_by(view: View) -> Iterator[str]:
 
 
 def reading() -> Iterator[str]:
-    yield '<section id="reading"><h2>How to read this page</h2><details><summary>Rows, bars and words</summary>'
-    yield "<p>A row names a fact, a predicate, that was seen at a line in some runs. It is listed because runs fail more often where it was true than where its line was merely"
+    yield '<section id="reading"><h2>How to read this page</h2><details><summary>Bugs, rows, bars and words</summary>'
+    yield "<p>A bug is the fact that goes best with the failing runs that no bug above it explains, by the chi-square of the table of both. The way there are branches that its runs"
+    yield "took and few others did. A fact is told with a doubt where, of as many facts as were looked at, chance alone would make one as strong in one hunt of 20 (Fisher's exact test,"
+    yield "over inputs).</p>"
+    yield "<p>A row of the ranking names a fact, a predicate, that was seen at a line in some runs. It is listed because runs fail more often where it was true than where its line was merely"
     yield "reached, beyond chance. Each row is about the runs that no row above it explains, so the first row often is the bug, and a later one may be another bug."
     yield "A fact shows where a bug can be seen; why it is one, the line says.</p>"
     yield "<p>How long the bar of a row is goes by the logarithm of the runs in which the fact was true.</p>"
@@ -298,8 +244,10 @@ def reading() -> Iterator[str]:
 
 
 def links(view: View) -> str:
-    parts = [("rows", "Facts", view.together), ("unrelated", "Unrelated pairs", view.unrelated), ("unimportant", "Importance 0", view.unimportant), ("weak", "Weak rows", view.weak), ("added", "Rows of the port", view.added),
-             ("pair", "Two facts", view.pair), ("places", "Where failing runs go", cbi_told.places_of(view) if view.totals else []), ("endings", "How runs ended", view.seen),
+    told = view.answer if view.answer and view.answer.told_apart() else None
+    behind = (told.leading()[1:] if told.strong() else told.leading()) if told else []
+    parts: List[Tuple[str, str, object]] = [("bugs", "Bugs" if told and told.strong() else "The best fact", behind), ("suspicious", cbi_told.LINES, told and told.lines),
+             ("places", cbi_told.PLACES, cbi_told.places_of(view) if view.totals else []), ("endings", "How runs ended", view.seen), ("ranking", "The ranking", view.every()),
              ("source", "Source", view.where.files), ("made", "What made it", view.hunted), ("reading", "How to read", True)]
     return "<nav>" + "".join(f'<a href="#{target}">{said}</a>' for target, said, there in parts if there) + "</nav>"
 
@@ -321,18 +269,29 @@ def fewer_near(view: View, most: int) -> View:
                          added=cut(view.added))
 
 
+def title_of(view: View) -> str:
+    told, first = view.answer, view.first()
+    bug, endless = told.first() if told else None, cbi_told.endless_first(view)
+    if endless:
+        return endless
+    if bug:
+        return cbi_told.title_of(bug, view).text()
+    return cbi_told.row_title(first) if first and not told else f"{view.where.main}: no fact stands out"
+
+
 def page_with(view: View, here: Set[Spot]) -> Iterator[str]:
-    first = view.first()
-    title = f"{cbi_told.perhaps(first)}{first.fact.past()} at {first.spot.file}:{first.spot.line}" if first else f"{view.where.main}: no fact stands out"
+    strong = view.answer and view.answer.strong()
     yield '<!DOCTYPE html>\n<html lang="en">\n<head>\n<meta charset="utf-8">'
     yield '<meta name="viewport" content="width=device-width, initial-scale=1">'
-    yield f"<title>{escaped(title)}</title>\n<style>{STYLE}</style>\n</head>\n<body>"
-    yield '<a class="skip" href="#main">To the rows</a>'
-    yield from card(view)
+    yield f"<title>{escaped(title_of(view))}</title>\n<style>{STYLE}</style>\n</head>\n<body>"
+    yield '<a class="skip" href="#main">To what stands below the answer</a>'
+    yield from answer(view)
     yield links(view)
     yield '<main id="main">'
-    yield from sections(view, here)
+    for part in (bugs(view), suspicious(view, here), places(view, here)) if strong else (places(view, here), bugs(view), suspicious(view, here)):
+        yield from part
     yield from endings(view)
+    yield from ranking(view, here)
     if view.where.files:
         yield from sources(view, here)
     yield from made_by(view)

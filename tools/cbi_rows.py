@@ -1,4 +1,4 @@
-"""What cbi-show shows of each row of a ranking, apart from the form that it is shown in. Not proved.
+"""What cbi-show shows: bugs and suspicious lines, and each row of a ranking, apart from the form that it is shown in. Not proved.
 
 A row is joined with its line of the source, with the runs in which its predicate was true, and with its
 card; then rows stand in sections: those that point at a failure, pairs of variables that the program never
@@ -8,12 +8,17 @@ import math
 import re
 from typing import Dict, Iterable, List, NamedTuple, Optional, Set
 
-from cbi_files import Card, Fault, Pair, Program, Ranking, Row, Site
+from cbi_answer import Answer, answer_of
+from cbi_evidence import by_chance
+from cbi_files import Card, Fault, Pair, Program, Ranking, Row
 from cbi_hunted import Hunted, Sample
-from cbi_seen import QUANTILE, Seen, Totals, Truth, by_chance, expected_by_chance, seen_in
-from cbi_source import Fact, Source, plain_fact
+from cbi_seen import Asked, Seen, Totals, Truth, seen_in
+from cbi_source import Fact
 from cbi_where import Spot, Where
+from cbi_wording import Wording
 
+# The quantile of a 95 % interval, as docs/METHOD.md has it.
+QUANTILE = 1.96
 # A pair is shown where its importance is so much above that of the first row, in millionths.
 PAIR_ABOVE = 100000
 
@@ -64,9 +69,10 @@ class PairShown(NamedTuple):
 
 
 class View(NamedTuple):
-    """All that is shown: `together` has the rows of the first section, each list those whose runs are mostly the same."""
+    """All that is shown: bugs and lines, where the runs are there; and of the rows `together` has those of the first section, each list those whose runs are mostly the same."""
     where: Where
     totals: Optional[Totals]
+    answer: Optional[Answer]
     together: List[List[Shown]]
     unrelated: List[Shown]
     unimportant: List[Shown]
@@ -88,15 +94,19 @@ class View(NamedTuple):
         return self.leading() + self.unrelated + self.unimportant + self.weak + self.added
 
     def first(self) -> Optional[Shown]:
-        """The row that the answer is about: the first one of the ranking that stands in the first section, or else the first at all."""
-        rows = self.leading() or self.every()
+        """The first row of the first section, or else the first at all; but none of what a port added."""
+        rows = self.leading() or self.unrelated + self.unimportant + self.weak
         return min(rows, key=lambda shown: shown.row.rank) if rows else None
+
+    def found(self) -> bool:
+        """Whether something is shown that may be the bug."""
+        return bool(self.every() or self.answer and self.answer.strong())
 
 
 # Thermometers
 
 def surely(row: Row) -> float:
-    """The lower bound of the interval on Increase: above zero exactly where the test of docs/RANKING.md passes.
+    """The lower bound of the interval on Increase: above zero exactly where the test of docs/METHOD.md passes.
 
     That test compares the shares of failing and of successful runs in which the predicate was true, among those
     that observed it. Increase is their difference times a positive number of the row, so its interval is as well.
@@ -117,6 +127,11 @@ def bands(row: Row, most: int) -> Bands:
     sure = min(surely(row), failure - context)
     length = math.log(1 + true) / math.log(1 + most) if most else 0.0
     return Bands(context, sure, failure - context - sure, 1 - failure, length)
+
+
+def doubted(bands: Bands) -> Bands:
+    """The thermometer of a row that chance alone may have made: nothing is for sure."""
+    return bands._replace(sure=0.0, unsure=bands.sure + bands.unsure)
 
 
 # Names of the source
@@ -191,43 +206,6 @@ def check_program(ranking: Ranking, program: Program) -> None:
 
 # Sections
 
-class Wording:
-    """Predicates in words: by the text, where the program and its text are there, and where that was ported by the files it comes from."""
-
-    def __init__(self, source: Optional[List[str]], program: Optional[Program], where: Where):
-        self.source = Source(source) if source else None
-        self.where = where
-        self.files = {name: Source(lines) for name, lines in where.files.items()} if where.lines else {}
-        self.numbered = program.numbered() if program else {}
-
-    def site(self, predicate: int) -> Optional[Site]:
-        return self.numbered[predicate][0] if predicate in self.numbered else None
-
-    def fact(self, predicate: int, scheme: str, text: str) -> Fact:
-        site = self.site(predicate)
-        return self.of_site(site, text) if site else plain_fact(scheme, text)
-
-    def statement(self, site: Site) -> str:
-        """The condition, call or assignment that a site stands at."""
-        said = self.of_site(site, site.predicates()[0][0])
-        return said.says[len("after "):] if said.says.startswith("after ") else said.code
-
-    def of_site(self, site: Site, text: str) -> Fact:
-        place = self.source.place_of(site) if self.source else None
-        if self.source is None or place is None:
-            return plain_fact(site.scheme, text)
-        spot = self.where.spot(site.line, site.function)
-        if spot.file in self.files and not spot.added and self.where.lines:
-            lines = [number for number, (file, line, added) in enumerate(self.where.lines, 1) if (file, line, added) == (spot.file, spot.line, False)]
-            theirs = self.files[spot.file].same_word(spot.line, self.source, lines, place)
-            if theirs is not None:
-                return self.files[spot.file].fact_at(theirs, site, text, self.source)
-            case = self.files[spot.file].case_on(spot.line) if site.names[0] == "if" else None
-            if case:
-                return Fact(case, f"is {text.split(' ')[-1]}")
-        return self.source.fact_at(place, site, text, self.source)
-
-
 def near_of(card: Optional[Card], wording: Wording, rows: Dict[int, Row]) -> List[Near]:
     """What falls with a row, with function and line where the program or the ranking tells them."""
     found = []
@@ -298,9 +276,11 @@ def view_of(ranking: Ranking, given: Given) -> View:
     if given.program:
         check_program(ranking, given.program)
     rows = {row.predicate: row for row in ranking.rows}
-    seen = seen_in(given.collection, given.program, list(rows), given.where) if given.collection and given.program else None
-    most = max((row.f + row.s for row in ranking.rows), default=0)
     wording, parts = Wording(given.source, given.program, given.where), bodies(given.source) if given.source else None
+    asked = Asked(ranking.rows, given.where, given.hunted.inputs if given.hunted else None, given.hunted.policy if given.hunted else "all", wording.left_out(),
+                  bool(given.hunted and given.hunted.by_status))
+    seen = seen_in(given.collection, given.program, asked) if given.collection and given.program else None
+    most = max((row.f + row.s for row in ranking.rows), default=0)
     shown = [shown_of(row, most, given, wording, seen, rows) for row in ranking.rows]
     added, shown = [one for one in shown if one.spot.added], [one for one in shown if not one.spot.added]
     apart = [one for one in shown if one.row.importance and unrelated(one.row, parts)]
@@ -309,7 +289,7 @@ def view_of(ranking: Ranking, given: Given) -> View:
     leading = [one for one in shown if one not in apart and one not in zero and one not in weak]
     if not leading and weak:
         leading, weak = weak[:1], weak[1:]
-    return View(given.where, totals_of(ranking, seen), grouped(leading), apart, zero, weak, added, bool(given.cards), seen,
+    return View(given.where, totals_of(ranking, seen), answer_of(seen, wording) if seen else None, grouped(leading), apart, zero, weak, added, bool(given.cards), seen,
                 pair_of(given.pair, ranking, wording), given.hunted)
 
 
@@ -318,5 +298,9 @@ def shown_of(row: Row, most: int, given: Given, wording: Wording, seen: Optional
     truth = seen.truths[row.predicate] if seen else Truth(card.failing, card.successful, {}, []) if card else None
     first = card.first if card else truth.runs[0] if truth and truth.runs else None
     spot = given.where.spot(row.line, row.function)
-    chance = expected_by_chance(row, seen.observed) if seen else None
-    return Shown(row, wording.fact(row.predicate, row.scheme, row.text), spot, given.where.text(spot), bands(row, most), truth, first, near_of(card, wording, rows), chance)
+    chance = seen.chances[row.predicate] if seen else None
+    site = wording.site(row.predicate)
+    told = wording.told(site, row.text) if site and spot.added else None
+    fact, spot = (told.fact, told.spot) if told else (wording.fact(row.predicate, row.scheme, row.text), spot)
+    shown = Shown(row, fact, spot, given.where.text(spot), bands(row, most), truth, first, near_of(card, wording, rows), chance)
+    return shown._replace(bands=doubted(shown.bands)) if shown.weak() else shown

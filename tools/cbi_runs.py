@@ -13,12 +13,14 @@ import tempfile
 import zipfile
 from typing import IO, Callable, Dict, List, NamedTuple, Optional, Sequence, Tuple, Union
 
-from cbi_files import FOUND, Fault
+from cbi_files import FOUND, Fault, status_of
 
 # How many numbers a run's bank has. It is drawn round and round.
 BANK_NUMBERS = 256
 # What an oracle answers: 0 is right, 125 is `I can't tell`, as for `git bisect run`, and up to 124 is wrong.
 ORACLE_UNKNOWN = 125
+# Where an oracle finds the status with which the run ended.
+OF_STATUS = "CBI_STATUS"
 # How an oracle that a shell reads is called: its text stands behind these words, and then the shell's name for itself.
 SHELL = ["sh", "-c"]
 
@@ -37,6 +39,7 @@ class Plan(NamedTuple):
     parts: Sequence[str] = ()
     patience: int = 10
     hangs: bool = False
+    status: bool = False
 
     def input_of(self, run: int) -> int:
         """The place of a run's input: the inputs in turn, again and again."""
@@ -93,15 +96,16 @@ def input_name(plan: Plan, path: str) -> str:
     return plan.names[plan.inputs.index(path)] if path in plan.inputs else "an input that was made"
 
 
-def judged(plan: Plan, name: str, output: str) -> str:
-    return asked(plan, name, output).label
+def judged(plan: Plan, name: str, output: str, outcome: str) -> str:
+    return asked(plan, name, output, outcome).label
 
 
-def asked(plan: Plan, name: str, output: str) -> Answer:
-    """Has the oracle judge what a run on an input wrote. One that takes too long is ended, with all that it began."""
+def asked(plan: Plan, name: str, output: str, outcome: str) -> Answer:
+    """Has the oracle judge what a run on an input wrote, and its status, which stands in its environment. One that takes too long is ended, with all that it began."""
     words = [*(plan.oracle or []), name, output]
     try:
-        begun = subprocess.Popen(words, stdin=subprocess.DEVNULL, stdout=subprocess.DEVNULL, stderr=subprocess.PIPE, start_new_session=True)
+        begun = subprocess.Popen(words, stdin=subprocess.DEVNULL, stdout=subprocess.DEVNULL, stderr=subprocess.PIPE, start_new_session=True,
+                                 env={**os.environ, OF_STATUS: str(status_of(outcome))})
     except OSError as error:
         raise Fault(f"the oracle {oracle_name(plan)} doesn't start: {error.strerror}")
     try:
@@ -117,6 +121,11 @@ def asked(plan: Plan, name: str, output: str) -> Answer:
         last = f"; it wrote {said.strip().splitlines()[-1]}" if said.strip() else ""
         raise Fault(f"the oracle {oracle_name(plan)} ended with status {status} on {input_name(plan, name)}: 0 says right, 1 to 124 wrong, and 125 neither{last}")
     return Answer("pass" if status == 0 else "none" if status == ORACLE_UNKNOWN else "fail", said)
+
+
+def outcome_of(report: str) -> str:
+    """How the run of a report ended."""
+    return next((line[len("outcome "):] for line in report.split("\n") if line.startswith("outcome ")), "")
 
 
 class Runner:
@@ -144,22 +153,25 @@ class Runner:
                 call(words, out)
         except Fault as fault:
             raise Fault(f"run {run}, on the input {plan.names[place]}: {fault}")
-        if plan.oracle or plan.hangs:
+        if plan.oracle or plan.hangs or plan.status:
             self.label(report, place)
         return report
 
     def label(self, report: str, place: int) -> None:
-        """Puts the oracle's answer into the report of a run that ended, and `fail` into that of one that was cut, where such a run counts as failed.
+        """Puts the oracle's answer into the report of a run that ended, and `fail` into that of one that was cut, or ended with a status other than 0, where such a run counts as failed.
 
         A sampled run writes what every run on its input writes, so an input is judged once.
         """
         with open(report, encoding="ascii") as file:
             text = file.read()
-        if self.plan.hangs and "\noutcome cut turns\n" in text:
+        outcome = outcome_of(text)
+        if self.plan.hangs and outcome == "cut turns":
             relabelled = text.replace("\nlabel none\n", "\nlabel fail\n")
-        elif self.plan.oracle and "\noutcome ended " in text:
+        elif self.plan.status and status_of(outcome):
+            relabelled = text.replace("\nlabel pass\n", "\nlabel fail\n")
+        elif self.plan.oracle and outcome.startswith("ended "):
             if place not in self.judged:
-                self.judged[place] = judged(self.plan, self.plan.inputs[place], self.output)
+                self.judged[place] = judged(self.plan, self.plan.inputs[place], self.output, outcome)
             relabelled = text.replace("\nlabel pass\n", f"\nlabel {self.judged[place]}\n")
         else:
             return
@@ -214,7 +226,7 @@ def pack(plan: Plan, batch: Batch, path: str) -> None:
     places = sorted({plan.input_of(run) for run in range(batch.first, batch.last + 1)})
     about = {"cbi": plan.cbi, "rate": plan.rate, "seed": plan.seed, "turns": plan.turns, "oracle": plan.oracle,
              "count": len(plan.inputs), "expected": bool(plan.expected), "parts": len(plan.parts), "patience": plan.patience, "hangs": plan.hangs,
-             "first": batch.first, "last": batch.last}
+             "status": plan.status, "first": batch.first, "last": batch.last}
     with zipfile.ZipFile(path, "w", zipfile.ZIP_DEFLATED) as packed:
         packed.writestr("__main__.py", BEGIN)
         packed.writestr("plan.json", json.dumps(about))
@@ -240,7 +252,7 @@ def unpack(path: str, folder: str) -> Tuple[Plan, Batch]:
     if cbi is None:
         raise Fault(f"{about['cbi']} isn't on the path, which is {os.environ.get('PATH', '')}")
     plan = Plan(cbi, os.path.join(folder, "program"), about["rate"], about["seed"], about["turns"], about["oracle"], inputs, inputs, expected, parts,
-                about["patience"], about["hangs"])
+                about["patience"], about["hangs"], about["status"])
     return plan, Batch(about["first"], about["last"])
 
 

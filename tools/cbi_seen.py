@@ -1,19 +1,21 @@
-"""What a collection says beside its ranking: how runs ended, which runs a row is about, and where failing runs go. Not proved.
+"""What a collection says beside its ranking: bugs and suspicious lines, how runs ended, which runs a row is about, and where failing runs go. Not proved.
 
-A collection is read once, run after run, so that a large one needs no room.
+A collection is read once, run after run; a second time where inputs have several runs, since tests count inputs.
 """
-import math
 from collections import Counter
 from typing import Counter as Counts
-from typing import Dict, Iterable, List, NamedTuple, Set, Tuple
+from typing import Dict, FrozenSet, Hashable, List, NamedTuple, Optional, Set, Tuple
 
-from cbi_files import Program, Row, read_collection
+from cbi_bugs import Bugs, Lines, Table
+from cbi_evidence import DOUBT, Event, Evidence, Looks, event_at, event_of
+from cbi_files import Program, Row, read_collection, status_of
 from cbi_where import Spot, Where
 
-# The quantile of a 95 % interval, as docs/RANKING.md has it.
-QUANTILE = 1.96
-# How many lines are told that failing runs come to, and how many runs of a row are remembered by number.
+# How many lines are told that failing runs come to.
 MOST_PLACES = 5
+# As many places and lines are asked for as there may be, since of those that are near one another, or at the same line of a person's, one alone is shown.
+MOST_ALSO, MOST_LINES = 40, 1000
+MOST_LOOKED = 30   # places that inputs are counted of
 
 
 class Totals(NamedTuple):
@@ -32,104 +34,147 @@ class Truth(NamedTuple):
 
 
 class Place(NamedTuple):
-    """A line that failing runs are seen at more often than others, with how many of each were seen there."""
+    """A line that failing runs are seen at more often than others, with how many of each were seen there, and how many such lines chance alone would make."""
     function: str
     spot: Spot
     failing: int
     successful: int
+    expected: float
+
+    def sure(self) -> bool:
+        return self.expected < DOUBT
 
 
 class Seen(NamedTuple):
+    """`observed` is how many facts were looked at; `chances` has for each row, and `bug_chances` for each bug, how many of these chance alone would make look as strong."""
     totals: Totals
     endings: Dict[Tuple[str, str], int]
     truths: Dict[int, Truth]
     places: List[Place]
     observed: int
+    table: Table
+    bugs: Bugs
+    lines: Lines
+    chances: Dict[int, float]
+    bug_chances: List[float]
+    outcomes: Dict[int, str]
+    inputs: Tuple[int, int]
 
     def failing_endings(self) -> Dict[str, int]:
         return {outcome: count for (label, outcome), count in self.endings.items() if label == "fail"}
 
-
-def ending_of(outcome: str) -> str:
-    """How a run ended, without its status."""
-    return "ended" if outcome.startswith("ended ") else outcome
-
-
-def above(failing: int, all_failing: int, successful: int, all_successful: int) -> float:
-    """How much the share among failing runs is above that among successful ones for sure (95 %), or 0."""
-    if not all_failing or not all_successful:
-        return 0.0
-    one, other = failing / all_failing, successful / all_successful
-    spread = QUANTILE * math.sqrt(one * (1 - one) / all_failing + other * (1 - other) / all_successful)
-    return max(0.0, one - other - spread)
+    def endings_of(self, runs: List[int]) -> Dict[str, int]:
+        """How these failing runs ended, what is most frequent first."""
+        return dict(Counter(self.outcomes[run] for run in runs).most_common())
 
 
-def seen_in(collection: str, program: Program, wanted: Iterable[int], where: Where) -> Seen:
-    """What the runs of a collection say of these predicates, and of themselves."""
-    numbered = program.numbered()
-    looked: Dict[int, List[Tuple[int, Tuple[int, ...]]]] = {}
-    for predicate in wanted:
-        site, _, counters = numbered[predicate]
-        looked.setdefault(site.number, []).append((predicate, counters))
-    endings: Counts[Tuple[str, str]] = Counter()
-    passed: Counts[int] = Counter()
-    failed: Dict[int, Counts[str]] = {predicate: Counter() for predicate in wanted}
-    runs: Dict[int, List[int]] = {predicate: [] for predicate in wanted}
-    at: Dict[str, Counts[Tuple[str, Spot]]] = {"fail": Counter(), "pass": Counter()}
-    spots = [(site.function, where.spot(site.line, site.function)) for site in program.sites]
-    observed: Set[int] = set()
-    for run in read_collection(collection):
-        endings[run.label, ending_of(run.outcome)] += 1
-        observed.update(run.sites)
-        if run.label == "none":
-            continue
-        at[run.label].update({spots[site] for site in run.sites if not spots[site][1].added})
-        for number in looked.keys() & run.sites.keys():
-            for predicate, counters in looked[number]:
-                if not any(run.sites[number][counter] for counter in counters):
-                    continue
-                if run.label == "pass":
-                    passed[predicate] += 1
-                else:
-                    failed[predicate][ending_of(run.outcome)] += 1
-                    runs[predicate].append(run.number)
-    totals = totals_of(endings)
-    truths = {predicate: Truth(sum(failed[predicate].values()), passed[predicate], dict(failed[predicate].most_common()), runs[predicate]) for predicate in wanted}
-    tried = sum(len(program.sites[site].predicates()) for site in observed)
-    return Seen(totals, dict(endings), truths, places_of(at["fail"], at["pass"], totals), tried)
+class Asked(NamedTuple):
+    """What is asked of a collection: the rows, whose the lines are, how many inputs the runs are of, where that is known, what is done with the runs of a row, which sites aren't looked at, and whether an exit
+    status other than 0 fails."""
+    rows: List[Row]
+    where: Where
+    inputs: Optional[int] = None
+    policy: str = "all"
+    left_out: FrozenSet[int] = frozenset()
+    by_status: bool = False
 
 
-def totals_of(endings: Counts[Tuple[str, str]]) -> Totals:
-    labels: Counts[str] = Counter()
-    for (label, _), count in endings.items():
-        labels[label] += count
-    return Totals(sum(labels.values()), labels["fail"], labels["pass"], labels["none"])
+def ending_of(outcome: str, by_status: bool = False) -> str:
+    """How a run ended, without its status but where that is what failed."""
+    status = status_of(outcome) if by_status else 0
+    return f"ended {status}" if status else "ended" if outcome.startswith("ended ") else outcome
 
 
-def places_of(failing: Counts[Tuple[str, Spot]], successful: Counts[Tuple[str, Spot]], totals: Totals) -> List[Place]:
-    """The lines that failing runs are seen at more often beyond chance, the greatest difference first."""
-    sure = {place: above(failing[place], totals.failing, successful[place], totals.successful) for place in failing}
-    found = [place for place in failing if sure[place] > 0]
-    share = {place: failing[place] / totals.failing - successful[place] / totals.successful for place in found}
-    found.sort(key=lambda place: (-share[place], place[1]))
-    return [Place(*place, failing[place], successful[place]) for place in found]
+class Reading:
+    """A collection, read once."""
+
+    def __init__(self, collection: str, program: Program, asked: Asked):
+        self.table = Table(program, asked.left_out)
+        self.endings: Counts[Tuple[str, str]] = Counter()
+        self.outcomes: Dict[int, str] = {}
+        self.inputs: Tuple[Set[int], Set[int]] = (set(), set())
+        self.at: Dict[str, Counts[Tuple[str, Spot]]] = {"fail": Counter(), "pass": Counter()}
+        self.spots = {site.number: (site.function, asked.where.spot(site.line, site.function)) for site in program.sites}
+        observed: Set[int] = set()
+        for run in read_collection(collection):
+            outcome = ending_of(run.outcome, asked.by_status and run.label == "fail")
+            self.endings[run.label, outcome] += 1
+            if run.label == "none":
+                continue
+            observed.update(run.sites)
+            self.table.add(run)
+            self.at[run.label].update({self.spots[site] for site in run.sites if not self.spots[site][1].added})
+            self.inputs[run.label == "pass"].add((run.number - 1) % asked.inputs if asked.inputs else run.number)
+            if run.label == "fail":
+                self.outcomes[run.number] = outcome
+        self.observed = sum(len(program.sites[site].predicates()) for site in observed - asked.left_out)
+        labels: Counts[str] = Counter()
+        for (label, _), count in self.endings.items():
+            labels[label] += count
+        self.totals = Totals(sum(labels.values()), labels["fail"], labels["pass"], labels["none"])
+
+    def several(self) -> bool:
+        """Whether inputs have several runs."""
+        return self.totals.failing + self.totals.successful > len(self.inputs[0] | self.inputs[1])
+
+    def sites_at(self, place: Tuple[str, Spot]) -> List[int]:
+        return [site for site, spot in self.spots.items() if spot == place]
 
 
-# Weak rows
-
-def log_choose(whole: int, part: int) -> float:
-    return math.lgamma(whole + 1) - math.lgamma(part + 1) - math.lgamma(whole - part + 1)
-
-
-def by_chance(failing: int, successful: int, all_failing: int, all_successful: int) -> float:
-    """How likely it is that a fact which has nothing to do with failing is true in so many failing runs: of the runs that looked, a draw of those in
-    which it was true has at least so many failing ones."""
-    true = failing + successful
-    every = log_choose(all_failing + all_successful, true)
-    return min(1.0, math.fsum(math.exp(log_choose(all_failing, hits) + log_choose(all_successful, true - hits) - every)
-                              for hits in range(failing, min(all_failing, true) + 1) if true - hits <= all_successful))
+def seen_in(collection: str, program: Program, asked: Asked) -> Seen:
+    """What the runs of a collection say of the rows, and of themselves."""
+    reading = Reading(collection, program, asked)
+    table, rows = reading.table, [row.predicate for row in asked.rows]
+    bugs, lines = table.bugs(also=MOST_ALSO), table.lines(MOST_LINES, 0)
+    places = often(reading)
+    looks: Optional[Looks] = None
+    if asked.inputs and reading.several():
+        events: Dict[Hashable, Event] = {predicate: event_of(table, predicate) for predicate in rows + [bug.leader.predicate for bug in bugs.bugs]}
+        events.update({place: event_at(reading.sites_at(place)) for place in places[:MOST_LOOKED]})
+        looks = Looks(collection, events, asked.inputs)
+    truths = {predicate: truth_of(table, predicate, runs, reading.outcomes) for predicate, runs in table.runs_with(rows).items()}
+    chances = [reading.observed * one.by_chance() for one in looks.behind(list(rows), asked.policy)] if looks else [expected_by_chance(row, reading.observed) for row in asked.rows]
+    return Seen(reading.totals, dict(reading.endings), truths, told_places(places, reading, looks), reading.observed, table, bugs, lines,
+                dict(zip(rows, chances)), [reading.observed * one.by_chance() for one in evidence_of(bugs, looks)], reading.outcomes,
+                (len(reading.inputs[0]), len(reading.inputs[1])))
 
 
 def expected_by_chance(row: Row, tried: int) -> float:
-    """How many of so many predicates would look as strong as this row by chance alone."""
-    return tried * by_chance(row.f, row.s, row.fobs, row.sobs)
+    """How many of so many predicates would look as strong as this row by chance alone, where each run is of an input of its own."""
+    return tried * Evidence(row.f, row.s, row.fobs, row.sobs).by_chance()
+
+
+def truth_of(table: Table, predicate: int, runs: List[int], outcomes: Dict[int, str]) -> Truth:
+    return Truth(len(runs), table.counts_of(predicate)[1], dict(Counter(outcomes[run] for run in runs).most_common()), runs)
+
+
+def evidence_of(bugs: Bugs, looks: Optional[Looks]) -> List[Evidence]:
+    """The evidence of each bug, among the failing runs that were live and all others."""
+    if looks is None:
+        return [Evidence(bug.leader.a, bug.leader.b, bug.live, bugs.successful) for bug in bugs.bugs]
+    taken: Set[int] = set()
+    found = []
+    for bug in bugs.bugs:
+        found.append(looks.evidence(bug.leader.predicate, looks.without(taken)))
+        taken.update(bug.runs)
+    return found
+
+
+# Where failing runs go
+
+def often(reading: "Reading") -> List[Tuple[str, Spot]]:
+    """The lines that failing runs are seen at more often than others, the greatest difference first."""
+    failing, successful = reading.at["fail"], reading.at["pass"]
+    share = {place: failing[place] / reading.totals.failing - (successful[place] / reading.totals.successful if reading.totals.successful else 1) for place in failing}
+    return sorted((place for place in failing if share[place] > 0), key=lambda place: (-share[place], place[1]))
+
+
+def told_places(places: List[Tuple[str, Spot]], reading: "Reading", looks: Optional[Looks]) -> List[Place]:
+    """The same with how many of the lines that runs were seen at chance alone would make as striking: those that it would make none of stand first."""
+    tried = len(set(reading.at["fail"]) | set(reading.at["pass"]))
+    found = []
+    for place in places[:MOST_LOOKED]:
+        failing, successful = reading.at["fail"][place], reading.at["pass"][place]
+        evidence = looks.evidence(place) if looks else Evidence(failing, successful, reading.totals.failing, reading.totals.successful)
+        found.append(Place(*place, failing, successful, tried * evidence.by_chance()))
+    return sorted(found, key=lambda place: not place.sure())

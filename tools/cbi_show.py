@@ -1,7 +1,7 @@
-"""Shows a ranking of cbi to people: as text, as a page, for code review and for editors. Not proved.
+"""Shows bugs, suspicious lines and a ranking of cbi to people: as text, as a page, for code review and for editors. Not proved.
 
-The numbers are those of the ranking; what is added here is how they are drawn, the lines of the source, and
-the interval of the thermometers (docs/RANKING.md has the test that it goes by).
+The numbers of rows are those of the ranking; those of bugs and lines are counted here, and what is added is how they are drawn, the lines of the source, and
+the interval of the thermometers (docs/METHOD.md has the test that it goes by).
 """
 import argparse
 import os
@@ -28,14 +28,14 @@ examples:
   cbi study --runs 1000 --seed 7 --rate 10 --turns 100000 prog.c | cbi-show - --source prog.c
   cbi-show --sites prog.cbi 6 8        what sites 6 and 8 are, as `cbi run` names them
 
-It ends with 0, with 1 where the ranking has no row, and with 2 where what it was given is wrong.
+It ends with 0, with 1 where the ranking has no row and no fact is beyond chance, and with 2 where what it was given is wrong.
 """
 WIDEST = 200
 
 
 def arguments() -> argparse.Namespace:
     parser = cbi_files.Words(
-        prog="cbi-show", description="Shows a ranking of cbi: the predicates, their lines, and in how many runs they were true.",
+        prog="cbi-show", description="Shows what runs of cbi say: the bugs, suspicious lines, and a ranking with its predicates.",
         epilog=EXAMPLES + cbi_files.NOT_PROVED, formatter_class=argparse.RawDescriptionHelpFormatter)
     parser.add_argument("names", metavar="RANKING", nargs="*", help="what cbi rank or cbi study wrote; - is standard input")
     parser.add_argument("--hunt", metavar="DIR", help="the folder that cbi-hunt --keep left: its ranking, and all that belongs to it")
@@ -44,10 +44,10 @@ def arguments() -> argparse.Namespace:
     parser.add_argument("--program", metavar="PROG.cbi", help="the program file: it is looked at whether the ranking is one of it")
     parser.add_argument("--cards", metavar="CARDS", help="what cbi cards wrote: which rows stand together, counts over all runs, and failing runs to look at")
     parser.add_argument("--pairs", metavar="PAIRS", help="what cbi pairs wrote: the best pair is shown where it says more than the first row")
-    parser.add_argument("--reports", metavar="COLL", help="the collection: how runs ended, where failing runs go, and which rows chance alone would make (asks for --program)")
+    parser.add_argument("--reports", metavar="COLL", help="the collection: the bugs and suspicious lines, how runs ended, where failing runs go, and what may be chance (asks for --program)")
     parser.add_argument("--format", choices=["text", "html", "sarif", "quickfix"], default="text",
                         help="text (without this option), a page that stands alone, SARIF 2.1.0 for code review, or file:line: text for editors")
-    parser.add_argument("--all", action="store_true", help="shows weak rows too, which a text folds")
+    parser.add_argument("--all", action="store_true", help="shows weak facts too, and the rows of the ranking, which a text folds")
     parser.add_argument("--output", metavar="FILE", help="the file to write, in place of standard output")
     parser.add_argument("--sites", metavar="PROG.cbi", help="says what the sites of a program file are, all or those whose numbers are given; no ranking is shown")
     chosen = parser.parse_args()
@@ -106,7 +106,7 @@ def view_of_hunt(folder: str) -> cbi_rows.View:
     source = cbi_files.read_source(path("source.c"))
     pair = cbi_files.read_pairs(path("pairs")) if os.path.exists(path("pairs")) else None
     cards = cbi_files.read_cards(path("cards")) if os.path.exists(path("cards")) else {}
-    where = cbi_where.ported(path("source.c"), path("source.c.lines")) if os.path.exists(path("source.c.lines")) else cbi_where.one_file(hunted.source, source)
+    where = cbi_where.ported(path("source.c"), path("source.c.lines"), hunted.folder) if os.path.exists(path("source.c.lines")) else cbi_where.one_file(hunted.source, source)
     given = cbi_rows.Given(where, source, cbi_files.read_program(path("program")), cards, path("runs"), pair, hunted)
     return cbi_rows.view_of(cbi_files.read_ranking(path("ranking")), given)
 
@@ -123,7 +123,7 @@ def view_of_files(chosen: argparse.Namespace) -> cbi_rows.View:
 
 def width_of(to_file: bool) -> int:
     """How wide lines may be: as the terminal is, and where there is none as wide as one line of a source may well be."""
-    return WIDEST if to_file else shutil.get_terminal_size((WIDEST, 24)).columns if sys.stdout.isatty() or "COLUMNS" in os.environ else WIDEST
+    return WIDEST if to_file else shutil.get_terminal_size((WIDEST, 24)).columns if sys.stdout and sys.stdout.isatty() or "COLUMNS" in os.environ else WIDEST
 
 
 def formatted(view: cbi_rows.View, form: str, every: bool = False, to_file: bool = False) -> Iterator[str]:
@@ -143,7 +143,7 @@ def lines_of(chosen: argparse.Namespace) -> Tuple[Iterator[str], int]:
     if chosen.sites:
         return sites_of(chosen.sites, chosen.names), FOUND
     view = view_of_hunt(chosen.hunt) if chosen.hunt else view_of_files(chosen)
-    return formatted(view, chosen.format, chosen.all, bool(chosen.output)), FOUND if view.every() else NOTHING
+    return formatted(view, chosen.format, chosen.all, bool(chosen.output)), FOUND if view.found() else NOTHING
 
 
 def main() -> int:

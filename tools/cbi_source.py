@@ -17,6 +17,10 @@ ASSIGNMENTS = {"=", "*=", "/=", "%=", "+=", "-=", "<<=", ">>=", "&=", "^=", "|="
 BEFORE_OPERAND = {",", ";", "?", ":", "return", "else", "do"} | ASSIGNMENTS
 HEADS = {"if", "while", "for", "switch"}
 MOST_TEXT = 60
+# How names begin that the porter gives: to functions of the library, and to those that go through all functions that a pointer may stand for.
+OF_PORT, CALL = "cbi_", "cbi_call_"
+# An expression that may be called as it stands.
+POSTFIX = r"[\w.\[\]]+(->[\w.\[\]]+)*"
 
 
 class Token(NamedTuple):
@@ -32,7 +36,7 @@ class Fact(NamedTuple):
     says: str
 
     def text(self) -> str:
-        return f"{self.code} {self.says}" if self.says else self.code
+        return " ".join(part for part in (self.code, self.says) if part)
 
     def past(self) -> str:
         return re.sub(r"\bis (true|false)$", r"was \1", self.text())
@@ -126,6 +130,46 @@ class Source:
             place = self.partner[place] + 1 if self.word(place) in OPENING and place in self.partner else place + 1
         return place + 1
 
+    def block_of(self, place: int, truth: str) -> range:
+        """The lines of the statement that a condition guards, which runs only where it has this truth; those of the condition itself aren't among them."""
+        word, close = self.word(place), self.partner.get(place + 1, -1)
+        if word not in ("if", "while", "for") or close < 0 or word != "if" and truth != "true":
+            return range(0)
+        first, behind = close + 1, self.end_of_statement(close + 1)
+        if truth == "false":
+            if self.word(behind) != "else":
+                return range(0)
+            first, behind = behind + 1, self.end_of_statement(behind + 1)
+        last = behind - 1
+        if self.word(first) == "{":
+            first, last = first + 1, last - 1
+        if first > last or last >= len(self.tokens):
+            return range(0)
+        return range(max(self.tokens[first].line, self.tokens[close].line + 1), self.tokens[last].line + 1)
+
+    def called_by_pointer(self, place: int) -> str:
+        """The call of a function of the port that stands for one by a pointer, as it was: `cbi_call_1(table[k], a)` is `table[k](a)`."""
+        close = self.partner.get(place + 1, place)
+        comma = place + 2
+        while comma < close and self.word(comma) != ",":
+            comma = self.partner[comma] + 1 if self.word(comma) in OPENING and comma in self.partner else comma + 1
+        function = self.between(place + 2, comma - 1)
+        return f"{function if re.fullmatch(POSTFIX, function) else f'({function})'}({self.between(comma + 1, close - 1)})"
+
+    def callee_of(self, place: int) -> str:
+        """The function that a branch of such a function calls: `if (..) return f(..);` or `if (..) { f(..); return; }`."""
+        at = self.partner.get(place + 1, place) + 1
+        return self.word(at + 1) if self.word(at) in ("return", "{") else ""
+
+    def calls_of(self, name: str) -> List[int]:
+        """The lines on which a function is called: within braces, where no function is declared."""
+        found, depth = [], 0
+        for place, token in enumerate(self.tokens):
+            depth += (token.text == "{") - (token.text == "}")
+            if depth and token.text == name and self.word(place + 1) == "(":
+                found.append(token.line)
+        return found
+
     def left_of(self, place: int) -> str:
         """The operand that stands left of `&&`, `||` or `?`."""
         ends = BEFORE_OPERAND | ({"||"} if self.word(place) == "&&" else set())
@@ -178,6 +222,8 @@ class Source:
         """The place in this text of the word at a place of another one, whose lines were made of this line; none where these have other words of it."""
         word = other.word(place)
         ours = [at for at, token in enumerate(self.tokens) if token.line == line and token.text == word]
+        if not ours and word.startswith(OF_PORT):
+            ours = [at for at, token in enumerate(self.tokens) if token.line == line and token.text == word[len(OF_PORT):]]
         theirs = [at for at, token in enumerate(other.tokens) if token.line in lines and token.text == word]
         return ours[theirs.index(place)] if len(ours) == len(theirs) and place in theirs else None
 
@@ -192,7 +238,7 @@ class Source:
         if site.scheme == "branches":
             return self.branch(place, site.names[0], text.split(" ")[-1])
         if site.scheme == "returns":
-            call = self.between(place, self.partner.get(place + 1, place))
+            call = self.called_by_pointer(place) if self.word(place).startswith(CALL) else self.between(place, self.partner.get(place + 1, place))
             return Fact(clipped(call), returned(text.split(" ")[-2], compiled.gives_pointer(site.names[0]), site.names[0]))
         return Fact(with_character("pairs", text), f"after {clipped(self.assignment(place))}")
 

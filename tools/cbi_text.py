@@ -1,8 +1,9 @@
-"""A ranking as text: the answer first, then the rows. Not proved."""
+"""The answer as text: the bugs first, then suspicious lines, then the rows of the ranking. Not proved."""
 import textwrap
-from typing import Iterator, List
+from typing import Iterable, Iterator, List, Tuple
 
 import cbi_told
+from cbi_answer import BugShown
 from cbi_files import harmless
 from cbi_rows import Bands, Shown, View
 
@@ -58,24 +59,94 @@ def text_of_row(shown: Shown, view: View, indent: str = "") -> Iterator[str]:
     yield ""
 
 
-def answer(view: View, width: int) -> Iterator[str]:
-    """What broke, where, how often, and one failing run."""
-    if not view.every():
-        yield from (line for said in cbi_told.sentences(view) for line in prose(said, width))
-    for said in (" ".join(cbi_told.sentences(view)) if view.every() else None, cbi_told.hanging_line(view)):
-        yield from wrapped(said, width) if said else ()
-    if view.every() or view.hunted and view.hunted.example:
-        yield ""
-    lines = cbi_told.excerpt(view)
-    for number, line, marked in lines:
-        yield f"{'>' if marked else ' '}{number:>6} | {line}".rstrip()
+# Bugs
+
+def bug_lines(bug: BugShown, view: View, width: int) -> Iterator[str]:
+    """A bug: its place and its fact, its counts, its lines, and what else is told of it."""
+    title, lines, letter = cbi_told.title_of(bug, view), cbi_told.excerpt(bug, view), cbi_told.letter(bug, view)
+    if title.endless and title.endless != cbi_told.endless_first(view):
+        yield from wrapped(letter + title.endless, width)
+        letter = ""
+    yield clip(letter + title.text(), width)
+    yield from wrapped(" ".join(said for said in (cbi_told.counts_of_bug(bug, view), cbi_told.doubt(bug, view)) if said), width)
+    yield ""
+    longest = min(max((len(harmless(line.text)) for line in lines), default=0), width - 10 - len(cbi_told.ONLY_HERE) - 2)
+    first_only = next((line.number for line in lines if line.only), None)
+    for line in lines:
+        mark = f"  {cbi_told.ONLY_HERE}" if line.number == first_only else "  <-" if line.only else ""
+        text = harmless(line.text)
+        yield f"{'>' if line.marked else ' '}{line.number:>6} | {clip(text, longest).ljust(longest) if mark else text}{mark}".rstrip()
     if lines:
         yield ""
-    if view.hunted and view.hunted.example:
-        for said, what in cbi_told.example_of(view.hunted.example):
-            yield f"{said}: {what}"
+    yield from listed(cbi_told.about(bug, view))
+    yield ""
+
+
+def listed(about: Iterable[Tuple[str, List[str]]]) -> Iterator[str]:
+    for what, values in about:
+        for place, value in enumerate(values):
+            lead = f"{what}: " if place == 0 else " " * (len(what) + 2)
+            yield lead + value
+
+
+def places_lines(view: View, width: int) -> Iterator[str]:
+    places = cbi_told.places_of(view)
+    if places and view.totals:
+        yield f"{cbi_told.PLACES}:"
+        yield from (f"     {cbi_told.place_line(place, view.totals, view.where)}" for place in places)
+        yield from wrapped(cbi_told.places_said(view), width)
         yield ""
 
+
+def head_of(view: View, width: int) -> Iterator[str]:
+    """How many bugs there are; or where no fact is beyond chance that this is so, and what may help. A loop that is never left is known of its run in any case."""
+    answer = view.answer
+    endless = [said for said in (cbi_told.endless_first(view), cbi_told.hanging_line(view)) if said]
+    if answer and answer.told_apart() and answer.strong():
+        yield from (line for said in (cbi_told.headline(view), *endless) for line in wrapped(said, width))
+        return
+    yield from (line for said in endless for line in wrapped(said, width))
+    if answer and answer.told_apart():
+        said = [cbi_told.headline(view), "What may help:", *(f"- {one}" for one in cbi_told.helps(view))]
+    else:
+        said = cbi_told.nothing_said(view)
+    yield from (line for one in said for line in prose(one, width))
+
+
+def bugs_of(view: View, width: int, every: bool) -> Iterator[str]:
+    """The bugs; where no fact is beyond chance where failing runs go stands before them."""
+    answer, first = view.answer, view.first()
+    if answer is None:
+        yield from [cbi_told.row_title(first), ""] if first else []
+        return
+    yield from head_of(view, width)
+    example = list(listed(cbi_told.alone(view)))
+    yield from [""] if answer.told_apart() or example else []
+    if not answer.strong():
+        yield from places_lines(view, width)
+    for bug in answer.bugs if every and answer.told_apart() else answer.leading():
+        yield from bug_lines(bug, view, width)
+    yield from example + [""] if example and answer.told_apart() else example
+    left = cbi_told.left_over(view)
+    if left and not every:
+        yield from wrapped(f"{left} (--all shows {'it' if len(answer.folded()) == 1 else 'them'}).", width)
+        yield ""
+
+
+def suspicious(view: View, width: int) -> Iterator[str]:
+    if not view.answer or not view.answer.told_apart() or not view.answer.lines:
+        return
+    yield f"{cbi_told.LINES}:"
+    for said in view.answer.lines:
+        yield f"  {said.found.strength / 1000000:.3f}  {cbi_told.line_of(said, view)}"
+    yield from wrapped(cbi_told.LINES_SAID, width)
+    out = cbi_told.left_out(view)
+    if out:
+        yield out
+    yield ""
+
+
+# Rows of the ranking
 
 def rows_of(view: View, every: bool) -> Iterator[str]:
     for group in view.together:
@@ -99,12 +170,30 @@ def text_of(view: View, width: int = 10000, every: bool = False) -> Iterator[str
 
 def whole_text(view: View, width: int, every: bool) -> Iterator[str]:
     totals = view.hunted.notes if view.hunted else [cbi_told.totals_line(view.totals)] if view.totals else []
-    if view.every():
-        yield from answer(view, width)
-    yield from (line for said in totals for line in prose(said, width))
-    if not view.every() and view.hunted:
-        yield from answer(view, width)
-    elif totals:
+    notes = [line for said in totals for line in prose(said, width)]
+    if view.answer and not view.answer.told_apart():
+        yield from notes
+    yield from bugs_of(view, width, every)
+    if not view.answer or view.answer.told_apart():
+        yield from notes + [""] if notes else []
+    yield from suspicious(view, width)
+    if view.answer and view.answer.strong():
+        yield from places_lines(view, width)
+    yield from ranking(view, width, every)
+
+
+def ranking(view: View, width: int, every: bool) -> Iterator[str]:
+    """The rows of `cbi rank`: folded where the bugs are there."""
+    rows = len(view.every())
+    if view.answer and not every:
+        if not rows and view.answer.told_apart():
+            yield f"{cbi_told.RANKING} has no row."
+        elif rows:
+            beside = ", with what falls with each" + (" and the best pair" if view.pair else "")
+            yield f"{cbi_told.RANKING} has {'1 row' if rows == 1 else f'{rows} rows'} (--all shows {'it' if rows == 1 else 'them'}{beside})."
+        return
+    if view.answer and rows:
+        yield f"{cbi_told.RANKING}:"
         yield ""
     yield from rows_of(view, every)
     if view.weak and not every:
@@ -117,12 +206,6 @@ def whole_text(view: View, width: int, every: bool) -> Iterator[str]:
         yield f"{cbi_told.PAIR}:"
         yield from (f"     {line}" for line in cbi_told.pair_lines(view.pair, view))
         yield ""
-    places = cbi_told.places_of(view)
-    if places and view.totals:
-        yield f"{cbi_told.PLACES}:"
-        yield from (f"     {cbi_told.place_line(place, view.totals, view.where)}" for place in places)
-        yield from wrapped(cbi_told.PLACES_SAID, width)
-        yield ""
     yield from legend(view, width)
 
 
@@ -133,7 +216,7 @@ LEGEND = ("Each row is about the runs that no row above it explains. A bar is th
 def legend(view: View, width: int) -> Iterator[str]:
     if view.every():
         yield from wrapped(LEGEND, width)
-    elif not view.hunted:
+    elif not view.answer:
         yield cbi_told.NO_ROWS
     if view.carded and any(len(group) > 1 for group in view.together):
         yield "Rows behind a | are mostly about the same runs as the row above them."

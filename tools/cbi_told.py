@@ -1,18 +1,29 @@
-"""The answer of a hunt in words: what broke, where, how often, and one failing run. Text and page have it from here. Not proved."""
+"""The answer of a hunt in words: the bugs, each with its place, its fact, its inputs and how they fail, and the suspicious lines. Text, page and SARIF have it from here. Not proved."""
 import re
-from typing import Dict, Iterator, List, Optional, Tuple
+from typing import Dict, Iterator, List, NamedTuple, Optional, Tuple
 
-from cbi_files import ENDINGS, count_of, share, visible
-from cbi_hunted import Example
+import cbi_broke
+from cbi_answer import BugShown, Stated
+from cbi_files import count_of, ending_said, share, visible
+from cbi_hunted import Example, File, Hanging
 from cbi_rows import PAIR_ABOVE, Near, PairShown, Shown, View
 from cbi_seen import MOST_PLACES, Place, Totals
-from cbi_where import Where
+from cbi_where import Spot, Where
 
 AROUND = 2        # lines of source before and behind the one that is told
+MOST_ONLY = 6     # lines behind it that run only where its fact is true
 MOST_NAMES = 3
-NO_ROWS = "No predicate passes the test: the runs don't say where the bug is. More runs may, or a smaller rate."
+NO_ROWS = "No predicate passes the test: the runs don't say where the bug is. More inputs may, or a smaller rate."
+NO_FACT = "No fact is beyond chance."
+HELPS = ["More inputs that differ, also in little."]
+ONLY_HERE = "<- runs only where this is true"
 PLACES = "Where failing runs go"
-PLACES_SAID = "Lines that failing runs are seen at more often than others, beyond chance. To come to a line is no fact of the ranking, which is told apart."
+PLACES_SAID = "Lines that failing runs are seen at more often than others, beyond chance (Fisher's exact test, corrected for how many lines were looked at)."
+PLACES_WEAK = "Lines that failing runs are seen at more often than others; by chance alone some would be."
+LINES = "Suspicious lines"
+LINES_SAID = ("Each line by its best fact, one for each three around. Strength is the square of the correlation between the fact and failing: "
+              "1 where it was true in all failing runs and in no other.")
+RANKING = "The ranking of cbi rank"
 PAIR = "Two facts that say more together"
 
 
@@ -20,33 +31,216 @@ def share_of(part: int, whole: int) -> str:
     return share(part * 1000000 // whole) if part < whole else "100 %"
 
 
-def one_in(part: int, whole: int) -> str:
-    """`1 in 7 did`, `none did`, `all did`, `62 % did`."""
-    if part in (0, whole):
-        return "all did" if part else "none did"
-    return f"1 in {round(whole / part)} did" if 3 * part <= whole else f"{share_of(part, whole)} did"
+def part_of(part: int, whole: int, what: str = "") -> str:
+    """`all 41 failing runs`, `none of the 207 others`, `both failing runs`, `3 of the 9`, `the one failing run`."""
+    many, one = (f" {what}s", f" {what}") if what else ("", "")
+    if part == whole and whole > 0:
+        return {1: f"the one{one}", 2: f"both{many}"}.get(whole, f"all {whole}{many}")
+    return f"{part or 'none'} of the {whole}{many}"
 
 
-def sentences(view: View) -> List[str]:
-    """What broke, where, how often, and how failing runs ended."""
-    first = view.first()
-    if first is None:
-        advice = view.hunted.advice if view.hunted else ""
-        return [*(advice.split("\n") if advice else [NO_ROWS]), *ended(view)]
-    row = first.row
-    true, others, failing = row.f + row.s, row.fobs + row.sobs - row.f - row.s, row.fobs - row.f
-    runs = "ranked runs" if view.sample() else "runs"
-    saw = {1: f"The one {runs[:-1]} that saw it failed", 2: f"Both {runs} that saw it failed"}.get(true, f"All {true} {runs} that saw it failed") if not row.s else f"{row.f} of the {true} {runs} that saw it failed"
-    rest = f"; of the {others} others that looked there {one_in(failing, others)}" if others > 1 else f"; the one other that looked there {'failed too' if failing else 'did not'}" if others else ""
-    said = [f"{perhaps(first)}{first.fact.past()} at {first.spot.file}:{first.spot.line} in {row.function}.", f"{saw}{rest}.", *ended(view)]
-    if first.weak() and first.by_chance is not None and view.seen:
-        said.append(f"Of the {view.seen.observed} facts that were looked at chance alone would make {first.by_chance:.1f} look as strong.")
-    return said
+def capital(text: str) -> str:
+    return text[:1].upper() + text[1:]
 
 
-def perhaps(first: Shown) -> str:
+# Bugs
+
+def unit(view: View) -> str:
+    """What is counted: inputs, where it is known of which input a run is and all runs are ranked."""
+    return "run" if view.hunted is None or view.sample() else "input"
+
+
+def headline(view: View) -> str:
+    """How many bugs explain how many of what failed, and how many are left. An input is explained where one of its runs is."""
+    answer, hunted = view.answer, view.hunted
+    if answer is None or not answer.strong():
+        return NO_FACT
+    strong = answer.strong()
+    runs = [run for bug in strong for run in bug.runs]
+    explained, failing = (len(set(map(hunted.place_of, runs))), answer.inputs[0]) if hunted and not view.sample() else (len(runs), answer.failing)
+    left = f"; {failing - explained} {'is' if failing - explained == 1 else 'are'} left over" if explained < failing else ""
+    every = answer.failing + answer.successful
+    of = f"{every} ranked runs" if view.sample() else f"{every} runs" + (f" on {sum(answer.inputs)} inputs" if answer.several() else "") if hunted is None or answer.several() else f"{every} inputs"
+    bugs = count_of(len(strong), "bug") + (", perhaps fewer," if any(same_as(bug, view) for bug in strong) else "")
+    return f"{bugs} {'explains' if len(strong) == 1 else 'explain'} {part_of(explained, failing, 'failing ' + unit(view))}{left} ({of})."
+
+
+def letter(bug: BugShown, view: View) -> str:
+    """`A. `, `B. `; nothing for a bug that is shown alone."""
+    alone = view.answer is not None and len(view.answer.leading()) == 1 and bug is view.answer.first()
+    return "" if alone else f"{chr(64 + bug.number)}. "
+
+
+def perhaps(bug: BugShown) -> str:
     """What stands before a fact that chance alone would make look as strong."""
-    return "Perhaps by chance, " if first.weak() else ""
+    return "Perhaps by chance, " if bug.weak() else ""
+
+
+class Title(NamedTuple):
+    """What a bug is called by: a doubt, its place and its fact; and before these the loop that its run never leaves, where it hangs."""
+    doubt: str
+    spot: Spot
+    function: str
+    said: Stated
+    endless: Optional[str]
+
+    def text(self) -> str:
+        return f"{self.doubt}{self.spot.file}:{self.spot.line} in {self.function}: {self.said.told.fact.past()}"
+
+
+def title_of(bug: BugShown, view: View) -> Title:
+    example = view.hunted.example_of(bug.number) if view.hunted else None
+    return Title(perhaps(bug), bug.lead.told.spot, bug.lead.told.function, bug.lead, endless_of(example))
+
+
+def endless_of(example: Optional[Example]) -> Optional[str]:
+    """The loop that a run never leaves, as a sentence."""
+    return cbi_broke.title_of(example.broke) if example and example.broke else None
+
+
+def endless_first(view: View) -> Optional[str]:
+    """The same of the smallest failing input, where no fact is beyond chance: it is known of this run, whatever the others are."""
+    strong = view.answer is not None and bool(view.answer.leading()) and bool(view.answer.strong())
+    return endless_of(view.hunted.example_of(1)) if view.hunted and not strong else None
+
+
+def counts_of_bug(bug: BugShown, view: View) -> str:
+    """In how many failing and other runs its fact was true, of how many that looked there."""
+    found, came = bug.lead.found, "came there" if view.hunted and view.hunted.rate == 1 else "looked there"
+    later = view.answer is not None and bug.live < view.answer.failing
+    others = f"no other {came}" if not found.d else "not in the one other that did" if (found.b, found.d) == (0, 1) else f"in {part_of(found.b, found.d, 'other')} that did"
+    missing = f" {count_of(bug.live - found.c, 'failing run')} did not {came.replace('came', 'come').replace('looked', 'look')}." if found.c < bug.live else ""
+    if later:
+        return f"Of the {count_of(bug.live, 'failing run')} that no bug above explains, true in {part_of(found.a, found.c)} that {came}, and {others}.{missing}"
+    return f"True in {part_of(found.a, found.c, 'failing run')} that {came}, and {others}.{missing}"
+
+
+def expected_of(number: float) -> str:
+    return f"{number:.0f}" if number >= 10 else f"{number:.1f}" if number >= 0.95 else f"{number:.2g}"
+
+
+def doubt(bug: BugShown, view: View) -> Optional[str]:
+    """That chance alone may have made it look so strong."""
+    if not bug.weak() or view.answer is None:
+        return None
+    return f"Weak evidence: of the {view.answer.observed} facts that were looked at, chance alone would make {expected_of(bug.expected)} look as strong{', by inputs' if view.answer.several() else ''}."
+
+
+def same_as(bug: BugShown, view: View) -> Optional[str]:
+    """That a bug may be one that stands above it: half of its failing inputs at least are among those of that one, of which other runs saw another fact."""
+    if not view.hunted or not view.answer:
+        return None
+    places = {view.hunted.place_of(run) for run in bug.runs}
+    for other in view.answer.bugs[:bug.number - 1]:
+        shared = len(places & {view.hunted.place_of(run) for run in other.runs})
+        if 2 * shared >= len(places):
+            return f"{shared} of its {count_of(len(places), 'failing input')} {'is' if shared == 1 else 'are'} among those of {chr(64 + other.number)}, by other runs"
+    return None
+
+
+def helps(view: View) -> List[str]:
+    return view.hunted.helps if view.hunted and view.hunted.helps else HELPS
+
+
+def brief(said: Stated, view: View) -> str:
+    """`line 16, find: if (e) was false (41 failing, 3 others)`."""
+    return f"{view.where.named(said.told.spot)}, {said.told.function}: {said.told.fact.past()} ({said.found.a} failing, {count_of(said.found.b, 'other')})"
+
+
+def way_step(said: Stated, view: View) -> str:
+    took = "failing runs alone" if not said.found.b else f"{count_of(said.found.b, 'other')} too"
+    return f"{view.where.named(said.told.spot)}, {said.told.function}: {said.told.fact.past()} ({took})"
+
+
+class Line(NamedTuple):
+    """A line of an excerpt: whether it is the one of the fact, and whether it runs only where that is true."""
+    number: int
+    text: str
+    marked: bool
+    only: bool
+
+
+def excerpt(bug: BugShown, view: View, around: int = AROUND) -> List[Line]:
+    """The lines around that of a bug, and a few of those that run only where its fact is true."""
+    spot = bug.lead.told.spot
+    if view.where.text(spot) is None:
+        return []
+    lines = view.where.files[spot.file]
+    last = len(lines) - (1 if lines[-1] == "" else 0)
+    only = [number for number in bug.only if spot.line < number <= spot.line + MOST_ONLY]
+    until = max([spot.line + around, *only])
+    return [Line(number, lines[number - 1], number == spot.line, number in bug.only) for number in range(max(1, spot.line - around), min(last, until) + 1)]
+
+
+def files_of(bug: BugShown, view: View) -> List[File]:
+    return view.hunted.files_of(bug.runs) if view.hunted else []
+
+
+def named_files(files: List[File]) -> str:
+    """`lookup/inputs:141 (14 bytes), .. and 38 more`."""
+    rest = f" and {len(files) - MOST_NAMES} more" if len(files) > MOST_NAMES else ""
+    return ", ".join(f"{file.path} ({count_of(file.size, 'byte')})" for file in files[:MOST_NAMES]) + rest
+
+
+def about(bug: BugShown, view: View) -> Iterator[Tuple[str, List[str]]]:
+    """What is told of a bug beside its fact: how its runs ended, the way there, further places, its inputs, and where its smallest one broke."""
+    example, same = view.hunted.example_of(bug.number) if view.hunted else None, same_as(bug, view)
+    if same:
+        yield "perhaps the same bug", [same]
+    if bug.endings:
+        yield "ended by", [ended_by(bug.endings)]
+    if bug.way:
+        yield "way there", [way_step(said, view) for said in bug.way]
+    if bug.also:
+        yield "also", [brief(said, view) for said in bug.also]
+    files = files_of(bug, view)
+    if files:
+        yield "failing inputs", [named_files(files)]
+    if example:
+        yield from ((what, [value]) for what, value in example_of(example))
+
+
+def alone(view: View) -> Iterator[Tuple[str, List[str]]]:
+    """What is told of the smallest failing input where there is no bug that it is of."""
+    example = view.hunted.example_of(1) if view.hunted and not (view.answer and view.answer.leading()) else None
+    if example:
+        yield from ((what, [value]) for what, value in example_of(example))
+
+
+def left_over(view: View) -> Optional[str]:
+    """How many facts are folded, and of how many failing runs that no bug explains."""
+    answer = view.answer
+    folded = answer.folded() if answer else []
+    if answer is None or not folded:
+        return None
+    runs = sum(len(bug.runs) for bug in folded)
+    facts = "1 weak fact" if len(folded) == 1 else f"{len(folded)} weak facts"
+    return f"{facts} of {count_of(runs, 'other failing run')}: chance alone would make one as strong more often than once in 20 hunts"
+
+
+def left_out(view: View) -> Optional[str]:
+    """That what a port added is left out."""
+    places = view.answer.left_out if view.answer else 0
+    return f"{count_of(places, 'place')} in code that the port added {'is' if places == 1 else 'are'} left out." if places else None
+
+
+def line_of(said: Stated, view: View) -> str:
+    answer, found = view.answer, said.found
+    totals = (answer.failing, answer.successful) if answer else (0, 0)
+    return f"{view.where.named(said.told.spot)}, {said.told.function}: {said.told.fact.past()} ({found.a} of {totals[0]} failing, {found.b} of {count_of(totals[1], 'other')})"
+
+
+# How runs ended
+
+def row_title(shown: Shown) -> str:
+    """What is told of the first row, where there is the ranking alone."""
+    return f"{'Perhaps by chance, ' if shown.weak() else ''}{shown.spot.file}:{shown.spot.line} in {shown.row.function}: {shown.fact.past()}"
+
+
+def nothing_said(view: View) -> List[str]:
+    """What is told where nothing can be told apart: how runs ended, and what may help."""
+    advice = view.hunted.advice if view.hunted else ""
+    return [*(advice.split("\n") if advice else [NO_ROWS]), *ended(view)]
 
 
 def ended(view: View) -> List[str]:
@@ -58,7 +252,7 @@ def ended(view: View) -> List[str]:
     if len(endings) == 1:
         (outcome, count), = endings.items()
         whose = {1: f"The one {runs[:-1]}", 2: f"Both {runs}"}.get(count, f"All {count} {runs}")
-        return [f"{whose} ended by {ENDINGS[outcome]}{trap_of(outcome)}."]
+        return [f"{whose} ended by {ending_said(outcome)}{trap_of(outcome)}."]
     return [f"{runs.capitalize()} ended by {ended_by(endings)}."]
 
 
@@ -76,43 +270,36 @@ def ended_by(endings: Dict[str, int]) -> str:
     parts: List[str] = []
     for outcome, count in sorted(endings.items(), key=lambda item: (-item[1], item[0])):
         trap = f"trap {outcome[8:]}, " if outcome.startswith("trapped ") else ""
-        parts.append(f"{ENDINGS[outcome]} ({trap}{count if parts else count_of(count, 'run')})")
+        parts.append(f"{ending_said(outcome)} ({trap}{count if parts else count_of(count, 'run')})")
     return parts[0] if len(parts) == 1 else ", by ".join(parts[:-1]) + " and by " + parts[-1]
-
-
-def excerpt(view: View) -> List[Tuple[int, str, bool]]:
-    """The lines around that of the first row, each with its number and whether it is that one."""
-    first = view.first()
-    if first is None or view.where.text(first.spot) is None:
-        return []
-    lines, line = view.where.files[first.spot.file], first.spot.line
-    last = len(lines) - (1 if lines[-1] == "" else 0)
-    return [(number, lines[number - 1], number == line) for number in range(max(1, line - AROUND), min(last, line + AROUND) + 1)]
 
 
 # One failing run
 
 def example_of(example: Example) -> Iterator[Tuple[str, str]]:
     """A failing run as pairs of what is told and what it is."""
-    whose = "smallest failing input of the first row" if example.of_row else "smallest failing input"
     if example.made_from is not None:
-        what = f"{whose}, made from {example.name} of {count_of(example.made_from, 'byte')} in {count_of(example.steps, 'run')}"
+        what = f"smallest failing input, made from {example.name} of {count_of(example.made_from, 'byte')} in {count_of(example.steps, 'run')}"
     else:
-        what = f"{whose}, {example.name}"
+        what = f"smallest failing input, {example.name}"
     yield f"{what} ({count_of(example.size, 'byte')})", visible(example.input, 240) if example.input else "nothing"
     yield from wrote_of(example)
     yield "the run again", example.again
 
 
 def wrote_of(example: Example) -> Iterator[Tuple[str, str]]:
-    """What it wrote beside what was due: the first line that differs, or without what is due the last line."""
+    """What it wrote beside what was expected: the first line that differs, or without it the last line."""
     if example.line and example.due is not None:
         yield f"line {example.line} of its output", visible(example.wrote) if example.wrote else "none"
-        yield f"line {example.line} that was due", visible(example.due) if example.due else "none"
+        yield f"line {example.line} that was expected", visible(example.due) if example.due else "none"
     elif example.wrote:
         yield "its output ended with", visible(example.wrote)
     else:
         yield "its output", "nothing"
+    if example.status:
+        yield "its exit status", str(example.status)
+    if example.broke:
+        yield from cbi_broke.lines_of(example.broke)
 
 
 # Rows
@@ -179,7 +366,14 @@ def pair_lines(shown: PairShown, view: View) -> Iterator[str]:
 
 
 def places_of(view: View) -> List[Place]:
-    return view.seen.places[:MOST_PLACES] if view.seen else []
+    """The lines that failing runs go to: those beyond chance, or where no fact is either, the others too."""
+    sure = [place for place in view.seen.places if place.sure()] if view.seen else []
+    every = view.seen.places if view.seen and view.answer and not view.answer.strong() else []
+    return (sure or every)[:MOST_PLACES]
+
+
+def places_said(view: View) -> str:
+    return PLACES_SAID if all(place.sure() for place in places_of(view)) else PLACES_WEAK
 
 
 def place_line(place: Place, totals: Totals, where: Where) -> str:
@@ -191,9 +385,13 @@ def hanging_line(view: View) -> Optional[str]:
     """Where runs that were cut were seen last."""
     if not view.hunted or not view.hunted.hanging:
         return None
-    looked = sum(count for _, count in view.hunted.hanging)
-    where = ", ".join(f"{text} ({count})" for text, count in view.hunted.hanging)
+    looked = sum(one.times for one in view.hunted.hanging)
+    where = ", ".join(f"{hanging_place(one, view)}{one.statement} ({one.times})" for one in view.hunted.hanging)
     return f"{count_of(looked, 'run')} that went on without end {'was' if looked == 1 else 'were'} made again, and last seen at {where}."
+
+
+def hanging_place(one: Hanging, view: View) -> str:
+    return f"{view.where.named(Spot(one.file, one.line))}, {one.function}: " if one.line else ""
 
 
 def added_line(view: View) -> str:

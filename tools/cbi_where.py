@@ -1,4 +1,5 @@
 """Whose a line is: of the C text itself, or of the files that it was ported from. Not proved."""
+import os
 from typing import Dict, FrozenSet, List, NamedTuple, Optional, Tuple
 
 import cbi_files
@@ -46,8 +47,8 @@ def one_file(name: str, lines: Optional[List[str]]) -> Where:
     return Where(name, {name: lines} if lines else {})
 
 
-def ported(text: str, map_name: str) -> Where:
-    """A ported text with the files that its map names; one that isn't there any more is shown without its lines."""
+def ported(text: str, map_name: str, folder: str = "") -> Where:
+    """A ported text with the files that its map names, from a folder on; one that isn't there any more is shown without its lines."""
     from cbi_port import read_map
     try:
         lines, added = read_map(cbi_files.decoded(cbi_files.read_bytes(map_name)))
@@ -57,7 +58,7 @@ def ported(text: str, map_name: str) -> Where:
     files = {}
     for name in names:
         try:
-            files[name] = cbi_files.read_source(name)
+            files[name] = cbi_files.read_source(os.path.join(folder, name))
         except Fault:
             files[name] = []
     return Where(names[0] if names else text, files, [(line.file, line.line, line.added) for line in lines], frozenset(added))

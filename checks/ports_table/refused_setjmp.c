@@ -1,3 +1,12 @@
 #include <setjmp.h>
-int main(void) { return 0; }
-/* refused 1 setjmp.h */
+#include <stdio.h>
+static jmp_buf back;
+int main(void)
+{
+    if (setjmp(back) == 0)
+        longjmp(back, 1);
+    puts("back");
+    return 0;
+}
+/* refused 6 `setjmp` */
+/* refused 7 `longjmp` */

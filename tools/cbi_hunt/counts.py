@@ -13,7 +13,7 @@ class Count:
 
     def __init__(self, plan: Plan):
         self.plan = plan
-        self.failed = self.succeeded = self.neither = self.cut = 0
+        self.failed = self.succeeded = self.neither = self.cut = self.other_status = 0
         self.failing_inputs: Dict[int, str] = {}
         self.failing_runs: Dict[int, int] = {}
         self.hanging_inputs: Dict[int, int] = {}
@@ -26,6 +26,7 @@ class Count:
             self.failed += run.label == "fail"
             self.succeeded += run.label == "pass"
             self.neither += run.label == "none"
+            self.other_status += run.label == "pass" and cbi_files.status_of(run.outcome) != 0
             if run.outcome == "cut turns":
                 self.hanging_inputs.setdefault(self.plan.input_of(run.number), run.number)
             if run.label == "fail":

@@ -42,13 +42,14 @@ def plan_of(chosen: argparse.Namespace, kept: Kept, inputs: Inputs, cbi: str) ->
         parts = [transform(chosen, cbi, kept.path("source.c"), kept.path("parts", str(part)), part) for part in range(chosen.parts)]
     oracle = oracle_of(chosen)
     chosen.rate = chosen.rate or kept.begun_rate() or EVERY
-    plan = Plan(cbi, program, chosen.rate, chosen.seed, chosen.turns, oracle, [], [], None, parts, chosen.oracle_timeout, chosen.hangs == "fail")
+    plan = Plan(cbi, program, chosen.rate, chosen.seed, chosen.turns, oracle, [], [], None, parts, chosen.oracle_timeout, chosen.hangs == "fail",
+                chosen.status == "fail")
     if chosen.mutate:
         told.append(add_mutants(chosen, plan, kept, inputs, chosen.jobs or processors()))
     plan = plan._replace(names=inputs.names, inputs=[os.path.abspath(path) for path in inputs.paths],
                          expected=inputs.expected and [os.path.abspath(path) for path in inputs.expected])
     kept.settle({"program": cbi_files.read_program(program).identity, "rate": plan.rate, "seed": plan.seed, "turns": plan.turns, "parts": chosen.parts,
-                 "oracle": chosen.oracle or chosen.oracle_shell, "inputs": inputs.digest(), "hangs": chosen.hangs})
+                 "oracle": chosen.oracle or chosen.oracle_shell, "inputs": inputs.digest(), "hangs": chosen.hangs, "status": chosen.status})
     return plan, told
 
 
@@ -69,12 +70,24 @@ def make_runs(chosen: argparse.Namespace, plan: Plan, kept: Kept, runs: int) -> 
     return (count if whole else counted(plan, kept)), whole
 
 
+def runs_of(chosen: argparse.Namespace, plan: Plan) -> Tuple[int, List[str]]:
+    """How many runs are made, and what is told of it: where each visit is looked at, a run is fixed by its input, and by the part of the sites that it looks at."""
+    inputs = len(plan.inputs)
+    most = inputs * max(1, len(plan.parts))
+    if plan.rate > EVERY or not chosen.runs or chosen.runs <= most:
+        return chosen.runs or inputs, []
+    each = f"each input's run for each of the {len(plan.parts)} parts" if plan.parts else "each input's run"
+    return most, [f"{most} runs in place of {chosen.runs}: where every visit is looked at (--rate 1) {each} is the same each time, so that more runs are copies"]
+
+
 def hunt(chosen: argparse.Namespace, cbi: str, folder: str) -> int:
     kept = Kept(folder)
     inputs = inputs_of(chosen, folder)
     plan, told = plan_of(chosen, kept, inputs, cbi)
     heed_now()
-    count, whole = make_runs(chosen, plan, kept, chosen.runs or len(inputs.names))
+    runs, capped = runs_of(chosen, plan)
+    told += capped
+    count, whole = make_runs(chosen, plan, kept, runs)
     heed_now()
     if not count.runs():
         print("No run was made.")

@@ -68,7 +68,7 @@ class Kept:
             os.replace(path + ".part", path)
             return
         with open(path, encoding="utf-8") as file:
-            begun = {"parts": 1, "hangs": "neither", **json.load(file)}
+            begun = {"parts": 1, "hangs": "neither", "status": "ignore", **json.load(file)}
         for key, value in settings.items():
             if begun.get(key) != value:
                 other = OTHER.get(key, f"another {key} ({begun.get(key)}, and not {value})")

@@ -11,17 +11,18 @@ from typing import Counter as Counts
 from typing import List, Optional, Tuple
 
 import cbi_files
-from cbi_files import Program, count_of
+from cbi_answer import Answer, BugShown
+from cbi_files import Program, count_of, status_of
 from cbi_hunt.again import Repeater, for_predicate, program_for
 from cbi_hunt.counts import Count, Told
 from cbi_hunt.inputs import Inputs
 from cbi_hunt.kept import Kept
 from cbi_hunt.smaller import Smaller, Wanted
 from cbi_hunt.words import TURNS
-from cbi_hunted import Example, Sample
-from cbi_rows import Shown, Wording
+from cbi_hunted import Example, File, Hanging, Sample
 from cbi_runs import Plan, asked, oracle_name
 from cbi_seen import ending_of
+from cbi_wording import Wording
 
 TOOLS = os.path.dirname(os.path.dirname(os.path.realpath(__file__)))
 CONTROL = re.compile(r"[\x00-\x1f\x7f]")
@@ -82,18 +83,34 @@ def script(name: str) -> str:
     return name if shutil.which(name) else quoted(os.path.join(TOOLS, name))
 
 
+def expected_for(hunt: Hunt, name: str, made: bool) -> Tuple[str, str]:
+    """How a run is told what it should write: a command that comes before it, and its option."""
+    inputs, chosen = hunt.inputs, hunt.chosen
+    if inputs.expected is None or made:
+        return "", ""
+    place = inputs.names.index(name)
+    if inputs.lines is None:
+        return "", f" --expect {quoted(inputs.expected[place])}"
+    if chosen.keep:
+        return "", f" --expect {quoted(os.path.join(chosen.keep, 'expected', name))}"
+    target = f"expected.{name}"
+    return f"sed -n {place + 1}p {quoted(chosen.expect)} >{target}; ", f" --expect {target}"
+
+
 def command_for(hunt: Hunt, name: str, path: str, data: bytes, made: bool) -> str:
     """A command that makes a run again and says how it ended, with paths that are there when the hunt has ended."""
     chosen = hunt.chosen
     cbi = quoted(chosen.cbi) if shutil.which(chosen.cbi) else quoted(hunt.plan.cbi)
-    run = f"{script('cbi-explain')} -- {cbi} run" + (f" --turns {chosen.turns}" if chosen.turns != TURNS else "") + " --input "
+    before, expect = expected_for(hunt, name, made)
+    run = f"{script('cbi-explain')} -- {cbi} run" + (f" --turns {chosen.turns}" if chosen.turns != TURNS else "") + f"{expect} --input "
     if chosen.keep:
         file = os.path.join(chosen.keep, "smallest") if made else os.path.join(chosen.keep, "failing", name)
         return f"{run}{quoted(file)} {quoted(os.path.join(chosen.keep, 'plain'))}"
-    compiled = f"{cbi} transform --mode plain {quoted(chosen.text)} | {run}"
-    if os.path.exists(hunt.kept.path("source.c.lines")):
-        words = ["--quiet", *(["--args", chosen.args] if chosen.args else []), *chosen.texts, *chosen.cpp]
-        compiled = f"{script('cbi-port')} {' '.join(map(quoted, words))} | {cbi} transform --mode plain - | {run}"
+    compiled = f"{before}{cbi} transform --mode plain {quoted(chosen.text)} | {run}"
+    if chosen.ported:
+        words = ["--quiet", *(["--args", chosen.args] if chosen.args else []), *["--stderr"] * chosen.stderr, *(["--memory", chosen.memory] if chosen.memory != "auto" else []),
+                 *chosen.texts, *chosen.cpp]
+        compiled = f"{before}{script('cbi-port')} {' '.join(map(quoted, words))} | {cbi} transform --mode plain - | {run}"
     given = hunt.inputs.lines is None and hunt.inputs.names.index(name) < hunt.inputs.given
     if not made and given:
         return f"{compiled}{quoted(path)} -"
@@ -102,22 +119,42 @@ def command_for(hunt: Hunt, name: str, path: str, data: bytes, made: bool) -> st
     return f"sed -n {hunt.inputs.names.index(name) + 1}p {quoted(hunt.inputs.lines)} >input; {compiled}input -"
 
 
-# One failing run
+# Failing runs
 
-def example_of(hunt: Hunt, first: Optional[Shown], program: Program) -> Optional[Example]:
-    """The smallest failing input of the first row, or of all failing runs where there is none."""
+def file_of(hunt: Hunt, place: int) -> Optional[File]:
+    """An input as it can be opened when the hunt has ended; none where it goes with the hunt."""
+    inputs, chosen, name = hunt.inputs, hunt.chosen, hunt.inputs.names[place]
+    size = os.path.getsize(inputs.paths[place])
+    if chosen.keep:
+        return File(os.path.join(chosen.keep, "failing", name), size)
+    if place >= inputs.given:
+        return None
+    return File(f"{inputs.lines}:{place + 1}" if inputs.lines else inputs.paths[place], size)
+
+
+def examples_of(hunt: Hunt, answer: Optional[Answer], program: Program) -> List[Example]:
+    """The smallest failing input of each bug; where there is none that of all failing runs."""
+    bugs = answer.bugs if answer and answer.told_apart() else []
+    if not bugs:
+        one = example_of(hunt, sorted(hunt.count.failing_runs.values()), None, program)
+        return [one] if one else []
+    made = [example_of(hunt, bug.runs, bug, program) for bug in bugs]
+    return [one for one in made if one]
+
+
+def example_of(hunt: Hunt, runs: List[int], bug: Optional[BugShown], program: Program) -> Optional[Example]:
+    """The smallest failing input of these runs. The one of the first bug is made smaller, where that is asked for."""
     plan, inputs = hunt.plan, hunt.inputs
-    runs = first.truth.runs if first and first.truth and first.truth.runs else sorted(hunt.count.failing_runs.values())
     places = {plan.input_of(run): run for run in reversed(runs)}
     if not places:
         return None
     place = min(places, key=lambda place: (os.path.getsize(inputs.paths[place]), inputs.names[place]))
     name, path, run = inputs.names[place], inputs.paths[place], places[place]
-    of_row = any(os.path.getsize(inputs.paths[other]) < os.path.getsize(path) for other in hunt.count.failing_runs)
     data = cbi_files.read_bytes(path)
     plain, repeater = program_for(hunt.chosen, plan.cbi, hunt.kept, "plain"), Repeater(plan, hunt.kept.folder)
-    outcome = ending_of(repeater.run(plain, path).outcome)
-    fewer, steps = made_smaller(hunt, first, program, data, outcome) if hunt.chosen.minimize else (None, 0)
+    ended = repeater.run(plain, path).outcome
+    outcome, status = ending_of(ended), status_of(ended) if plan.status else 0
+    fewer, steps = made_smaller(hunt, bug, program, data, ended) if hunt.chosen.minimize and bug and bug.number == 1 else (None, 0)
     if fewer is not None:
         path = hunt.kept.path("smallest")
         with open(path, "wb") as file:
@@ -130,18 +167,17 @@ def example_of(hunt: Hunt, first: Optional[Shown], program: Program) -> Optional
     shown = data if fewer is None else fewer
     again = command_for(hunt, name, path, shown, fewer is not None)
     return Example(name, run, shown[:4096], len(shown), outcome, ours[:4096] if line else last_line(wrote)[:4096], theirs[:4096] if line else None, line, again,
-                   len(data) if fewer is not None else None, steps, of_row)
+                   len(data) if fewer is not None else None, steps, status)
 
 
-def made_smaller(hunt: Hunt, first: Optional[Shown], program: Program, data: bytes, outcome: str) -> Tuple[Optional[bytes], int]:
+def made_smaller(hunt: Hunt, bug: BugShown, program: Program, data: bytes, ended: str) -> Tuple[Optional[bytes], int]:
     """The input made smaller, with how many runs that took; none where nothing can be made smaller."""
-    if first is None:
-        return None, 0
-    if outcome == "ended" and not hunt.plan.oracle:
+    outcome, status = ending_of(ended), status_of(ended) if hunt.plan.status else 0
+    if outcome == "ended" and not hunt.plan.oracle and not status:
         print("cbi-hunt: --minimize asks for an oracle where runs end by other output: nothing says what the program should write on a smaller input", file=sys.stderr)
         return None, 0
-    single, counters = for_predicate(hunt.chosen, hunt.plan.cbi, hunt.kept, program, first.row.predicate)
-    smaller = Smaller(hunt.plan, hunt.kept.folder, Wanted(single, counters, outcome), Told())
+    single, counters = for_predicate(hunt.chosen, hunt.plan.cbi, hunt.kept, program, bug.lead.found.predicate)
+    smaller = Smaller(hunt.plan, hunt.kept.folder, Wanted(single, counters, outcome, status), Told())
     fewer = smaller.of(data)
     os.remove(single)
     return (fewer, smaller.steps) if fewer is not None and len(fewer) < len(data) else (None, 0)
@@ -178,23 +214,24 @@ def oracle_note(hunt: Hunt) -> Optional[str]:
         return None
     repeater = Repeater(hunt.plan, hunt.kept.folder)
     run = repeater.run(program_for(hunt.chosen, hunt.plan.cbi, hunt.kept, "plain"), hunt.inputs.paths[places[0]])
-    said = asked(hunt.plan, hunt.inputs.paths[places[0]], run.output).err.strip()
+    said = asked(hunt.plan, hunt.inputs.paths[places[0]], run.output, run.outcome).err.strip()
     repeater.close()
     return f"The oracle {oracle_name(hunt.plan)} calls all of them wrong, and wrote to err: {said.splitlines()[-1]}" if said else None
 
 
 # Runs without end
 
-def hanging_places(hunt: Hunt, program: Program, wording: Wording) -> List[Tuple[str, int]]:
+def hanging_places(hunt: Hunt, program: Program, wording: Wording) -> List[Hanging]:
     """Where a few of the runs that were cut were seen last, each with how many of these."""
     if not hunt.plan.hangs or not hunt.count.hanging_inputs or not program.sites:
         return []
     full, repeater = program_for(hunt.chosen, hunt.plan.cbi, hunt.kept, "full"), Repeater(hunt.plan, hunt.kept.folder)
-    found: Counts[str] = Counter()
+    found: Counts[Hanging] = Counter()
     for place in sorted(hunt.count.hanging_inputs)[:MOST_HANGING]:
         last = repeater.run(full, hunt.inputs.paths[place]).last
         if last is not None:
             site = program.sites[last]
-            found[f"{wording.where.at(site.line, site.function)}: {wording.statement(site)}"] += 1
+            spot = wording.where.spot(site.line, site.function)
+            found[Hanging("" if spot.added else spot.file, 0 if spot.added else spot.line, site.function, wording.statement(site), 0)] += 1
     repeater.close()
-    return found.most_common()
+    return [one._replace(times=times) for one, times in found.most_common()]

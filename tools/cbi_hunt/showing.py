@@ -9,8 +9,10 @@ import cbi_files
 import cbi_rows
 import cbi_show
 import cbi_where
-from cbi_hunt.looks import Hunt, example_of, hanging_places
-from cbi_hunt.told import advice
+import cbi_wording
+from cbi_hunt.broke import broke_of
+from cbi_hunt.looks import Hunt, examples_of, file_of, hanging_places
+from cbi_hunt.told import advice, helps
 from cbi_hunted import Hunted, write_hunted
 from cbi_runs import call_to
 
@@ -26,9 +28,10 @@ def facts_of(hunt: Hunt, program: cbi_files.Program, notes: List[str], said: str
     """How the hunt was made."""
     chosen = hunt.chosen
     names = {place: hunt.inputs.names[place] for place in hunt.count.failing_inputs}
+    files = {place: file for place, file in ((place, file_of(hunt, place)) for place in names) if file}
     return Hunted(chosen.command, cbi_files.VERSION, date_of(), chosen.text, hashlib.sha256(cbi_files.read_bytes(hunt.kept.path("source.c"))).hexdigest(), program.identity,
                   chosen.seed, chosen.rate, hunt.count.runs(), chosen.turns, chosen.policy, chosen.hangs == "fail", len(hunt.inputs.names), names, notes, said, [],
-                  sample=hunt.sample)
+                  sample=hunt.sample, folder=os.getcwd(), files=files, helps=helps(hunt), by_status=hunt.plan.status)
 
 
 def rank(hunt: Hunt) -> cbi_files.Ranking:
@@ -51,16 +54,19 @@ def where_of(hunt: Hunt, source: List[str]) -> cbi_where.Where:
 
 
 def show(hunt: Hunt, notes: List[str], newline: Optional[str]) -> bool:
-    """Ranks and shows; answers whether there is a row."""
+    """Ranks and shows; answers whether something is shown that may be the bug."""
     kept = hunt.kept
     ranking = rank(hunt)
     program, source = cbi_files.read_program(hunt.plan.program), cbi_files.read_source(kept.path("source.c"))
     cards = cbi_files.read_cards(kept.path("cards")) if ranking.rows else {}
     pair = cbi_files.read_pairs(kept.path("pairs")) if ranking.rows else None
     where = where_of(hunt, source)
-    view = cbi_rows.view_of(ranking, cbi_rows.Given(where, source, program, cards, kept.path("runs"), pair, None))
-    hunted = facts_of(hunt, program, notes, "" if ranking.rows else advice(hunt, newline))
-    hunted = hunted._replace(example=example_of(hunt, view.first(), program), hanging=hanging_places(hunt, program, cbi_rows.Wording(source, program, where)))
+    hunted = facts_of(hunt, program, notes, "" if hunt.count.failed and hunt.count.succeeded else advice(hunt, newline))
+    view = cbi_rows.view_of(ranking, cbi_rows.Given(where, source, program, cards, kept.path("runs"), pair, hunted))
+    examples = examples_of(hunt, view.answer, program)
+    shown = {bug.number for bug in view.answer.leading()} if view.answer else set()
+    examples = [example._replace(broke=broke_of(hunt, example, where)) if number in shown or not shown else example for number, example in enumerate(examples, 1)]
+    hunted = hunted._replace(examples=examples, hanging=hanging_places(hunt, program, cbi_wording.Wording(source, program, where)))
     write_hunted(kept.path("told.json"), hunted)
     view = view._replace(hunted=hunted)
     # The pages come first, since whoever reads the text may close the pipe behind its first lines.
@@ -72,4 +78,4 @@ def show(hunt: Hunt, notes: List[str], newline: Optional[str]) -> bool:
     if pages:
         print(f"page: {pages[0]}")
     sys.stdout.flush()
-    return bool(ranking.rows)
+    return view.found()

@@ -6,15 +6,19 @@ What comes until that is heeded is noted alone, and so is what comes while a hun
 Python takes a thread for ended that isn't, and waits for good in the end for what nobody ends.
 """
 import signal
+import time
 from typing import Any
 
+# Seconds within which a signal is the same as the first: `timeout` sends its own to the process and then to the group, so that a hunt gets it twice.
+SAME = 0.15
 SIGNALS = [number for name in ("SIGINT", "SIGTERM", "SIGHUP") for number in [getattr(signal, name, None)] if number is not None]
 
 
 class Asked:
-    """Whether the end was asked for and hasn't been heeded yet, and whether it was asked for again since."""
+    """Whether the end was asked for and hasn't been heeded yet, when, and whether it was asked for again since."""
     now = False
     again = False
+    at = 0.0
 
 
 def heed(handler: Any) -> None:
@@ -24,14 +28,21 @@ def heed(handler: Any) -> None:
             signal.signal(number, handler)
 
 
+def is_same() -> bool:
+    """Whether a signal that comes now is the one that came before it."""
+    return Asked.at > 0 and time.monotonic() - Asked.at <= SAME
+
+
 def interrupted(number: int, frame: Any) -> None:
-    Asked.now = True
+    if is_same():
+        return
+    Asked.now, Asked.at = True, time.monotonic()
     heed(noted)
     raise KeyboardInterrupt
 
 
 def noted(number: int, frame: Any) -> None:
-    Asked.again = True
+    Asked.again = Asked.again or not is_same()
 
 
 def heed_now() -> None:

@@ -2,7 +2,7 @@
 import os
 from typing import Callable, Dict, List, NamedTuple, Optional, Sequence, Tuple
 
-from cbi_files import count_of
+from cbi_files import count_of, status_of
 from cbi_hunt.again import Repeater
 from cbi_hunt.counts import Told
 from cbi_runs import Plan, judged
@@ -12,10 +12,11 @@ MOST_STEPS = 3000
 
 
 class Wanted(NamedTuple):
-    """How a run is to fail: by which end, and with which counters of the one site of its program."""
+    """How a run is to fail: by which end, and with which counters of the one site of its program; where its status is what fails, with that status."""
     program: str
     counters: Tuple[int, ...]
     outcome: str
+    status: int = 0
 
 
 class Enough(Exception):
@@ -72,7 +73,9 @@ class Smaller:
         counters = run.sites.get(0, (0, 0, 0))
         if ending_of(run.outcome) != self.wanted.outcome or not any(counters[which] for which in self.wanted.counters):
             return False
-        return self.wanted.outcome != "ended" or judged(self.plan, self.path, run.output) == "fail"
+        if self.wanted.status:
+            return status_of(run.outcome) == self.wanted.status
+        return self.wanted.outcome != "ended" or judged(self.plan, self.path, run.output, run.outcome) == "fail"
 
     def of(self, data: bytes) -> Optional[bytes]:
         """A smaller input; none where this one itself doesn't fail alike."""

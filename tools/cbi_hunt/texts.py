@@ -53,16 +53,32 @@ def text_of(chosen: argparse.Namespace, cbi: str, kept: Kept, inputs: Inputs) ->
         if os.path.exists(kept.path(name)):
             os.remove(kept.path(name))
     why = None
-    if len(chosen.texts) == 1 and not chosen.cpp and chosen.args is None:
+    if len(chosen.texts) == 1 and not chosen.cpp and chosen.args is None and chosen.memory == "auto" and not chosen.stderr:
         try:
             transform(chosen, cbi, chosen.text, kept.path("program"))
             shutil.copyfile(chosen.text, kept.path("source.c"))
-            return []
+            return map_beside(chosen.text, kept)
         except Fault as fault:
             why = str(fault).split(": ", 1)[1]
             if not why.startswith(("cbi: refusal 10 ", "cbi: refusal 11 ", "cbi: refusal 12 ", "cbi: refusal 15 ")):
                 raise Refused(refused(chosen.text, why))
     return ported_text(chosen, cbi, kept, inputs, why)
+
+
+def map_beside(text: str, kept: Kept) -> List[str]:
+    """Takes the map of lines that cbi-port left beside a text, so that rows name the lines of the files that it was ported from."""
+    import cbi_port
+    path = text + ".lines"
+    if not os.path.exists(path):
+        return []
+    try:
+        lines, _ = cbi_port.read_map(cbi_files.decoded(cbi_files.read_bytes(path)))
+    except (ValueError, IndexError):
+        return [f"{path} is no map of lines, so lines are those of {text}"]
+    if len(lines) != len(cbi_files.read_bytes(text).splitlines()):
+        return [f"{path} has {count_of(len(lines), 'line')} and the text hasn't, so lines are those of {text}"]
+    shutil.copyfile(path, kept.path("source.c.lines"))
+    return [f"lines are those that {path} names"]
 
 
 def ported_text(chosen: argparse.Namespace, cbi: str, kept: Kept, inputs: Inputs, why: Optional[str]) -> List[str]:
@@ -71,16 +87,17 @@ def ported_text(chosen: argparse.Namespace, cbi: str, kept: Kept, inputs: Inputs
     limit = sys.getrecursionlimit()
     sys.setrecursionlimit(max(limit, DEEP))
     try:
-        ported = cbi_port.port(chosen.texts, chosen.cpp, words_of(chosen))
+        ported = cbi_port.port(chosen.texts, chosen.cpp, words_of(chosen), chosen.stderr, chosen.memory)
     except cbi_port.Refused as problems:
         raise Refused(str(problems))
     except (cbi_port.Missing, ImportError) as missing:
         lacking = "no pycparser: Debian's package python3-pycparser has it" if isinstance(missing, ImportError) else missing
         if why is None:
-            raise Fault(f"several files, options behind -- and --args ask for the porter: {lacking}")
+            raise Fault(f"several files, options of the preprocessor, --args, --memory and --stderr ask for the porter: {lacking}")
         raise Refused(refused(chosen.text, why) + f"\nThe porter, which may bring it to the dialect, can't be used: {lacking}.")
     finally:
         sys.setrecursionlimit(limit)
+    chosen.ported = True
     with open(kept.path("source.c"), "wb") as file:
         file.write(ported.text)
     with open(kept.path("source.c.lines"), "w", encoding="utf-8", newline="\n") as lines:

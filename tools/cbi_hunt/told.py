@@ -19,7 +19,6 @@ No run failed, so there is nothing that a failure could be told apart from. What
 ONLY_FAILURES = """\
 All runs that count failed, so there is nothing that a failure could be told apart from. What may help:{more}
 - Give inputs on which the program does as it should.{beside}"""
-NO_RANKING = "No predicate passes the test: by these runs, none makes a failure more likely beyond chance. What may help:"
 MOST_HIDDEN = 3
 
 
@@ -93,26 +92,24 @@ def beside(inputs: Inputs, given: str, other: str, what: str) -> str:
     return f"\n- Name the folder above ({os.path.relpath(above)}): its {other} has {what}." if os.path.isdir(os.path.join(above, other)) else ""
 
 
-def without_rows(hunt: Hunt) -> str:
-    """What to do where some runs failed and others didn't. At rate 1 another run on an input is the same run again."""
-    chosen, more = hunt.chosen, []
+def helps(hunt: Hunt) -> List[str]:
+    """What may help where some runs failed and others didn't, and no fact is beyond chance. Another run on an input is no further evidence, but where visits are sampled it may see more."""
+    chosen = hunt.chosen
+    more = ["More inputs that differ, also in little" + ("." if hunt.inputs.expected else " (--mutate N makes them).")]
     if chosen.rate > 1:
-        more += ["More runs (--runs), of which each has other countdowns.", "A smaller rate (--rate 1 looks at every visit)."]
-    else:
-        more.append("More inputs that differ, also in little" + ("." if hunt.inputs.expected else " (--mutate N makes them)."))
+        more += ["A smaller rate (--rate 1 looks at every visit).", "More runs (--runs), of which each has other countdowns."]
     if chosen.schemes:
         more.append("All kinds of sites: leave --schemes out.")
-    return "\n- ".join([NO_RANKING, *more])
+    return more
 
 
 def advice(hunt: Hunt, newline: Optional[str]) -> str:
-    """What to do where there is no row."""
+    """What to do where nothing can be told apart, since no run failed or none succeeded."""
     count, inputs = hunt.count, hunt.inputs
     if not count.failed:
         cut = f"\n- {count_of(count.cut, 'run was', 'runs were')} cut: allow more turns (--turns), or count them as failed (--hangs fail)." if count.cut else ""
-        return NO_FAILURE.format(cut=cut + beside(inputs, "queue", "crashes", "inputs that AFL++ saw crash"))
-    if count.succeeded:
-        return without_rows(hunt)
+        status = f"\n- {count_of(count.other_status, 'run')} ended with an exit status other than 0: count such runs as failed (--status fail)." if count.other_status else ""
+        return NO_FAILURE.format(cut=cut + status + beside(inputs, "queue", "crashes", "inputs that AFL++ saw crash"))
     more: List[str] = []
     if inputs.has_carriage_returns():
         more.append("The expected outputs have carriage returns, and the program writes none: take them out (tr -d '\\r').")

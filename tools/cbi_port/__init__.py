@@ -3,6 +3,7 @@
 `port` makes one text of the dialect out of C files; its lines stay those of the first file. What can't be
 kept is refused, all of it at once (`Refused`).
 """
+import argparse
 from typing import Dict, List, NamedTuple, Optional, Sequence, Tuple, Union
 
 
@@ -91,6 +92,11 @@ def read_map(text: str) -> "Tuple[List[Line], List[str]]":
             file, line = row.split(" ")
             lines.append(Line(files[int(file) - 1], int(line), False))
     return lines, added
+
+
+def for_preprocessor(chosen: argparse.Namespace) -> List[str]:
+    """The options of a script that are the preprocessor's."""
+    return [f"-{word}{it}" for word in "IDU" for it in getattr(chosen, word)] + [word for it in chosen.include for word in ("-include", it)]
 
 
 def port(files: Sequence[str], cpp: Sequence[str] = (), args: Optional[Union[str, Sequence[str]]] = None,

@@ -113,7 +113,7 @@ class ByteObjects(Objects):
         return Place(symbol.type, symbol.text)
 
     def target(self, pointer: Value, node: Any = None) -> Place:
-        return Place(pointer.type.to, pointer.text, pointer.level, pointer.pure, memory=True)
+        return Place(pointer.type.to, pointer.text, pointer.level, pointer.pure, memory=True, quals=pointer.type.quals)
 
     def member(self, outer: Place, member: Member, struct: Struct, node: Any = None) -> Place:
         text, level = moved(outer.text, outer.level, member.at)
@@ -141,7 +141,8 @@ class ByteObjects(Objects):
             return super().load(place, node)
         address, pure = place.at(ASSIGN), place.pure
         if isinstance(type_, (Array, Function)):
-            return Value(Pointer(type_.of if isinstance(type_, Array) else type_), place.text, place.level, self.constant_of(place), pure)
+            to = Pointer(type_.of, place.quals | type_.quals) if isinstance(type_, Array) else Pointer(type_)
+            return Value(to, place.text, place.level, self.constant_of(place), pure)
         if isinstance(type_, Struct):
             return Value(type_, place.text, place.level, None, pure)
         if isinstance(type_, Void):

@@ -3,10 +3,10 @@ from typing import Any, List, Optional, Sequence, Tuple
 
 from cbi_port.lines import mark
 from cbi_port.operators import Operators
-from cbi_port.scopes import Symbol
+from cbi_port.scopes import BUILTIN, Symbol, plain_name
 from cbi_port.trees import kind
-from cbi_port.types import (DOUBLE, FLOAT, INT, UCHAR, UINT, VOID, Array, CType, Function, Int, List_, Pointer, Struct, Void,
-                            is_float, is_long, is_pointer, is_whole, promoted, same, size_of, spelled)
+from cbi_port.types import (DOUBLE, FLOAT, INT, UCHAR, UINT, VOID, Array, CType, Function, Int, List_, Pointer, Quals, Struct, Void,
+                            exactly, is_float, is_long, is_pointer, is_whole, promoted, same, size_of, spelled)
 from cbi_port.conversions import number
 from cbi_port.values import ASSIGN, POSTFIX, Value
 
@@ -22,6 +22,8 @@ class Calls(Operators):
                 return self.value(self.selected(node, arguments), used)
             if name.startswith(("__cbi_statement", "__cbi_va_arg", "__cbi_same", "__cbi_align", "__cbi_range", "__cbi_label", "__cbi_goto")) or name == "offsetof":
                 return self.special(node, name, arguments, used)
+            if name.startswith(BUILTIN):
+                return self.builtin_call(node, plain_name(name), arguments, used)
             symbol = self.scope.find(name)
             if symbol is None or symbol.kind == "function" and not symbol.defined:
                 found = self.library_call(name, node, arguments, used, symbol)
@@ -206,15 +208,24 @@ class Calls(Operators):
             type_ = self.value(arguments[0]).type
         finally:
             self.function.quiet = quiet
-        default = None
+        default, found = None, None
+        seen: List[Tuple[CType, Quals]] = []
         for label, chosen in zip(arguments[1::2], arguments[2::2]):
             if kind(label) == "ID":
                 default = chosen
-            elif same(self.type_under_sizeof(label.expr), type_):
-                return chosen
-        if default is None:
+                continue
+            entry, quals = self.type_under_sizeof(label.expr), self.quals_of(label.expr)
+            if any(exactly(entry, other) and quals == others for other, others in seen):
+                raise self.refuse(node, f"a `_Generic` with two entries for `{spelled(entry)}`", "one of them")
+            seen.append((entry, quals))
+            # The value of an object has its type without qualifiers (6.3.2.1p2).
+            if not quals and exactly(entry, type_):
+                if found is not None:
+                    raise self.refuse(node, f"a `_Generic` with two entries that `{spelled(type_)}` is compatible with", "one of them")
+                found = chosen
+        if found is None and default is None:
             raise self.refuse(node, f"a `_Generic` without an entry for `{spelled(type_)}`", "a `default`")
-        return default
+        return default if found is None else found
 
     def special(self, node: Any, name: str, arguments: Sequence[Any], used: bool) -> Value:
         if name == "offsetof":
@@ -223,7 +234,7 @@ class Calls(Operators):
             return self.next_argument(node, arguments, used)
         if name == "__cbi_same_types":
             left, right = (self.type_under_sizeof(argument.expr) for argument in arguments)
-            return number(int(same(left, right)))
+            return number(int(exactly(left, right)))
         if name == "__cbi_align":
             from cbi_port.types import align_of
             inner = arguments[0].expr

@@ -161,10 +161,10 @@ class Cells:
         if isinstance(to, Void):
             raise self.program.refuse(node, "`*` of a `void *`", "a pointer to a type", True)
         if isinstance(to, Array):
-            return Place(to, pointer.text, pointer.level, pointer.pure, pointer="flat")
+            return Place(to, pointer.text, pointer.level, pointer.pure, pointer="flat", quals=pointer.type.quals)
         if pointer.null:
             pointer = pointer._replace(text=f"({self.spell(pointer.type)})NULL", level=UNARY)
-        return Place(to, prefixed("*", pointer.text, pointer.level), UNARY, pointer.pure, pointer=pointer.at(POSTFIX))
+        return Place(to, prefixed("*", pointer.text, pointer.level), UNARY, pointer.pure, pointer=pointer.at(POSTFIX), quals=pointer.type.quals)
 
     def member(self, outer: Place, member: Member, struct: Struct, node: Any = None) -> Place:
         name = self.member_name(member)
@@ -255,7 +255,7 @@ class Cells:
 
     def decayed(self, place: Place) -> Value:
         type_ = place.type
-        pointer = Pointer(type_.of)
+        pointer = Pointer(type_.of, place.quals | type_.quals)
         if place.pointer == "flat":
             return Value(pointer, place.text, place.level, pure=place.pure)
         text, level = place.text, place.level

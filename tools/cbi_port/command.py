@@ -5,7 +5,7 @@ import sys
 from typing import List, Optional
 
 from cbi_files import NOT_PROVED, TROUBLE, Words
-from cbi_port import Missing, Refused, port
+from cbi_port import Missing, Refused, for_preprocessor, port
 
 ABOUT = """Writes one text of the dialect of cbi that does what the C files do, on their lines; docs/PORTING.md says what it takes.
 What can't be kept is refused: a line for each on err, with file, line, the construct, and what to write in its place."""
@@ -17,6 +17,7 @@ def words(arguments: List[str]) -> argparse.Namespace:
     parser.add_argument("-I", action="append", default=[], metavar="DIR", help="a folder of headers")
     parser.add_argument("-D", action="append", default=[], metavar="NAME[=V]", help="a name that is defined")
     parser.add_argument("-U", action="append", default=[], metavar="NAME", help="a name that isn't")
+    parser.add_argument("-include", action="append", default=[], metavar="FILE", help="a file that is read before each text")
     parser.add_argument("-o", metavar="OUT.c", help="where the text goes, and the map of its lines to OUT.c.lines; else to out, without a map")
     parser.add_argument("--args", metavar="WORDS", help="the arguments of main: words, or first-line for those of the input's first line")
     parser.add_argument("--stderr", action="store_true", help="what goes to stderr goes to out")
@@ -31,7 +32,7 @@ def words(arguments: List[str]) -> argparse.Namespace:
 
 def main() -> int:
     said = words(sys.argv[1:])
-    options = [f"-I{it}" for it in said.I] + [f"-D{it}" for it in said.D] + [f"-U{it}" for it in said.U]
+    options = for_preprocessor(said)
     args: Optional[object] = said.args
     if said.args is not None and said.args != "first-line":
         args = shlex.split(said.args)

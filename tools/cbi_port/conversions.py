@@ -164,6 +164,4 @@ class Conversions(Context):
 
     def promoted(self, value: Value) -> Value:
         type_ = promoted(value.type, value.bits)
-        if type_ == value.type:
-            return value._replace(bits=None)
         return value._replace(type=type_, bits=None)

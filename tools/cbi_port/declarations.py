@@ -5,7 +5,7 @@ from cbi_port.lines import Refusal, Sheet, Token
 from cbi_port.reader import HEADERS
 from cbi_port.scopes import Names, Scope, Symbol
 from cbi_port.trees import kind
-from cbi_port.types import (INT, LDOUBLE, LLONG, UINT, ULLONG, VALIST, VOID, Array, Asked, CType, Function, Int, Length, Pointer, Struct,
+from cbi_port.types import (INT, LDOUBLE, LLONG, UINT, ULLONG, VALIST, VOID, Array, Asked, CType, Function, Int, Length, Pointer, Quals, Struct,
                             base_type, is_float, is_long, is_open, lay_out, size_of, spread)
 from cbi_port.values import TIMES, Place, Value
 
@@ -31,9 +31,11 @@ class Context:
     structs: List[Struct]
     function: "Body"
     in_prelude: bool
+    begins = False              # where what lives as long as the program begins
     externals: Dict[str, Symbol]
     by_node: Dict[int, CType]
     headers: Dict[Any, Any]
+    forwards: Dict[Any, Any]
     pending_key: Any
 
     def place_of(self, node: Any) -> int:
@@ -126,6 +128,18 @@ class Context:
     def library_call(self, name: str, node: Any, arguments: Sequence[Any], used: bool, symbol: Optional[Symbol]) -> Optional[Value]:
         raise NotImplementedError
 
+    def of_system(self, symbol: Symbol) -> bool:
+        raise NotImplementedError
+
+    def missing(self, node: Any, name: str) -> Refusal:
+        raise NotImplementedError
+
+    def builtin_call(self, node: Any, name: str, arguments: Sequence[Any], used: bool) -> Value:
+        raise NotImplementedError
+
+    def outer_function(self, name: str) -> Optional[Symbol]:
+        raise NotImplementedError
+
     def statement_value(self, node: Any, name: str, used: bool) -> Value:
         raise NotImplementedError
 
@@ -151,7 +165,8 @@ class Declarations(Context):
         said = self.unit.alignments
         if not said:
             return 0
-        found = said.get(getattr(node, "name", None), 0)
+        holder = self.unit.bodies.get(said.get(getattr(node, "name", None)))
+        found = max((self.constant(it) for it in holder.block_items), default=0) if holder is not None else 0
         inner = node
         while kind(inner) in ("Decl", "TypeDecl", "ArrayDecl", "Typename", "Typedef", "Nameless"):
             inner = inner.type
@@ -168,7 +183,7 @@ class Declarations(Context):
         if what == "IdentifierType":
             return self.named_type(node)
         if what == "PtrDecl":
-            return Pointer(self.resolve(node.type))
+            return Pointer(self.resolve(node.type), self.quals_of(node.type))
         if what == "ArrayDecl":
             return self.array_type(node)
         if what == "FuncDecl":
@@ -215,14 +230,25 @@ class Declarations(Context):
         of = self.resolve(node.type)
         if isinstance(of, Function):
             raise self.refuse(node, "an array of functions", "an array of pointers to functions")
+        quals = self.quals_of(node.type)
         if node.dim is None:
-            return Array(of, None)
+            return Array(of, None, quals)
         length = self.known(node.dim)
         if length is None:
-            return Array(of, self.length(node))
+            return Array(of, self.length(node), quals)
         if length < 0:
             raise self.refuse(node, "an array of less than no elements", "a length of 0 or more")
-        return Array(of, length)
+        return Array(of, length, quals)
+
+    def quals_of(self, node: Any) -> Quals:
+        """How what a declarator or a type name declares is qualified; an array as its elements are (6.7.3p8)."""
+        while kind(node) in ("ArrayDecl", "Decl", "Typedef", "Typename"):
+            node = node.type
+        quals = frozenset(getattr(node, "quals", None) or [])
+        if kind(node) == "TypeDecl" and kind(node.type) == "IdentifierType" and len(node.type.names) == 1:
+            symbol = self.scope.find(node.type.names[0])
+            return quals | symbol.quals if symbol is not None and symbol.kind == "type" else quals
+        return quals
 
     def length(self, node: Any) -> Length:
         """The count of an array that isn't constant (6.7.5.2p5): it is kept where it is declared."""
@@ -289,8 +315,17 @@ class Declarations(Context):
     def adjusted(self, type_: CType) -> CType:
         """6.7.5.3p7 and 8."""
         if isinstance(type_, Array):
-            return Pointer(type_.of)
+            return Pointer(type_.of, type_.quals)
         return Pointer(type_) if isinstance(type_, Function) else type_
+
+    def tag_alone(self, node: Any) -> None:
+        """A declaration that declares no name but a tag. `struct S;` declares a type of its block's own (6.7.2.3p7)."""
+        if kind(node) in ("Struct", "Union") and node.decls is None and node.name and node.name not in self.scope.tags:
+            if self.scope.find_tag(node.name) is not None:
+                self.scope.tags[node.name] = Struct(self.tags.take(node.name), kind(node) == "Union")
+                self.scope.tags[node.name].at = self.place_of(node)
+                return
+        self.resolve(node)
 
     def struct_type(self, node: Any, hint: str) -> CType:
         union = kind(node) == "Union"
@@ -302,6 +337,8 @@ class Declarations(Context):
         known: Any = None
         if node.name:
             known = self.scope.tags.get(node.name) if node.decls is not None else self.scope.find_tag(node.name)
+        if known is None and node.decls is None:
+            known = self.named_before(node)
         if known is not None and node.decls is None:
             whole: CType = known
             return whole
@@ -309,6 +346,8 @@ class Declarations(Context):
             known = Struct(self.tags.take(node.name or hint or "cbi_nameless"), union)
             if node.name:
                 self.scope.tags[node.name] = known
+                if node.decls is None:
+                    self.forwards.setdefault(self.spot_of(node), []).append((known, [self.unit]))
         known.at = self.place_of(node)
         if node.decls is not None:
             self.by_node[id(node)] = known
@@ -321,6 +360,23 @@ class Declarations(Context):
             self.headers.setdefault(key, (known, self.unit))
         found: Struct = known
         return found
+
+    def spot_of(self, node: Any) -> Tuple[str, str, int]:
+        """A struct's name, and where it stands."""
+        token = self.tokens[max(self.place_of(node), 0)]
+        return node.name, token.file, token.line
+
+    def named_before(self, node: Any) -> Optional[Struct]:
+        """A struct that a header names before it is defined, and that another file has by that place. It is the same one, unless
+        the files define it at different places: then each has its own."""
+        for known, units in self.forwards.get(self.spot_of(node), []):
+            defined = [it.defined[node.name] for it in [*units, self.unit] if node.name in it.defined]
+            if self.unit not in units and len({(self.tokens[at].file, self.tokens[at].line) for at in defined}) < 2:
+                units.append(self.unit)
+                self.scope.tags[node.name] = known
+                found: Struct = known
+                return found
+        return None
 
     def seen_before(self, node: Any, hint: str) -> Optional[Struct]:
         """A struct of a header that another file had already."""
@@ -366,7 +422,7 @@ class Declarations(Context):
                 target = target.of if isinstance(target, Array) else target.to
             if isinstance(target, Struct) and not target.complete and target is not struct:
                 struct.forward.add(name or "")
-            found.append(Asked(name or "", type_, bits, False, self.said_alignment(Nameless(decl.type))))
+            found.append(Asked(name or "", type_, bits, False, self.said_alignment(Nameless(decl.type)), self.quals_of(decl.type)))
         lay_out(struct, found)
         struct.members = [it._replace(type=INT if it.type.signed else UINT) if it.bits is not None and it.bits <= 32 and is_long(it.type) else it
                           for it in struct.members]
@@ -401,9 +457,11 @@ class Declarations(Context):
                 symbol.type = UINT if value <= UINT.most else base_type(["long", "long"])
             self.scope.names[item.name] = symbol
             value += 1
-        type_: CType = INT if least < 0 else UINT
+        type_ = INT if least < 0 else UINT
         if most > (INT.most if least < 0 else UINT.most) or least < INT.least:
             type_ = LLONG if least < 0 else ULLONG
+        token = self.tokens[max(self.place_of(node), 0)]
+        type_ = type_._replace(enum=(node.name, token.file, token.line, node.values.enumerators[0].name))
         self.by_node[id(node)] = type_
         if node.name:
             self.scope.tags["enum " + node.name] = type_

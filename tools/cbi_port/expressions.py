@@ -4,7 +4,7 @@ from typing import Any, Optional, Tuple
 from cbi_port.conversions import number
 from cbi_port.lines import mark
 from cbi_port.places import Places
-from cbi_port.scopes import Symbol
+from cbi_port.scopes import BUILTIN, Symbol, plain_name
 from cbi_port.trees import kind, leading
 from cbi_port.types import (BOOL, INT, UCHAR, UINT, VOID, Array, CType, Function, Int, Pointer, Struct, Void,
                             common, is_complete, is_float, is_long, is_open, is_pointer, promoted, same, size_of, spelled)
@@ -66,6 +66,8 @@ class Expressions(Places):
         if symbol is not None and symbol.kind == "function":
             if self.function.dead and not symbol.defined:
                 return self.model.null(Pointer(symbol.type))
+            if self.of_system(symbol):
+                raise self.missing(node, name)
             self.use(symbol)
             return self.model.function(symbol, node)
         place = self.place(node, True)
@@ -74,6 +76,8 @@ class Expressions(Places):
 
     def function_named(self, name: str, symbol: Optional[Symbol], node: Any) -> Optional[Symbol]:
         """What a name means where it may be that of a function of the library, which a text declares at most."""
+        if name.startswith(BUILTIN):
+            return self.outer_function(plain_name(name)) or self.library_function(plain_name(name), node)
         if symbol is None or symbol.kind == "function" and not symbol.defined and symbol.unit != "prelude":
             return self.library_function(name, node) or symbol
         return symbol
@@ -147,10 +151,9 @@ class Expressions(Places):
             value = self.value(inner.expr)
             if is_pointer(value.type):
                 return value
-        if kind(inner) == "ArrayRef" and not self.model.in_bytes:
-            place = self.place(inner)
-            return self.model.address(place, node)
-        return self.model.address(self.place(inner), node)
+        place = self.place(inner)
+        found: Value = self.model.address(place, node)
+        return found._replace(type=found.type._replace(quals=place.quals)) if place.quals and is_pointer(found.type) else found
 
     def size(self, node: Any) -> Value:
         inner = node.expr
@@ -394,7 +397,8 @@ class Expressions(Places):
                 return right.type
             if right.null and isinstance(right.type.to, Void):
                 return left.type
-            return left.type if not isinstance(right.type.to, Void) or isinstance(left.type.to, Void) else right.type
+            arm: Pointer = left.type if not isinstance(right.type.to, Void) or isinstance(left.type.to, Void) else right.type
+            return arm._replace(quals=left.type.quals | right.type.quals)
         return left.type if is_pointer(left.type) else right.type
 
     # 6.5.2.2 and the rest in calls.py.

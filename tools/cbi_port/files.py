@@ -5,19 +5,22 @@ from typing import Any, List, Optional, Sequence
 from cbi_port import Ported, Problem, Refused
 from cbi_port.lines import Refusal, Token
 from cbi_port.program import Program
-from cbi_port.reader import PreprocessorFailed, Unit, pieces, read
+from cbi_port.reader import NO_HEADER, PreprocessorFailed, Unit, pieces, read
 
 
 def port_files(files: Sequence[str], options: List[str], args: Any, stderr: bool, memory: str) -> Ported:
     """See `cbi_port.port`."""
     tokens: List[Token] = [Token("mark", "", files[0] if files else "", 1)]
     problems: List[Refusal] = []
+    missing: List[Problem] = []
     units: List[Unit] = []
     for file in files:
         try:
-            units.append(read(file, options, tokens, problems))
+            units.append(read(file, options, tokens, problems, missing))
         except PreprocessorFailed as failed:
-            raise Refused(told_by_preprocessor(failed)) from None
+            raise Refused(list(dict.fromkeys(missing + told_by_preprocessor(failed)))) from None
+    if missing:
+        raise Refused(beside_missing(missing, problems, units, tokens, files, args, stderr))
     if problems:
         raise Refused(ordered(problems, tokens, files))
     size = len(tokens)
@@ -39,6 +42,14 @@ def port_files(files: Sequence[str], options: List[str], args: Any, stderr: bool
         # What else is refused may come of what bytes do.
         first = program
     raise AssertionError("no model of memory")
+
+
+def beside_missing(missing: Sequence[Problem], problems: Sequence[Refusal], units: List[Unit], tokens: List[Token], files: Sequence[str], args: Any, stderr: bool) -> List[Problem]:
+    """The headers that aren't there, and of what else is refused that which doesn't come of these."""
+    program = Program(units, tokens, "bytes", args, stderr)
+    run(program)
+    found = ordered([it for it in [*problems, *program.problems] if it.sure], tokens, files)
+    return list(dict.fromkeys([*missing, *found]))
 
 
 def run(program: Program) -> Ported:
@@ -74,6 +85,6 @@ def told_by_preprocessor(failed: PreprocessorFailed) -> List[Problem]:
         if found:
             what = found[3]
             missing = re.match(r"(.*?): No such file", what)
-            advice = "a header of the library that is there, or `-I` with its folder" if missing else "what the preprocessor takes"
+            advice = NO_HEADER if missing else "what the preprocessor takes"
             problems.append(Problem(found[1], int(found[2]), f"`#include` of {missing[1]}" if missing else what, advice))
     return problems or [Problem(failed.file, 1, "the preprocessor failed: " + failed.told.strip()[:200], "what it takes")]

@@ -159,7 +159,9 @@ class Floats(Conversions):
             return None
         a, b = number_of(left.constant, DOUBLE), number_of(right.constant, DOUBLE)
         if not math.isfinite(a) or not math.isfinite(b) or sign == "/" and b == 0:
-            return None
+            # As gcc reckons where a variable begins: a NaN has no sign there, and one that is reckoned as the program runs has.
+            invalid = a != a or b != b or sign == "/" and a == b == 0
+            return number(0x7fc00000 if type_ == FLOAT else 0x7ff8000000000000, type_) if self.begins and sign in "+-*/" and invalid else None
         if sign not in "+-*/":
             return number(int({"<": a < b, ">": a > b, "<=": a <= b, ">=": a >= b, "==": a == b, "!=": a != b}[sign]))
         found = {"+": a + b, "-": a - b, "*": a * b}[sign] if sign != "/" else a / b

@@ -4,8 +4,9 @@ from typing import Dict, List, Sequence, Set, Tuple
 
 from cbi_port.constants import plain_string, wide_character, wide_prefix
 from cbi_port.lines import Refusal, Token
+from cbi_port.scopes import BUILTIN
 from cbi_port.neighbours import (OPENS, case_end, closes_struct, closing, declared_name, is_declared, like, literal_begin,
-                                 moves, range_within, sign, split, unary_place, within_struct)
+                                 TYPE_WORDS, moves, range_within, sign, split, unary_place, within_struct)
 
 SPELLINGS = {
     "__const": "const", "__const__": "const", "__volatile": "volatile", "__volatile__": "volatile",
@@ -28,14 +29,14 @@ WEIGHTY = {"vector_size", "mode", "constructor", "destructor", "alias", "cleanup
 class Rewriter:
     """`bodies` are the names of the functions that hold what stood within expressions."""
 
-    def __init__(self, first: int, problems: List[Refusal]) -> None:
-        self.first, self.problems = first, problems
+    def __init__(self, first: int, problems: List[Refusal], types: Set[str]) -> None:
+        self.first, self.problems, self.types = first, problems, types
         self.bodies: Set[str] = set()
         self.behind: List[Token] = []
         self.early: List[str] = []
         self.count = 0
         self.packs = [0]
-        self.alignments: Dict[str, int] = {}
+        self.alignments: Dict[str, List[List[Token]]] = {}
         self.pending: List[Token] = []      # what is said of a struct before its brace
         self.of_member: List[Token] = []    # what is said of a member before its end
         self.literals: List[Token] = []     # the braces of compound literals
@@ -53,6 +54,7 @@ class Rewriter:
     def refuse(self, token: Token, construct: str, advice: str, out: List[Token]) -> None:
         # Where the tokens will stand isn't known yet: the refusal keeps the token, and is told by it.
         problem = Refusal(-1, construct, advice)
+        problem.sure = True
         problem.token = token  # type: ignore[attr-defined]
         self.problems.append(problem)
 
@@ -186,7 +188,7 @@ class Rewriter:
                 return at + 1
             text = "int"
         if text == "_Alignof" and after == "(" and at + 3 < len(tokens) and tokens[at + 2].text in self.alignments and tokens[at + 3].text == ")":
-            out.append(like(token, str(self.alignments[tokens[at + 2].text]), "number"))
+            out.extend(like(token, it.text, it.kind) for it in self.greatest(self.alignments[tokens[at + 2].text], token))
             return at + 4
         if text == "_Alignof" and after == "(":
             text = "__cbi_align"
@@ -196,7 +198,7 @@ class Rewriter:
             out.append(like(token, ")"))
             return close + 1
         if text.startswith("__builtin_") and text not in KEPT:
-            text = text[len("__builtin_"):]
+            text = BUILTIN + text[len("__builtin_"):]
         if after == ":" and out and out[-1].text in ("{", ",") and self.in_initialiser(out) and not (
                 at + 2 < len(tokens) and tokens[at + 2].text == ":"):
             out.extend([like(token, "."), like(token, text, "name"), like(token, "=")])
@@ -229,10 +231,12 @@ class Rewriter:
         if wrong:
             self.refuse(token, f"`__attribute__(({wrong[0]}))`", "the text without it, if it does the same", out)
         signs = sign(token, "packed", [like(token, "1", "number")]) if "packed" in names else []
+        amounts: List[List[Token]] = []
         for at, it in enumerate(within):
             if it.text.strip("_") == "aligned":
                 said = within[at + 1].text == "("
-                signs += sign(token, "aligned", self.run(within[at + 2:closing(within, at + 1)]) if said else [like(token, "16", "number")])
+                amounts.append(list(within[at + 2:closing(within, at + 1)]) if said else [like(token, "16", "number")])
+                signs += sign(token, "aligned", self.run(amounts[-1]))
         if not signs or not out:
             return
         if out[-1].text == "}" and closes_struct(out):
@@ -242,7 +246,8 @@ class Rewriter:
         elif within_struct(out):
             self.of_member += [it if not it.text.startswith("__cbi") else like(it, "__cbi_member" + it.text[5:], "name") for it in signs]
         elif "packed" not in names:
-            self.aligned(token, [it for it in signs if it.kind == "number"], out, tokens[close + 1:close + 40])
+            for amount in amounts:
+                self.aligned(token, amount, out, tokens[close + 1:close + 40])
 
     def aligned(self, token: Token, amount: List[Token], out: List[Token], behind: Sequence[Token]) -> None:
         """An alignment of a variable, which its address shows, or of a function."""
@@ -251,11 +256,22 @@ class Rewriter:
             depth += (out[at].text == "}") - (out[at].text == "{")
             if depth < 0 or depth == 0 and out[at].text in (";", "}"):
                 break
-        if len(amount) != 1 or not re.match(r"(0[xX][0-9a-fA-F]+|\d+)$", amount[0].text):
-            self.refuse(token, "`__attribute__((aligned))` by an expression", "the number", out)
-            return
         name = declared_name(out) or next((it.text for it, more in zip(behind, behind[1:]) if it.kind == "name" and more.text in (";", "=", "[", ",")), "")
-        self.alignments[name] = max(int(amount[0].text, 0), self.alignments.get(name, 0))
+        self.alignments.setdefault(name, []).append(self.run(amount))
+
+    def hold_alignments(self, amounts: Sequence[Sequence[Token]]) -> str:
+        """The name of a function that holds what an alignment must at least be."""
+        name = self.name("aligned")
+        self.holds(name, [it for amount in amounts for it in [*amount, like(amount[0], ";")]], amounts[0][0])
+        return name
+
+    def greatest(self, amounts: Sequence[Sequence[Token]], token: Token) -> List[Token]:
+        """The greatest of constants, as an expression."""
+        first = [like(token, "("), *amounts[0], like(token, ")")]
+        if len(amounts) == 1:
+            return first
+        rest = self.greatest(amounts[1:], token)
+        return [like(token, "("), *first, like(token, ">"), *rest, like(token, "?"), *first, like(token, ":"), *rest, like(token, ")")]
 
     def literal(self, tokens: Sequence[Token], at: int, out: List[Token], begin: int) -> int:
         """A compound literal (6.5.2.5); where an operator stands behind it, it gets parentheses."""
@@ -309,7 +325,7 @@ class Rewriter:
         if text == "_Atomic":
             out.extend(self.run(within))
         elif text == "_Alignas":
-            named = within and within[0].kind == "name"
+            named = within and (within[0].text in TYPE_WORDS | {"struct", "union", "enum"} | self.types or SPELLINGS.get(within[0].text) == "typeof")
             amount = [like(token, "_Alignof", "name"), like(token, "("), *within, like(token, ")")] if named else list(within)
             if within_struct(out):
                 self.of_member += sign(token, "member_aligned", self.run(amount))
@@ -423,10 +439,13 @@ def typedef_names(tokens: Sequence[Token]) -> Set[str]:
     return found
 
 
-def rewrite(tokens: Sequence[Token], first: int, problems: List[Refusal]) -> Tuple[List[Token], Set[str], Dict[str, int]]:
-    """The tokens as pycparser reads them, the names of the functions that were added behind them, and alignments that are asked for."""
-    rewriter = Rewriter(first, problems)
-    main = with_int(rewriter.run(tokens), typedef_names(tokens))
+def rewrite(tokens: Sequence[Token], first: int, problems: List[Refusal]) -> Tuple[List[Token], Set[str], Dict[str, str]]:
+    """The tokens as pycparser reads them, the names of the functions that were added behind them, and of those that hold the alignments that
+    are asked for, by the names of the variables."""
+    types = typedef_names(tokens)
+    rewriter = Rewriter(first, problems, types)
+    main = with_int(rewriter.run(tokens), types)
+    alignments = {name: rewriter.hold_alignments(amounts) for name, amounts in rewriter.alignments.items()}
     file, line = (tokens[0].file, 0) if tokens else ("", 0)
     early: List[Token] = []
     for name in ["__builtin_va_list", *rewriter.early]:
@@ -441,4 +460,4 @@ def rewrite(tokens: Sequence[Token], first: int, problems: List[Refusal]) -> Tup
             problem.at = places.get((asked.file, asked.line), first)
             if whole and whole[problem.at - first].line != asked.line:
                 problem.construct += f" (line {asked.line})"
-    return whole, rewriter.bodies, rewriter.alignments
+    return whole, rewriter.bodies, alignments

@@ -2,6 +2,7 @@
 from typing import Any, Dict, Optional, Sequence, Tuple
 
 from cbi_port.conversions import number
+from cbi_port.scopes import Symbol
 from cbi_port.statements import Statements
 from cbi_port.trees import kind
 from cbi_port.types import INT, LLONG, LONG, UINT, ULLONG, ULONG, VOID, Int, Pointer, spelled
@@ -17,8 +18,33 @@ for _word, _number in KINDS.items():
         OVERFLOWS[f"{_begin}{_word}{_end}_overflow"] = (_number, _type, False)
 
 
+# What gcc never calls a function of the text for: what no library has, and what it writes in its place.
+NEVER_CALLED = {"alloca", "object_size", "prefetch", "trap", "unreachable", *OVERFLOWS,
+                *(f"bswap{bits}" for bits in (16, 32, 64)),
+                *(word + end for word in ("clrsb", "clz", "ctz", "ffs", "parity", "popcount") for end in ("", "l", "ll")),
+                *(word + end for word in ("copysign", "fabs", "huge_val", "inf", "nan") for end in ("", "f", "l")),
+                "abs", "labs", "llabs", "imaxabs", "isfinite", "isgreater", "isgreaterequal", "isinf", "isless", "islessequal", "islessgreater",
+                "isnan", "isnormal", "isunordered", "signbit"}
+
+
 class GnuCalls(Statements):
     """Calls of functions that begin with `__builtin_`."""
+
+    def outer_function(self, name: str) -> Optional[Symbol]:
+        """The function of the text that is meant by `__builtin_NAME`, as a linker finds it."""
+        symbol = self.externals.get(name) if name not in NEVER_CALLED else None
+        return symbol if symbol is not None and symbol.kind == "function" and symbol.defined else None
+
+    def builtin_call(self, node: Any, name: str, arguments: Sequence[Any], used: bool) -> Value:
+        """`__builtin_NAME(..)`: what the library has, whatever the text calls by that name."""
+        symbol = self.outer_function(name)
+        if symbol is not None:
+            self.use(symbol)
+            return self.called(symbol.text, symbol, symbol.type, arguments, node, used)
+        found = self.library_call(name, node, arguments, used, None)
+        if found is None:
+            raise self.refuse(node, f"`__builtin_{name}`", "a function of your own")
+        return found
 
     def overflowing(self, node: Any, arguments: Sequence[Any], what: int, type_: Optional[Int], asks: bool) -> Value:
         """A sum, difference or product of whole numbers of any size, and whether its type takes it."""

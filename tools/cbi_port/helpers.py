@@ -191,7 +191,7 @@ class Helpers:
         make = "cbi_malloc" if self.program.keeps_sizes else "malloc"
         clear = self.program.model.clear_cells("cbi_at", type_, "cbi_count")
         head = f"{word}cbi_new_{name}(unsigned cbi_count)" if word != "void **" else f"void *cbi_new_{name}(unsigned cbi_count)"
-        times = f" * {per}" if per > 1 else ""
+        times = (f" * {per}" if per > 1 else "") + " + (cbi_count == 0)" * (not self.program.keeps_sizes)
         return head + ";", f"{head} {{ {word}cbi_at = {make}(cbi_count{times}); if (cbi_at) {clear}; return cbi_at; }}"
 
     def resizer(self, name: str, type_: CType) -> Tuple[str, str]:

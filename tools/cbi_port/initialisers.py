@@ -1,5 +1,5 @@
 """Initialisers (C99 6.7.8): which place gets which value."""
-from typing import Any, Dict, List, Sequence, Tuple
+from typing import Any, Dict, List, Optional, Sequence, Tuple
 
 from cbi_port.calls import Calls
 from cbi_port.conversions import number
@@ -39,12 +39,13 @@ class Initialisers(Calls):
             if kind(node) == "InitList" and len(node.exprs) == 1 and is_char_array(type_) and is_string(node.exprs[0]):
                 node = node.exprs[0]
             if is_string(node) and is_char_array(type_):
-                return Array(type_.of, len(bytes_of(node.value)) + 1), {(): Leaf(Array(type_.of, len(bytes_of(node.value)) + 1), node)}
+                whole = type_._replace(count=len(bytes_of(node.value)) + 1)
+                return whole, {(): Leaf(whole, node)}
             most = max([path[0] for path in found], default=-1) + 1
-            whole = self.resolve(node.type.type) if kind(node) == "CompoundLiteral" else None
-            if isinstance(whole, Array) and isinstance(whole.count, int):
-                most = max(most, whole.count)
-            return Array(type_.of, most), found
+            literal = self.resolve(node.type.type) if kind(node) == "CompoundLiteral" else None
+            if isinstance(literal, Array) and isinstance(literal.count, int):
+                most = max(most, literal.count)
+            return type_._replace(count=most), found
         return type_, found
 
     def set(self, found: Dict[Path, Leaf], path: Path, leaf: Leaf) -> None:
@@ -179,10 +180,35 @@ class Initialisers(Calls):
     def assignments(self, place: Place, found: Dict[Path, Leaf], node: Any) -> List[str]:
         """The values of an initialiser as statements that store them."""
         rows = []
-        for path, leaf in found.items():
+        kept = self.beside_zeros(place.type, found)
+        for path, leaf in kept.items():
             self.function.fresh_statement()
             rows.append(self.assignment(self.part(place, path, node), leaf, node))
         return rows
+
+    def beside_zeros(self, type_: CType, found: Dict[Path, Leaf]) -> Dict[Path, Leaf]:
+        """The values without those of unions that get nothing but zeros: they are zero as wholes, and so have each member's zero."""
+        within = {path: self.union_within(type_, path) for path in found} if not self.model.in_bytes else {}
+        other = {within[path] for path, leaf in found.items() if within.get(path) is not None and not self.is_zero(leaf)}
+        return {path: leaf for path, leaf in found.items() if within.get(path) is None or within[path] in other}
+
+    def union_within(self, type_: CType, path: Path) -> Optional[Path]:
+        """The way to the outermost union that a way goes through."""
+        for at, step in enumerate(path):
+            if isinstance(type_, Struct) and type_.union:
+                return path[:at]
+            type_ = step.type if isinstance(step, Member) else type_.of if isinstance(type_, Array) else type_
+        return None
+
+    def is_zero(self, leaf: Leaf) -> bool:
+        if isinstance(leaf.type, (Array, Struct)):
+            return False
+        quiet, self.function.quiet = self.function.quiet, True
+        try:
+            value = self.value(leaf.node)
+        finally:
+            self.function.quiet = quiet
+        return value.null or value.constant == 0
 
     def assignment(self, place: Place, leaf: Leaf, node: Any) -> str:
         if is_char_array(leaf.type):

@@ -118,6 +118,7 @@ class Jumps(Statements):
                     type_, _ = self.leaves(type_, node.init)
                 if not isinstance(type_, Void):
                     symbol = Symbol(node.name, "variable", type_, self.local_name(node.name))
+                    symbol.quals = self.quals_of(node.type)
                     self.scope.names[node.name] = symbol
                     out, self.function.out = self.function.out, []
                     self.model.declare_bare(symbol)
@@ -313,6 +314,7 @@ class Jumps(Statements):
         if not is_complete(type_):
             return
         symbol = Symbol(node.name, "variable", type_, self.names.take(node.name))
+        symbol.quals = self.quals_of(node.type)
         self.pending_symbol = symbol
         out, self.function.out = self.function.out, []
         self.model.declare_bare(symbol)

@@ -2,11 +2,14 @@
 import re
 from typing import Any, Dict, Optional, Sequence, Tuple
 
+from cbi_port import forms
 from cbi_port.cells import innermost, like_char
 from cbi_port.conversions import number
-from cbi_port.lines import mark
+from cbi_port.lines import Refusal, mark
+from cbi_port.reader import HEADERS
 from cbi_port.scopes import Symbol
 from cbi_port.gnu_calls import OVERFLOWS, GnuCalls
+from cbi_port.scan_calls import ScanCalls
 from cbi_port.trees import kind
 from cbi_port.types import (CHAR, INT, LONG, UINT, VOID, Array, CType, Function, Int, Pointer, Struct, Void, is_float, is_long,
                             is_pointer, same, size_of, spelled, to_function)
@@ -30,6 +33,10 @@ NO = {"setjmp": "a value that says what went wrong", "longjmp": "a value that sa
       "sigsetjmp": "a value that says what went wrong", "siglongjmp": "a value that says what went wrong",
       "signal": "a check before what goes wrong", "raise": "a check before what goes wrong",
       "fopen": "the one input, and the one output", "fork": "one process", "system": "one process", "alloca": "`malloc`"}
+# Of <math.h> what no way of rounding says to the last bit.
+ROUNDED = {word + end for end in ("", "f", "l") for word in (
+    "acos", "acosh", "asin", "asinh", "atan", "atan2", "atanh", "cbrt", "cos", "cosh", "erf", "erfc", "exp", "exp2", "expm1", "hypot", "lgamma", "log", "log10",
+    "log1p", "log2", "pow", "sin", "sinh", "tan", "tanh", "tgamma")}
 TYPED = {"malloc", "calloc", "realloc", "free", "memcpy", "memmove", "memset", "memcmp", "mempcpy", "bzero", "bcopy", "bcmp", "qsort", "bsearch", "alloca",
          "strdup", "fread", "fwrite"}
 
@@ -69,6 +76,8 @@ class Library(GnuCalls):
         if symbol is not None and symbol.defined:
             return None
         at = mark(self.place_of(node))
+        if name in forms.PRINTS:
+            arguments = self.in_order(node, arguments, forms.PRINTS[name])
         if name in OVERFLOWS:
             return self.overflowing(node, arguments, *OVERFLOWS[name])
         method = getattr(self, "lib_" + name, None)
@@ -91,11 +100,33 @@ class Library(GnuCalls):
             self.library_used(name)
             self.use(found)
             return self.called(found.text, found, found.type, arguments, node, used)
-        if name in NO:
-            raise self.refuse(node, f"`{name}`", NO[name])
-        if name.startswith("__builtin") or name in ("pow", "sin", "cos", "tan", "exp", "log", "log10", "log2", "atan", "atan2"):
-            raise self.refuse(node, f"`{name}`", "a function of your own")
+        dead = self.function.dead and symbol is not None
+        if not dead and (name in NO or name.startswith("__builtin") or name in ROUNDED or symbol is not None and self.of_system(symbol)):
+            raise self.missing(node, name)
         return None
+
+    def of_system(self, symbol: Symbol) -> bool:
+        """Whether a function or a variable is declared by a header of the system alone, and nowhere defined."""
+        at = symbol.at
+        return symbol.kind in ("function", "variable") and symbol.outer and not symbol.defined and symbol.unit != "prelude" and 0 <= at < len(self.tokens) and self.tokens[at].file.startswith(HEADERS)
+
+    def missing(self, node: Any, name: str) -> Refusal:
+        """The refusal of what the system has and this library hasn't."""
+        found = self.refuse(node, f"`{name}`", NO.get(name, "a function of your own" if name in ROUNDED else "a function of your own for it, in one of the files"))
+        found.sure = True
+        return found
+
+    def in_order(self, node: Any, arguments: Sequence[Any], at: int) -> Sequence[Any]:
+        """The arguments in the order of a form that names them by number."""
+        form = arguments[at] if len(arguments) > at else None
+        if kind(form) != "Constant" or form.type != "string" or not forms.names_arguments(form.value):
+            return arguments
+        found, rest = forms.in_order(form.value), arguments[at + 1:]
+        again = [it for place, it in enumerate(rest, 1) if found is not None and found[1].count(place) != 1]
+        if found is None or max(found[1]) > len(rest) or not all(kind(it) in ("ID", "Constant") for it in again):
+            raise self.refuse(node, "a form that names its arguments by number", "arguments in the form's order, each once")
+        from pycparser import c_ast
+        return [*arguments[:at], c_ast.Constant("string", found[0], form.coord), *(rest[place - 1] for place in found[1])]
 
     def placed(self, value: Value, at: str) -> Value:
         return value._replace(text=at + value.text) if value.text and at not in value.text and value.level == POSTFIX else value
@@ -206,17 +237,21 @@ class Library(GnuCalls):
 
     lib_atexit_count = 0
 
-    def lib_setjmp(self, node: Any, arguments: Sequence[Any], used: bool) -> Value:
-        raise self.refuse(node, "`setjmp`", NO["setjmp"])
-
-    def lib_time(self, node: Any, arguments: Sequence[Any], used: bool) -> Value:
-        self.library_used("time")
+    def with_liberty(self, name: str, told: str, node: Any, arguments: Sequence[Any], used: bool) -> Value:
+        """A call of the prelude that doesn't give what it gives elsewhere, which is told."""
+        self.library_used(name)
         if not self.in_prelude:
-            self.liberties["time and clock give 0"] = None
-        found = self.prelude_symbol("time")
+            self.liberties[told] = None
+        found = self.prelude_symbol(name)
         assert found is not None
         self.use(found)
         return self.called(found.text, found, found.type, arguments, node, used)
+
+    def lib_time(self, node: Any, arguments: Sequence[Any], used: bool) -> Value:
+        return self.with_liberty("time", "time and clock give 0", node, arguments, used)
+
+    def lib_getenv(self, node: Any, arguments: Sequence[Any], used: bool) -> Value:
+        return self.with_liberty("getenv", "getenv gives NULL, whatever the environment has", node, arguments, used)
 
     def lib_clock(self, node: Any, arguments: Sequence[Any], used: bool) -> Value:
         self.library_used("clock")
@@ -224,11 +259,8 @@ class Library(GnuCalls):
         return number(0, LONG)
 
 
-class TypedCalls:
+class TypedCalls(ScanCalls):
     """Calls that go by the types of their arguments, where a cell keeps what was stored in it."""
-
-    def __init__(self, program: Any) -> None:
-        self.program = program
 
     def table(self) -> Dict[str, Any]:
         return {name[5:]: getattr(self, name) for name in dir(self) if name.startswith("call_")}
@@ -272,46 +304,6 @@ class TypedCalls:
         if " + " in count.text and count.text.endswith(f"/ {size_of(type_)}u"):
             return Value(UINT, f"cbi_exact({program.converted(whole, UINT, True).at(ASSIGN)}, {size_of(type_)}u)", POSTFIX, pure=False)
         return count
-
-    def call_scanf(self, node: Any, arguments: Sequence[Any], used: bool) -> Optional[Value]:
-        return self.scanned(node, "scanf", arguments, 0)
-
-    def call_fscanf(self, node: Any, arguments: Sequence[Any], used: bool) -> Optional[Value]:
-        return self.scanned(node, "fscanf", arguments, 1)
-
-    def call_sscanf(self, node: Any, arguments: Sequence[Any], used: bool) -> Optional[Value]:
-        return self.scanned(node, "sscanf", arguments, 1)
-
-    def scanned(self, node: Any, name: str, arguments: Sequence[Any], at: int) -> Optional[Value]:
-        """A form whose letters go by the types of the places."""
-        program = self.program
-        if len(arguments) <= at or kind(arguments[at]) != "Constant" or arguments[at].type != "string":
-            return None
-        places = [program.type_of(argument) for argument in arguments[at + 1:]]
-
-        def letter(found: "re.Match[str]") -> str:
-            drop, width, size, what = found[1], found[2], found[3], found[4]
-            if drop or what[0] in "c[s%" or not places:
-                if not drop and what[0] in "c[s" and places:
-                    places.pop(0)
-                return found[0]
-            to = places.pop(0)
-            to = to.to if is_pointer(to) else to.of if isinstance(to, Array) else None
-            real = what in "fegFEG"
-            bytes_ = {"": 4, "l": 8 if real else 4, "L": 8, "z": 4, "t": 4, "ll": 8, "j": 8, "h": 2, "hh": 1}.get(size)
-            if not isinstance(to, Int) or to.size != bytes_ or is_float(to) != real:
-                raise program.refuse(node, f"`{found[0]}` with a `{spelled(to) if to is not None else 'number'}`", "the letters of its type", True)
-            if real:
-                return f"%{width}{size.replace('L', 'l')}{what}"
-            return f"%{width}{size}{'J' if (what in 'di') != to.signed else ''}{what}"
-        form = re.sub(r"%(\*?)(\d*)(hh|h|ll|l|L|j|z|t|)(\[\^?\]?[^\]]*\]|[a-zA-Z%])", letter, arguments[at].value)
-        from pycparser import c_ast
-        found = program.prelude_symbol(name)
-        assert found is not None
-        program.use(found)
-        row = [*arguments[:at], c_ast.Constant("string", form, arguments[at].coord), *arguments[at + 1:]]
-        value: Value = program.called(found.text, found, found.type, row, node, True)
-        return value
 
     def call_malloc(self, node: Any, arguments: Sequence[Any], used: bool) -> Value:
         program = self.program
@@ -391,7 +383,13 @@ class TypedCalls:
         if like_char(inner):
             text = f"cbi_fill_char({to.at(ASSIGN)}, {program.converted(value, INT, True).at(ASSIGN)}, {objects})"
         elif value.constant == 0:
-            text = program.model.clear_cells(to.at(ASSIGN) if not isinstance(inner, Pointer) else to.at(UNARY), inner, objects)
+            before, place = "", to
+            if used and not to.pure:
+                before, place = program.keep(to)
+            text = program.model.clear_cells(place.at(UNARY), inner, objects)
+            if used:
+                # What clears gives no value.
+                return place._replace(text=f"({', '.join([*[before] * bool(before), text, place.at(ASSIGN)])})", level=POSTFIX, pure=False, null=False)
         else:
             raise program.refuse(node, f"`memset` of a `{spelled(inner)}` to more than zero", "a loop that stores each value", True)
         return self.result(Value(to.type, text, POSTFIX, pure=False), arguments, used, node)

@@ -21,6 +21,7 @@ class Refusal(Exception):
         super().__init__(construct)
         self.at, self.construct, self.advice, self.bytes_do = at, construct, advice, bytes_do
         self.follows = False  # comes of another one alone, which is told
+        self.sure = False     # comes of nothing that a header which isn't there may have said
 
     def problem(self, tokens: Sequence[Token]) -> Problem:
         token = tokens[min(max(self.at, 0), len(tokens) - 1)] if tokens else Token("", "", "?", 0)

@@ -6,9 +6,9 @@ from cbi_port.cells import MOST_CELLS, Cells, cells, innermost
 from cbi_port.conversions import number
 from cbi_port.scopes import Symbol
 from cbi_port.trees import kind
-from cbi_port.types import (UINT, VOID, Array, CType, Int, List_, Pointer, Struct, is_long, is_whole, size_of,
+from cbi_port.types import (CHAR, UINT, VOID, Array, CType, Int, List_, Pointer, Struct, is_long, is_whole, size_of,
                             spread, to_function)
-from cbi_port.values import ADD, ASSIGN, POSTFIX, TIMES, UNARY, Place, Value
+from cbi_port.values import ADD, ASSIGN, EQUAL, POSTFIX, TIMES, UNARY, Place, Value
 
 LATER = "\x03{}\x04"  # what is known only when all is translated
 
@@ -129,7 +129,7 @@ class Objects(Cells):
             program.function.fixed.append(self.declare(type_, name) + ";")
         place = Place(type_, name)
         rows = [] if program.is_full(type_, found) else [self.clear(place)]
-        for path, leaf in found.items():
+        for path, leaf in program.beside_zeros(type_, found).items():
             rows.append(program.assignment(program.part(place, path, node), leaf, node)[:-1])
         if isinstance(type_, Array):
             begin = self.decayed(place)
@@ -206,6 +206,9 @@ class Objects(Cells):
             row = self.copy_member(left, right)
             counter = counter or "cbi_n" in row
             rows.append(f"if (cbi_from->cbi_is == {index}) {{ {row} }}" if struct.union else row)
+        if struct.union:
+            self.program.cleared.setdefault(struct, None)
+            rows.append(f"if (cbi_from->cbi_is == 0) cbi_clear_{tag}(cbi_to, 1u);")
         return head + ";", f"{head} {{ {'int cbi_n; ' if counter else ''}{' '.join(rows)} return cbi_to; }}"
 
     def copy_member(self, left: Place, right: Place) -> str:
@@ -232,7 +235,8 @@ class Objects(Cells):
         stored = member.name in struct.forward and isinstance(member.type, Pointer) and not to_function(member.type)
         word = "void **" if stored else self.declare(Pointer(member.type), "") if not to_function(member.type) else "int *"
         what = f"{word}cbi_{'put' if write else 'get'}_{struct.tag}_{name}(struct {struct.tag} *cbi_at)"
-        check = f"cbi_at->cbi_is = {index};" if write else f"if (cbi_at->cbi_is != {index}) cbi_other_kind();"
+        # One that was made zero as a whole, of which cbi_is is 0, has each member's zero.
+        check = f"cbi_at->cbi_is = {index};" if write else f"if (cbi_at->cbi_is != {index}) if (cbi_at->cbi_is) cbi_other_kind();"
         cast = f"({word.strip()})(void *)" if stored else ""
         return what + ";", f"{what} {{ {check} return {cast}&cbi_at->{name}; }}"
 
@@ -244,7 +248,7 @@ class Objects(Cells):
 
         def made(type_: Optional[CType]) -> str:
             return self.made(type_, node, clear)
-        return Value(Pointer(VOID), f"{whole}({count.at(ASSIGN)})", POSTFIX, pure=False, fresh=made,
+        return Value(Pointer(VOID), f"{whole}({self.some(count, CHAR, node)})", POSTFIX, pure=False, fresh=made,
                      origin="unknown" if clear or self.program.keeps_sizes else None)
 
     def made(self, type_: Any, node: Any, clear: bool) -> str:
@@ -254,7 +258,7 @@ class Objects(Cells):
         if goes_on(type_) and any(is_sum(it) for it in node):
             raise program.refuse(None, "an array at a struct's end that goes on behind it", "a pointer to memory of malloc", True)
         count = self.objects(type_, node)
-        amount = self.amount(type_, count)
+        amount = self.some(count, type_, node)
         maker = "cbi_malloc" if program.keeps_sizes else "malloc"
         if clear or program.keeps_sizes:
             program.makers.setdefault(self.maker_name(inner), inner)
@@ -272,11 +276,32 @@ class Objects(Cells):
             return "pointers"
         return "long" if is_long(type_) else self.base(type_)[0]
 
+    def some(self, count: Value, type_: CType, nodes: List[Any]) -> str:
+        """How many cells are asked for as memory of so many objects. For none glibc gives memory too: then it is one cell."""
+        program = self.program
+        if program.keeps_sizes or program.in_prelude or count.constant or len(nodes) == 1 and self.is_some(nodes[0]):
+            return self.amount(type_, count)
+        if count.constant == 0:
+            return "1"
+        before = ""
+        if not count.pure:
+            before, count = program.keep(count)
+        text = f"{self.amount(type_, count)} + ({count.at(EQUAL + 1)} == 0)"
+        return f"({before}, {text})" if before else text
+
+    def is_some(self, node: Any) -> bool:
+        """Whether a size isn't zero, as that of a text with its end isn't: `strlen(s) + 1`."""
+        if kind(node) != "BinaryOp" or node.op != "+":
+            return False
+        sides = [node.left, node.right]
+        return any(kind(it) == "Constant" and self.program.value(it).constant for it in sides) and any(
+            kind(it) == "FuncCall" and kind(it.name) == "ID" and it.name.name == "strlen" for it in sides)
+
     def amount(self, type_: CType, count: Value) -> str:
         per = cells(type_)
         inner = innermost(type_)[0]
         if per == 1:
-            return count.text
+            return count.at(ADD)
         word = f"sizeof(struct {inner.tag})" if isinstance(inner, Struct) and not isinstance(type_, Array) else str(per)
         if count.constant == 1:
             return word

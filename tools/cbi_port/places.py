@@ -1,6 +1,7 @@
 """Constants (C99 6.4.4, 6.4.5) and places (6.3.2.1)."""
 from typing import Any, List
 
+from cbi_port import forms
 from cbi_port.conversions import number
 from cbi_port.declarations import Declarations
 from cbi_port.constants import bytes_of, characters_of, written_name
@@ -23,6 +24,8 @@ class Places(Floats, Declarations):
             place = self.wide_string(node)
             return self.model.load(place, node)
         if node.type == "string":
+            if forms.names_arguments(node.value) and not self.in_prelude:
+                raise self.refuse(node, "a form that names its arguments by number", "arguments in the form's order")
             value = self.model.string(self.string_text(node), size_of(self.string_type(node)))
             return value._replace(text=at + value.text if not self.model.in_bytes else value.text)
         if "'" in text:
@@ -142,8 +145,10 @@ class Places(Floats, Declarations):
             raise self.follow(node)
         if symbol.kind == "type":
             raise self.refuse(node, f"the type `{node.name}` as a value", "a value")
+        if self.of_system(symbol) and not self.function.dead:
+            raise self.missing(node, node.name)
         self.use(symbol)
-        place = self.model.variable(symbol)
+        place = self.model.variable(symbol)._replace(quals=symbol.quals)
         at = mark(self.place_of(node))
         return place._replace(text=at + place.text) if not place.pointer else place
 
@@ -157,7 +162,7 @@ class Places(Floats, Declarations):
                     at = self.index(self.value(index))
                     found = self.model.element(place, at, node)
                     if found is not None:
-                        return found
+                        return found._replace(quals=place.quals | place.type.quals)
                     return self.model.target(self.model.add(self.model.load(place, node), at, "+", node), node)
                 return self.indexed(self.model.load(place, node), self.value(index), node)
         left, right = self.value(base), self.value(index)
@@ -172,7 +177,7 @@ class Places(Floats, Declarations):
             raise self.refuse(node, "`[]` without a pointer", "an array or a pointer, and a number")
         index = self.index(index)
         if not self.model.in_bytes and not isinstance(pointer.type.to, (Array, Void)) and is_complete(pointer.type.to):
-            return Place(pointer.type.to, f"{pointer.at(POSTFIX)}[{index.text}]", POSTFIX, pointer.pure and index.pure)
+            return Place(pointer.type.to, f"{pointer.at(POSTFIX)}[{index.text}]", POSTFIX, pointer.pure and index.pure, quals=pointer.type.quals)
         return self.model.target(self.model.add(pointer, index, "+", node), node)
 
     def index(self, value: Value) -> Value:
@@ -198,5 +203,6 @@ class Places(Floats, Declarations):
         if way is None:
             raise self.refuse_type(node, f"no member `{node.field.name}` in a {spelled(struct)}", struct)
         for member in way:
-            outer = self.model.member(outer, member, outer.type, node)
+            quals = outer.quals | member.quals
+            outer = self.model.member(outer, member, outer.type, node)._replace(quals=quals)
         return outer

@@ -2,7 +2,7 @@
 import re
 from typing import Any, Dict, List, Optional, Sequence, Set, Tuple
 
-from cbi_port import Ported
+from cbi_port import Ported, forms
 from cbi_port.body import Body
 from cbi_port.bytes import Bytes
 from cbi_port.helpers import Helpers
@@ -11,13 +11,19 @@ from cbi_port.library import AHEAD, Library
 from cbi_port.lines import Refusal, Sheet, Token, bare, mark
 from cbi_port.objects import Objects
 from cbi_port.reader import HEADERS, Unit, prelude_index, read_prelude
-from cbi_port.scopes import TAKEN, Names, Scope, Symbol
+from cbi_port.scopes import TAKEN, Names, Scope, Symbol, plain_name
 from cbi_port.trees import declared_outside, gives_value, holds_open, kind, names_under_address
 from cbi_port.types import (INT, VOID, Array, CType, Function, Int, Pointer, Struct, Void, is_complete, is_whole,
                             spelled, to_function)
 
 # Functions of the library by which floats come in without a word of theirs.
 FLOAT_NAMES = {"strtod", "strtof", "atof", "sqrt", "floor", "ceil", "fabs"}
+
+
+def prelude_text(name: str) -> str:
+    """What a name of the prelude is called in the text."""
+    plain = name.strip("_")
+    return plain if plain.startswith("cbi_") else ("cbi_own_" if name.startswith("__") else "cbi_") + plain
 
 
 class Program(Jumps, Library):
@@ -30,12 +36,13 @@ class Program(Jumps, Library):
         self.liberties, self.counts = {}, {}
         self.names, self.tags = Names(), Names()
         self.names.used |= {token.text for token in tokens if token.kind == "name"}
-        self.words = {token.text for token in tokens if token.kind == "name" and not token.file.startswith(HEADERS)}
+        self.words = {plain_name(token.text) for token in tokens if token.kind == "name" and not token.file.startswith(HEADERS)}
         self.tags.used = set(TAKEN)
         self.floats = bool(self.words & {"float", "double", *FLOAT_NAMES}) or any(
             token.kind == "number" and token.text[:2] not in ("0x", "0X") and re.search("[.eE]", token.text) for token in tokens)
+        self.prelude_parts = (["FLOATS"] if self.floats else []) + forms.parts_of(tokens, self.floats)
         self.lengths = {}
-        self.structs, self.externals, self.by_node, self.headers = [], {}, {}, {}
+        self.structs, self.externals, self.by_node, self.headers, self.forwards = [], {}, {}, {}, {}
         self.statics: Dict[str, Dict[str, Symbol]] = {}
         self.in_prelude = False
         self.args, self.stderr = args, stderr
@@ -62,6 +69,7 @@ class Program(Jumps, Library):
         self.wrapped: Set[str] = {"getchar"} if self.words & AHEAD else set()
         self.keeps_sizes = "realloc" in self.words
         self.prelude_names = prelude_index()
+        self.names.used |= {prelude_text(name) for name in self.prelude_names}
         self.prelude_units: Dict[str, Unit] = {}
         self.prelude_symbols: Dict[str, Symbol] = {}
         self.prelude_scope = Scope()
@@ -98,13 +106,13 @@ class Program(Jumps, Library):
         if kind(item) == "Typedef":
             type_ = self.resolve(item.type, item.name)
             align = self.said_alignment(item)
-            self.scope.names[item.name] = Symbol(item.name, "type", type_)
-            self.scope.names[item.name].align = align
+            self.scope.names[item.name] = symbol = Symbol(item.name, "type", type_)
+            symbol.align, symbol.quals = align, self.quals_of(item.type)
             if not item.name.startswith("__") and self.is_users(item):
                 self.count("typedefs")
         elif kind(item) == "Decl":
             if item.name is None:
-                self.resolve(item.type)
+                self.tag_alone(item.type)
                 return
             type_ = self.resolve(item.type)
             if isinstance(type_, Function):
@@ -166,13 +174,13 @@ class Program(Jumps, Library):
             table[name] = symbol
         elif isinstance(symbol.type, Array) and symbol.type.count is None or isinstance(type_, Function) and type_.known and not symbol.type.known and not symbol.defined:
             symbol.type = type_
+        symbol.quals = self.quals_of(node.type)
         self.scope.names[name] = symbol
         return symbol
 
     def outer_name(self, name: str, what: str, table: Dict[str, Symbol]) -> str:
         if self.in_prelude:
-            plain = name.strip("_")
-            return plain if plain.startswith("cbi_") else ("cbi_own_" if name.startswith("__") else "cbi_") + plain
+            return prelude_text(name)
         if name == "main" and what == "function":
             return "main"
         if name in TAKEN or name.startswith("cbi_") or "$" in name or len(name) > 62 or name in self.given:
@@ -190,6 +198,7 @@ class Program(Jumps, Library):
             symbol.outer = True
             symbol.at = self.place_of(node)
             symbol.text = self.outer_name(node.name, "variable", self.externals)
+            symbol.quals = self.quals_of(node.type)
             self.externals[node.name] = symbol
         elif isinstance(symbol.type, Array) and symbol.type.count is None:
             symbol.type = type_
@@ -198,13 +207,11 @@ class Program(Jumps, Library):
     # The prelude.
 
     def prelude_symbol(self, name: str) -> Optional[Symbol]:
-        if name in self.prelude_symbols:
-            return self.prelude_symbols[name]
-        file = self.prelude_names.get(name)
-        if file is None or file in self.prelude_units:
-            return None
+        known, file = self.prelude_symbols.get(name), self.prelude_names.get(name)
+        if known is not None and known.defined or file is None or file in self.prelude_units:
+            return known
         unit, scope, function, inside = getattr(self, "unit", None), self.scope, self.function, self.in_prelude
-        self.prelude_units[file] = unit_ = read_prelude(file, self.tokens, self.floats)
+        self.prelude_units[file] = unit_ = read_prelude(file, self.tokens, self.prelude_parts)
         self.in_prelude = True
         before = len(self.definitions)
         externals, self.externals = self.externals, self.prelude_symbols
@@ -231,14 +238,14 @@ class Program(Jumps, Library):
         if isinstance(symbol.type, Array) and symbol.type.count is None and init is not None:
             symbol.type, _ = self.leaves(symbol.type, init)
         if isinstance(symbol.type, Array) and symbol.type.count is None:
-            symbol.type = Array(symbol.type.of, 1)
+            symbol.type = symbol.type._replace(count=1)
         if not is_complete(symbol.type):
             raise self.refuse_type(node, f"`{symbol.name}` of the type {spelled(symbol.type)}", symbol.type)
-        outer, self.function = self.function, self.first
+        outer, self.function, self.begins = self.function, self.first, True
         try:
             text = self.model.declare_static(symbol, init, node)
         finally:
-            self.function = outer
+            self.function, self.begins = outer, False
         if text:
             self.place_global(text, symbol)
 
@@ -317,6 +324,8 @@ class Program(Jumps, Library):
             if isinstance(inner, Struct) and not inner.complete:
                 raise self.refuse_type(node, f"a parameter of type {spelled(inner)}", inner)
             symbol = Symbol(name, "variable", inner, self.local_name(name) if not name.startswith("cbi_unnamed") else name)
+            if kind(node) == "Decl" and kind(node.type) in ("PtrDecl", "TypeDecl"):
+                symbol.quals = self.quals_of(node.type)
             self.scope.names[name] = symbol
             text, rows = self.model.take_parameter(symbol)
             names.append(text)

@@ -7,9 +7,10 @@ import os
 import re
 import shutil
 import subprocess
-from typing import Any, Dict, List, NamedTuple, Optional, Sequence, Tuple
+import tempfile
+from typing import Any, Dict, Iterator, List, NamedTuple, Optional, Sequence, Tuple
 
-from cbi_port import Missing
+from cbi_port import Missing, Problem
 from cbi_port.gnu import rewrite
 from cbi_port.lines import Refusal, Token
 
@@ -21,19 +22,25 @@ PIECE = re.compile(r"""
   | (?P<char>(?:L|u|U)?'(?:[^'\\\n]|\\.)*')
   | (?P<number>\.?[0-9](?:[eEpP][+-]|[0-9A-Za-z_.])*)
   | (?P<name>(?:[A-Za-z_$\x80-\xff]|\\u[0-9A-Fa-f]{4}|\\U[0-9A-Fa-f]{8})(?:[A-Za-z0-9_$\x80-\xff]|\\u[0-9A-Fa-f]{4}|\\U[0-9A-Fa-f]{8})*)
-  | (?P<mark>\.\.\.|<<=|>>=|->|\+\+|--|<<|>>|<=|>=|==|!=|&&|\|\||\*=|/=|%=|\+=|-=|&=|\^=|\|=|[][(){}.&*+~!/%<>^|?:;=,\-\#])
+  | (?P<mark>\.\.\.|<:|:>|<%|%>|<<=|>>=|->|\+\+|--|<<|>>|<=|>=|==|!=|&&|\|\||\*=|/=|%=|\+=|-=|&=|\^=|\|=|[][(){}.&*+~!/%<>^|?:;=,\-\#])
 """, re.X)
 MARKER = re.compile(r'#\s*(?:line\s+)?(\d+)\s+"((?:[^"\\]|\\.)*)"')
+MISSING = re.compile(r"(?m)^(.*?):(\d+)(?::\d+)?:\s*(?:fatal )?error:\s*'?(.*?)'?(?:: No such file| file not found)")
+MOST_MISSING = 100
+NO_HEADER = "a header of the library that is there, or `-I` with its folder"
+DIGRAPHS = {"<:": "[", ":>": "]", "<%": "{", "%>": "}"}  # 6.4.6p3; those of `#` are the preprocessor's
 # What says which machine it is: such texts hold pieces of its assembler.
 MACHINE = ["__i386__", "__i386", "i386", "__i686__", "__i686", "__pentium4__", "__SSE__", "__SSE2__", "__x86_64__", "__OPTIMIZE__"]
 
 
 class Unit(NamedTuple):
-    """A file as it was read: its tree, and the trees of what stood within an expression."""
+    """A file as it was read: its tree, and the trees of what stood within an expression. `defined` has the tokens at which structs and unions
+    are defined outside functions, by their names."""
     file: str
     tree: Any
     bodies: Dict[str, Any]
-    alignments: Dict[str, int]
+    alignments: Dict[str, str]
+    defined: Dict[str, int]
 
 
 def preprocessor() -> List[str]:
@@ -44,16 +51,27 @@ def preprocessor() -> List[str]:
     raise Missing("no preprocessor: gcc, clang or cpp is needed (Debian's package cpp)")
 
 
-def preprocessed(file: str, options: Sequence[str]) -> str:
-    """The text of the file behind the preprocessor, with its line marks."""
+def preprocessed(file: str, options: Sequence[str], missing: List[Problem]) -> str:
+    """The text of the file behind the preprocessor, with its line marks. A header that isn't there is added to what is missing, and empty."""
     with open(file, "rb"):
         pass
     words = preprocessor() + ["-m32", "-std=gnu99", "-nostdinc", "-x", "c", "-w"]
-    words += [f"-U{name}" for name in MACHINE] + ["-D__CBI__=1", *options, "-I", HEADERS, file]
-    done = subprocess.run(words, stdout=subprocess.PIPE, stderr=subprocess.PIPE)
-    if done.returncode:
-        raise PreprocessorFailed(done.stderr.decode("utf-8", "replace"), file)
-    return done.stdout.decode("latin-1")
+    words += [f"-U{name}" for name in MACHINE] + ["-D__CBI__=1", "-D__STDC_IEC_559__=1", "-D__STDC_ISO_10646__=201706L", *options, "-I", HEADERS]
+    with tempfile.TemporaryDirectory(prefix="cbi-port-") as room:
+        for _ in range(MOST_MISSING):
+            done = subprocess.run([*words, "-idirafter", room, file], stdout=subprocess.PIPE, stderr=subprocess.PIPE)
+            told = done.stderr.decode("utf-8", "replace")
+            found = MISSING.search(told)
+            if done.returncode == 0:
+                return done.stdout.decode("latin-1")
+            if not found or os.path.isabs(found[3]) or ".." in found[3].split("/"):
+                break
+            missing.append(Problem(found[1], int(found[2]), f"`#include` of {found[3]}", NO_HEADER))
+            path = os.path.join(room, found[3])
+            os.makedirs(os.path.dirname(path), exist_ok=True)
+            with open(path, "w"):
+                pass
+    raise PreprocessorFailed(told, file)
 
 
 class PreprocessorFailed(Exception):
@@ -90,7 +108,8 @@ def pieces(text: str, file: str) -> List[Token]:
         if kind == "line":
             line, fresh = line + 1, True
         elif kind != "space":
-            tokens.append(Token(kind, plain_name(found.group()) if kind == "name" else found.group(), file, line))
+            piece = found.group()
+            tokens.append(Token(kind, plain_name(piece) if kind == "name" else DIGRAPHS.get(piece, piece), file, line))
             fresh = False
     return tokens
 
@@ -152,9 +171,9 @@ def opens_struct(tokens: Sequence[Token], begin: int) -> bool:
     return False
 
 
-def read(file: str, options: Sequence[str], table: List[Token], problems: List[Refusal]) -> Unit:
-    """A file's tree. Its tokens are added to the table; what it can't be read for is added to the problems."""
-    tokens = pieces(preprocessed(file, options), file)
+def read(file: str, options: Sequence[str], table: List[Token], problems: List[Refusal], missing: List[Problem]) -> Unit:
+    """A file's tree. Its tokens are added to the table; what it can't be read for is added to the problems, and headers that aren't there to what is missing."""
+    tokens = pieces(preprocessed(file, options, missing), file)
     tokens, bodies, alignments = rewrite(tokens, len(table), problems)
     first = len(table)
     trees: Dict[str, Any] = {}
@@ -175,7 +194,16 @@ def read(file: str, options: Sequence[str], table: List[Token], problems: List[R
         tree.ext = [item for item in tree.ext if not (type(item).__name__ == "FuncDef" and item.decl.name in bodies)]
         for root in [tree, *trees.values()]:
             unwrap(root, trees)
-    return Unit(file, tree, trees, alignments)
+    return Unit(file, tree, trees, alignments, dict(defined_structs(tree)) if tree is not None else {})
+
+
+def defined_structs(node: Any) -> Iterator[Tuple[str, int]]:
+    """The structs and unions with a name that are defined outside functions, and the numbers of their tokens."""
+    if type(node).__name__ in ("Struct", "Union") and node.name and node.decls is not None:
+        yield node.name, int(node.coord.line)
+    for name, child in node.children():
+        if not (type(node).__name__ == "FuncDef" and name == "body"):
+            yield from defined_structs(child)
 
 
 def unwrapped(node: Any, bodies: Dict[str, Any]) -> Any:
@@ -232,9 +260,10 @@ def prelude_index() -> Dict[str, str]:
     return found
 
 
-def read_prelude(file: str, tokens: List[Token], floats: bool) -> Unit:
+def read_prelude(file: str, tokens: List[Token], parts: Sequence[str]) -> Unit:
+    """A file of the prelude, with those of its parts that the text asks for."""
     problems: List[Refusal] = []
-    unit = read(file, ["-D__CBI_PRELUDE__", *["-D__CBI_FLOATS__"] * floats], tokens, problems)
+    unit = read(file, ["-D__CBI_PRELUDE__", *(f"-D__CBI_{part}__" for part in parts)], tokens, problems, [])
     if unit.tree is None or problems:
         raise AssertionError(f"the prelude isn't read: {file}: {[(it.construct, it.problem(tokens)) for it in problems]}")
     return unit

@@ -1,13 +1,21 @@
 """Names and what they mean (C99 6.2.1 to 6.2.4)."""
 from typing import Any, Dict, Optional, Set
 
-from cbi_port.types import CType
+from cbi_port.types import PLAIN, CType
 
 # Words of the dialect, and what its library declares: no name of a text's own.
 TAKEN = {"char", "do", "else", "for", "if", "int", "return", "sizeof", "struct", "unsigned", "void", "while", "break", "continue",
          "NULL", "EOF", "getchar", "putchar", "puts", "malloc", "free", "exit", "abort", "printf", "assert", "auto", "case", "const",
          "default", "double", "enum", "extern", "float", "goto", "inline", "long", "register", "restrict", "short", "signed", "static",
          "switch", "typedef", "union", "volatile", "_Bool", "_Complex", "_Imaginary"}
+
+# What stands before the name of a function that was called as `__builtin_NAME`, so that no function of the text is taken for it.
+BUILTIN = "__cbi_builtin_"
+
+
+def plain_name(name: str) -> str:
+    """The name behind `__builtin_`."""
+    return name[len(BUILTIN):] if name.startswith(BUILTIN) else name
 
 
 class Symbol:
@@ -30,6 +38,7 @@ class Symbol:
         self.align = 0             # what its declaration says of its alignment
         self.lengths: Any = None   # of an array whose length is found out as the program runs
         self.open: Any = None      # the type of such an array; `type` is that of a pointer to its elements
+        self.quals = PLAIN         # how it is qualified, or the type that it names
         self.at = -1
 
 

@@ -19,10 +19,22 @@ class Statements(Initialisers):
         at = self.place_of(node)
         if at >= 0:
             self.last_place = at
+        outer, loops = self.scope, len(self.function.loops)
         try:
             getattr(self, "st_" + kind(node), self.st_expression)(node)
         except Refusal as refusal:
             self.tell(refusal, node)
+            if kind(node) in ("If", "While", "DoWhile", "For"):
+                self.within_refused(node)
+            self.scope = outer
+            del self.function.loops[loops:]
+
+    def within_refused(self, node: Any) -> None:
+        """Looks at what a statement has whose condition is refused, so that what is refused of it is told too."""
+        self.function.loops.append("loop")
+        for inner in (getattr(node, name, None) for name in ("iftrue", "iffalse", "stmt")):
+            if inner is not None:
+                self.statement(inner)
 
     def put(self, text: str, node: Any = None) -> None:
         self.function.put((mark(self.place_of(node)) if node is not None else "") + text)
@@ -50,8 +62,8 @@ class Statements(Initialisers):
     def st_Typedef(self, node: Any) -> None:
         self.count("typedefs")
         align = self.said_alignment(node)
-        self.scope.names[node.name] = Symbol(node.name, "type", self.resolve(node.type, node.name))
-        self.scope.names[node.name].align = align
+        self.scope.names[node.name] = symbol = Symbol(node.name, "type", self.resolve(node.type, node.name))
+        symbol.align, symbol.quals = align, self.quals_of(node.type)
 
     def st_Compound(self, node: Any) -> None:
         self.put("{", node)
@@ -90,7 +102,8 @@ class Statements(Initialisers):
         self.body(node.iftrue) if node.iftrue is not None else self.put(";")
         self.function.dead += dead[1] - dead[0]
         if node.iffalse is not None:
-            if kind(node.iftrue) != "Compound" and self.function.out[begun] != "{" and self.holds_if(node.iftrue):
+            bare = self.function.out[begun:begun + 1] not in ([], ["{"])  # nothing stands there where the branch was refused
+            if kind(node.iftrue) != "Compound" and bare and self.holds_if(node.iftrue):
                 self.function.out.insert(begun, "{")
                 self.put("}")
             self.put("else")
@@ -210,7 +223,7 @@ class Statements(Initialisers):
 
     def st_Decl(self, node: Any) -> None:
         if node.name is None:
-            self.resolve(node.type)
+            self.tag_alone(node.type)
             return
         storage = node.storage or []
         hint = ""
@@ -242,7 +255,7 @@ class Statements(Initialisers):
     def local_static(self, node: Any, type_: CType) -> None:
         symbol = Symbol(node.name, "variable", type_, self.names.take(f"{self.function.name}_{node.name}"))
         symbol.outer = symbol.static = True
-        symbol.align = self.said_alignment(node)
+        symbol.align, symbol.quals = self.said_alignment(node), self.quals_of(node.type)
         symbol.at = self.place_of(node)
         self.scope.names[node.name] = symbol
         self.begin_static(symbol, node.init, node)
@@ -267,7 +280,7 @@ class Statements(Initialisers):
                 self.open_array(node, type_)
                 return
             symbol = Symbol(node.name, "variable", type_, self.local_name(node.name))
-            symbol.align = self.said_alignment(node)
+            symbol.align, symbol.quals = self.said_alignment(node), self.quals_of(node.type)
             self.scope.names[node.name] = symbol
             if isinstance(type_, Array) and type_.count is None:
                 type_, found = self.leaves(type_, node.init)
@@ -370,6 +383,7 @@ class Statements(Initialisers):
         if not is_complete(type_):
             raise self.refuse(node, f"`{node.name}`, an array of unknown length, at this place", "`malloc`")
         symbol = Symbol(node.name, "variable", type_, self.local_name(node.name))
+        symbol.quals = self.quals_of(node.type)
         self.scope.names[node.name] = symbol
         self.model.declare_bare(symbol)
         self.function.hoisted[id(node)] = symbol

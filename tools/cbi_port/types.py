@@ -1,8 +1,12 @@
 """The types of C (C99 6.2.5, 6.2.7, 6.7.2): 32 bits for int, long and pointers, laid out as on i386."""
-from typing import TYPE_CHECKING, Any, List, NamedTuple, Optional, Sequence, Set, Tuple, Union
+from typing import TYPE_CHECKING, Any, FrozenSet, List, NamedTuple, Optional, Sequence, Set, Tuple, Union
 
 if TYPE_CHECKING:
     from typing_extensions import TypeGuard
+
+
+Quals = FrozenSet[str]      # const, volatile, restrict
+PLAIN: Quals = frozenset()
 
 
 class Void(NamedTuple):
@@ -10,11 +14,21 @@ class Void(NamedTuple):
 
 
 class Int(NamedTuple):
-    """`size` in bytes; `rank` as C99 6.3.1.1 orders them."""
+    """`size` in bytes; `rank` as C99 6.3.1.1 orders them. `enum` says of which enumeration it is the type, which `exactly` alone asks."""
     name: str
     size: int
     signed: bool
     rank: int
+    enum: Any = None
+
+    def __eq__(self, other: object) -> bool:
+        return isinstance(other, Int) and (self.name, self.size, self.signed, self.rank) == (other.name, other.size, other.signed, other.rank)
+
+    def __ne__(self, other: object) -> bool:
+        return not self == other
+
+    def __hash__(self) -> int:
+        return hash((self.name, self.size, self.signed, self.rank))
 
     @property
     def least(self) -> int:
@@ -33,7 +47,18 @@ class Int(NamedTuple):
 
 
 class Pointer(NamedTuple):
+    """`quals` are those of what it points to, which `exactly` alone asks."""
     to: Any
+    quals: Quals = PLAIN
+
+    def __eq__(self, other: object) -> bool:
+        return isinstance(other, Pointer) and bool(self.to == other.to)
+
+    def __ne__(self, other: object) -> bool:
+        return not self == other
+
+    def __hash__(self) -> int:
+        return hash((Pointer, self.to))
 
 
 class Length(NamedTuple):
@@ -42,9 +67,19 @@ class Length(NamedTuple):
 
 
 class Array(NamedTuple):
-    """`count` is None where it isn't known, and a `Length` where the program finds it out."""
+    """`count` is None where it isn't known, and a `Length` where the program finds it out. `quals` are those of an element, which `exactly` alone asks."""
     of: Any
     count: Any
+    quals: Quals = PLAIN
+
+    def __eq__(self, other: object) -> bool:
+        return isinstance(other, Array) and bool((self.of, self.count) == (other.of, other.count))
+
+    def __ne__(self, other: object) -> bool:
+        return not self == other
+
+    def __hash__(self) -> int:
+        return hash((self.of, self.count))
 
 
 class Function(NamedTuple):
@@ -62,6 +97,7 @@ class Member(NamedTuple):
     at: int
     bits: Optional[int] = None
     shift: int = 0
+    quals: Quals = PLAIN
 
     @property
     def width(self) -> int:
@@ -76,6 +112,7 @@ class Asked(NamedTuple):
     bits: Optional[int] = None
     packed: bool = False
     align: int = 0
+    quals: Quals = PLAIN
 
 
 class Struct:
@@ -210,7 +247,7 @@ def is_complete(type_: CType) -> bool:
 def lay_out(struct: Struct, members: Sequence[Asked]) -> None:
     """Gives each member its place, as the System V rules for i386 do."""
     at = 0  # in bits
-    for name, type_, bits, packed, said in members:
+    for name, type_, bits, packed, said, quals in members:
         most = 1 if packed else struct.pack
         align = max(min(align_of(type_), most) if most else align_of(type_), said)
         if struct.union:
@@ -220,7 +257,7 @@ def lay_out(struct: Struct, members: Sequence[Asked]) -> None:
             continue
         struct.align = max(struct.align, align)
         at = -(-at // (8 * align)) * 8 * align
-        struct.members.append(Member(name, type_, at // 8))
+        struct.members.append(Member(name, type_, at // 8, quals=quals))
         at += 8 * size_of(type_)
         struct.size = max(struct.size, at // 8)
         struct.flexible = isinstance(type_, Array) and not type_.count
@@ -254,6 +291,8 @@ def promoted(type_: Any, bits: Optional[int] = None) -> Any:
             return INT
         if type_.rank < 3:
             return INT
+        if type_.enum is not None:
+            return type_._replace(enum=None)
     return type_
 
 
@@ -315,6 +354,20 @@ def same(left: CType, right: CType) -> bool:
     if isinstance(left, Struct) or isinstance(right, Struct):
         return left is right
     return type(left) is type(right) and left == right
+
+
+def exactly(left: CType, right: CType) -> bool:
+    """Whether two types are compatible also in how what they point to is qualified, and in their enumerations (6.7.2.2p4, 6.7.3p9)."""
+    if isinstance(left, Pointer) and isinstance(right, Pointer):
+        return left.quals == right.quals and exactly(left.to, right.to)
+    if isinstance(left, Array) and isinstance(right, Array):
+        return same(left, right) and left.quals == right.quals and exactly(left.of, right.of)
+    if isinstance(left, Function) and isinstance(right, Function):
+        return same(left, right) and exactly(left.result, right.result) and (
+            not left.known or not right.known or all(map(exactly, left.parameters, right.parameters)))
+    if isinstance(left, Int) and isinstance(right, Int) and left.enum is not None and right.enum is not None:
+        return bool(left.enum == right.enum)
+    return same(left, right)
 
 
 def spelled(type_: CType) -> str:

@@ -1,7 +1,7 @@
 """What an expression of the text is while it grows: values, places, and how tightly a text holds together."""
 from typing import Any, Callable, NamedTuple, Optional
 
-from cbi_port.types import CType, Member
+from cbi_port.types import PLAIN, CType, Member, Quals
 
 COMMA, ASSIGN, COND, OR, AND, BITOR, XOR, BITAND, EQUAL, ORDER, SHIFT, ADD, TIMES, UNARY, POSTFIX = range(15)
 LEVELS = {"||": OR, "&&": AND, "|": BITOR, "^": XOR, "&": BITAND, "==": EQUAL, "!=": EQUAL, "<": ORDER, ">": ORDER,
@@ -45,6 +45,7 @@ class Place(NamedTuple):
     pointer: Optional[str] = None
     stored: bool = False
     union: Any = None
+    quals: Quals = PLAIN
 
     def at(self, level: int) -> str:
         return self.text if self.level >= level else f"({self.text})"

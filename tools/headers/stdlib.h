@@ -39,4 +39,16 @@ double atof(const char *);
 double strtod(const char *, char **);
 float strtof(const char *, char **);
 long double strtold(const char *, char **);
+int system(const char *);
+int setenv(const char *, const char *, int);
+int unsetenv(const char *);
+int putenv(char *);
+int mkstemp(char *);
+char *realpath(const char *, char *);
+int rand_r(unsigned *);
+int mblen(const char *, size_t);
+int mbtowc(wchar_t *, const char *, size_t);
+int wctomb(char *, wchar_t);
+size_t mbstowcs(wchar_t *, const char *, size_t);
+size_t wcstombs(char *, const wchar_t *, size_t);
 #endif

@@ -29,4 +29,7 @@ char *strsep(char **, const char *);
 char *strdup(const char *);
 char *strndup(const char *, size_t);
 char *strerror(int);
+size_t strxfrm(char *, const char *, size_t);
+char *strsignal(int);
+void *memccpy(void *, const void *, int, size_t);
 #endif

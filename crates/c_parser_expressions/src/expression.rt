@@ -58,8 +58,13 @@ pub fn closed(alloc: Global, reader: &mut Reader<'_>, depth: u32, sign: Sign) ->
     ensures { Gives plain_expr result reader.new (closed_by (whole_by depth (deeper_than depth)) sign reader.old) }
 {
     let inner = whole(alloc, reader, depth)?;
-    reader.expect(sign)?;
-    Ok(inner)
+    match reader.expect(sign) {
+        Ok(()) => Ok(inner),
+        Err(stop) => {
+            drop(inner);
+            Err(stop)
+        }
+    }
 }
 
 /// An expression that is no comma expression.
@@ -72,13 +77,14 @@ pub fn assigned(alloc: Global, reader: &mut Reader<'_>, depth: u32) -> Result<Ex
     match assignment_sign(reader, depth, &target) {
         None => Ok(target),
         Some(sign) => {
+            let target = Box::new(alloc, target)?;
             let token = reader.at();
             reader.pass();
             let value = assigned(alloc, reader, depth - 1)?;
             Ok(Expr::Assign {
                 token,
                 sign,
-                target: Box::new(alloc, target)?,
+                target,
                 value: Box::new(alloc, value)?,
             })
         }
@@ -95,14 +101,16 @@ fn conditional(alloc: Global, reader: &mut Reader<'_>, depth: u32) -> Result<Exp
     if !chooses(reader, depth) {
         return Ok(condition);
     }
+    let condition = Box::new(alloc, condition)?;
     let token = reader.at();
     reader.pass();
     let first = closed(alloc, reader, depth - 1, Sign::Colon)?;
+    let first = Box::new(alloc, first)?;
     let second = conditional(alloc, reader, depth - 1)?;
     Ok(Expr::Conditional {
         token,
-        condition: Box::new(alloc, condition)?,
-        first: Box::new(alloc, first)?,
+        condition,
+        first,
         second: Box::new(alloc, second)?,
     })
 }
@@ -122,10 +130,11 @@ fn chain(alloc: Global, reader: &mut Reader<'_>, depth: u32, level: u8) -> Resul
     match level_sign(reader, level) {
         None => Ok(first),
         Some(_) => {
+            let first = Box::new(alloc, first)?;
             let links = links(alloc, reader, depth, level)?;
             Ok(Expr::Chain {
                 level,
-                first: Box::new(alloc, first)?,
+                first,
                 links,
             })
         }
@@ -286,11 +295,9 @@ fn postfix(alloc: Global, reader: &mut Reader<'_>, depth: u32) -> Result<Expr, S
     match postfix_sign(reader, depth) {
         None => Ok(primary),
         Some(_) => {
+            let primary = Box::new(alloc, primary)?;
             let operators = operators(alloc, reader, depth)?;
-            Ok(Expr::Postfix {
-                primary: Box::new(alloc, primary)?,
-                operators,
-            })
+            Ok(Expr::Postfix { primary, operators })
         }
     }
 }

@@ -13,10 +13,10 @@ use Rattle.regions.specs.Headers.{begun_after}
 use Rattle.regions.specs.Headers as region
 use Rattle.regions.proofs.BlockLemmas.{shape}
 use Rattle.weights.specs.Paths.{mark_count}
-use Rattle.clone_paths.specs.declared.label.CopyLabel.{CopyLabel}
-use Rattle.clone_paths.specs.declared.label.CopyLabel.TheVariants.{Gate, Back, In, Out}
-use Rattle.clone_paths.specs.declared.label.Side.{Side}
-use Rattle.clone_paths.specs.declared.label.Side.TheVariants.{Fast, Slow}
+use Rattle.copied_nodes.specs.declared.label.CopyLabel.{CopyLabel}
+use Rattle.copied_nodes.specs.declared.label.CopyLabel.TheVariants.{Gate, Back, In, Out}
+use Rattle.copied_nodes.specs.declared.label.Side.{Side}
+use Rattle.copied_nodes.specs.declared.label.Side.TheVariants.{Fast, Slow}
 use Rattle.clone_paths.specs.declared.parts.Outlet.TheVariants as outlet
 use Rattle.clone_paths.specs.declared.parts.Part.{Part}
 use Rattle.clone_paths.specs.Form.{StandsForNode, Here, IsOutletInCopy, IsAsLabelled, MayOwe, is_last, is_outlet}

@@ -13,10 +13,10 @@ use Rattle.flow.specs.declared.scope.Bounds.{Bounds}
 use Rattle.flow.specs.declared.scope.Names.{Names}
 use Rattle.flow.specs.Words.{node_limit, is_again, is_own, led_to, leads_rightly, names_fit, view, IsPlain}
 use Rattle.weights.specs.Paths.{mark_count}
-use Rattle.clone_paths.specs.declared.label.CopyLabel.{CopyLabel}
-use Rattle.clone_paths.specs.declared.label.CopyLabel.TheVariants.{Enter, Gate, Back, In, Out}
-use Rattle.clone_paths.specs.declared.label.Side.{Side}
-use Rattle.clone_paths.specs.declared.label.Side.TheVariants.{Fast, Slow}
+use Rattle.copied_nodes.specs.declared.label.CopyLabel.{CopyLabel}
+use Rattle.copied_nodes.specs.declared.label.CopyLabel.TheVariants.{Enter, Gate, Back, In, Out}
+use Rattle.copied_nodes.specs.declared.label.Side.{Side}
+use Rattle.copied_nodes.specs.declared.label.Side.TheVariants.{Fast, Slow}
 use Rattle.clone_paths.specs.Form.{is_last, is_outlet}
 use Rattle.clone_paths.specs.Layout.{place_in_copy}
 use Rattle.clone_paths.specs.Made.{Tables, made_node, made_free, made_in, made_out, made_same, made_visit}

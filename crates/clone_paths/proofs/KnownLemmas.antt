@@ -20,9 +20,9 @@ use Rattle.regions.proofs.HeaderLemmas.{begun_leads}
 use Rattle.regions.proofs.Within.{no_node}
 use Rattle.weights.specs.Paths.{mark_count}
 use Rattle.weights.specs.Weight.{AreWeights}
-use Rattle.clone_paths.specs.declared.label.CopyLabel.{CopyLabel}
-use Rattle.clone_paths.specs.declared.label.CopyLabel.TheVariants.{Enter, Gate, In}
-use Rattle.clone_paths.specs.declared.label.Side.TheVariants.{Fast, Slow}
+use Rattle.copied_nodes.specs.declared.label.CopyLabel.{CopyLabel}
+use Rattle.copied_nodes.specs.declared.label.CopyLabel.TheVariants.{Enter, Gate, In}
+use Rattle.copied_nodes.specs.declared.label.Side.TheVariants.{Fast, Slow}
 use Rattle.clone_paths.specs.declared.parts.Outlet.{Outlet}
 use Rattle.clone_paths.specs.declared.parts.Part.{Part}
 use Rattle.clone_paths.specs.Cloned.{NodesCloned}

@@ -11,8 +11,8 @@ use Rattle.regions.specs.Blocks.{IsStart}
 use Rattle.regions.specs.Flags.{AreFlags, is_in}
 use Rattle.regions.specs.Rows.{EachFits}
 use Rattle.regions.specs.Weighty.{IsWeighty, views_of}
-use Rattle.clone_paths.specs.declared.label.CopyLabel.{CopyLabel}
-use Rattle.clone_paths.specs.declared.label.CopyLabel.TheVariants.{Enter}
+use Rattle.copied_nodes.specs.declared.label.CopyLabel.{CopyLabel}
+use Rattle.copied_nodes.specs.declared.label.CopyLabel.TheVariants.{Enter}
 use Rattle.clone_paths.specs.Form.{Cloning, IsAsLabelled}
 
 -- the most nodes of a program that is cloned

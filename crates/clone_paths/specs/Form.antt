@@ -1,16 +1,17 @@
 -- What each node of a sampled function is, by its label (PLDI 2003 section 2; where a countdown is copied, and where lowerings are put
 -- together, is this project's). Control chooses a copy at the head of each region. The slow copy has a test for each visit of a site; the fast
 -- one lowers the countdown once for all visits of a basic block.
-use Rattle.std.specs.Prelude.{◌≡◌, ℕ, zero, suc, ◌+◌, List, [], ◌∷◌, Bool, true, false, ◌||◌, Option, Some}
+use Rattle.std.specs.Prelude.{◌≡◌, ℕ, zero, suc, ◌+◌, Bool, true, false, Option, Some}
 use Rattle.std.specs.Bool.{MatchBool}
 use Rattle.flow.specs.declared.node.View.{View}
-use Rattle.flow.specs.declared.node.View.TheVariants.{Row, Halts, Forks, Turns, Calls, Gives, Quits, Marks, Skips, Tests, Picks, Imports, Exports}
+use Rattle.flow.specs.declared.node.View.TheVariants.{Row, Halts, Forks, Turns, Calls, Marks, Skips, Tests, Picks, Imports, Exports}
 use Rattle.flow.specs.Nodes.{led_to}
 use Rattle.weights.specs.Weight.{IsWeight}
-use Rattle.clone_paths.specs.declared.label.CopyLabel.{CopyLabel}
-use Rattle.clone_paths.specs.declared.label.CopyLabel.TheVariants.{Enter, Gate, Back, In, Out}
-use Rattle.clone_paths.specs.declared.label.Side.{Side}
-use Rattle.clone_paths.specs.declared.label.Side.TheVariants.{Fast, Slow}
+use Rattle.copied_nodes.specs.declared.label.CopyLabel.{CopyLabel}
+use Rattle.copied_nodes.specs.declared.label.CopyLabel.TheVariants.{Enter, Gate, Back, In, Out}
+use Rattle.copied_nodes.specs.declared.label.Side.{Side}
+use Rattle.copied_nodes.specs.declared.label.Side.TheVariants.{Fast, Slow}
+pub use Rattle.copied_nodes.specs.Outlets.{is_last, is_outlet}
 
 -- a function and its copies: which functions are weighty, how control goes on at each node of the original function, where its blocks begin, and
 -- what the nodes of the sampled function are labelled
@@ -26,19 +27,6 @@ pub data StandsForNode (t : Cloning) (side : Side) (place : ℕ) : ℕ → ℕ �
   Here : {node owed : ℕ} → t.label place ≡ Some (In side node owed) → StandsForNode t side place node owed
   Owed : {node owed : ℕ} (site next : ℕ) → side ≡ Fast → t.at node ≡ Marks site next → t.starts next ≡ false → StandsForNode t side place next (suc owed) →
       StandsForNode t side place node owed
-
--- control leaves the block after this node: it leads nowhere, or to a node at which a block begins
-abbrev pub is_last : (ℕ → Bool) → List ℕ → Bool
-is_last starts [] = true
-is_last starts (next ∷ []) = starts next
-is_last starts (first ∷ second ∷ rest) = starts first || is_last starts (second ∷ rest)
-
--- by this node control leaves the function, or calls a weighty one
-abbrev pub is_outlet : (ℕ → Bool) → View → Bool
-is_outlet weighty Gives = true
-is_outlet weighty Quits = true
-is_outlet weighty (Calls function next) = weighty function
-is_outlet weighty other = false
 
 -- the slow copy owes nothing
 abbrev pub MayOwe : Side → ℕ → Type 0

@@ -1,13 +1,13 @@
--- The labels of a sampled function in the order of its nodes, and where the copies of each node stand.
-use Rattle.std.specs.Prelude.{ℕ, List, [], ◌∷◌, ◌++◌, length, Bool, true, false, if◌then◌else◌, slice_index}
-use Rattle.clone_paths.specs.declared.label.CopyLabel.{CopyLabel}
-use Rattle.clone_paths.specs.declared.label.CopyLabel.TheVariants.{Enter, Gate, Back, In, Out}
-use Rattle.clone_paths.specs.declared.label.Side.{Side}
-use Rattle.clone_paths.specs.declared.label.Side.TheVariants.{Fast, Slow}
+-- The labels of a sampled function in the order of its nodes.
+use Rattle.std.specs.Prelude.{ℕ, List, [], ◌∷◌, ◌++◌, length, Bool, true, false, if◌then◌else◌}
+use Rattle.copied_nodes.specs.declared.label.CopyLabel.{CopyLabel}
+use Rattle.copied_nodes.specs.declared.label.CopyLabel.TheVariants.{Enter, Gate, Back, In, Out}
+use Rattle.copied_nodes.specs.declared.label.Side.{Side}
+use Rattle.copied_nodes.specs.declared.label.Side.TheVariants.{Fast, Slow}
 use Rattle.clone_paths.specs.declared.parts.Outlet.{Outlet}
 use Rattle.clone_paths.specs.declared.parts.Outlet.TheVariants as outlet
 use Rattle.clone_paths.specs.declared.parts.Part.{Part}
-use Rattle.clone_paths.specs.declared.layout.Layout.{Layout}
+pub use Rattle.copied_nodes.specs.Sheet.{Sheet, place_in_copy, sheet_of}
 
 -- the outlet itself, and the return from a call
 abbrev pub out_labels : Side → ℕ → Outlet → List CopyLabel
@@ -31,18 +31,6 @@ fast_labels node part = if part.inside then [] else copy_labels Fast node part.o
 abbrev pub labels_for : Bool → ℕ → Part → List CopyLabel
 labels_for header node part = (gate_labels header node ++ copy_labels Slow node 0 false part.outlet) ++ fast_labels node part
 
--- the labels so far, and where the choice before each node and its copies stand
-pub record Sheet : Type 0 where
-  pub labels : List CopyLabel
-  pub gates : List ℕ
-  pub slow : List ℕ
-  pub fast : List ℕ
-
--- where a node stands in a copy
-abbrev pub place_in_copy : Sheet → Side → ℕ → ℕ
-place_in_copy s Fast node = slice_index s.fast node
-place_in_copy s Slow node = slice_index s.slow node
-
 -- with the labels for one node more
 abbrev pub with_node_labels : Bool → ℕ → Part → Sheet → Sheet
 with_node_labels header node part s = record {
@@ -51,9 +39,6 @@ with_node_labels header node part s = record {
   slow = s.slow ++ length (s.labels ++ gate_labels header node) ∷ [];
   fast = s.fast ++ length (s.labels ++ gate_labels header node ++ copy_labels Slow node 0 false part.outlet) ∷ [];
 }
-
-abbrev pub sheet_of : Layout → Sheet
-sheet_of l = record { labels = l.labels.items; gates = l.gates.items; slow = l.slow.items; fast = l.fast.items }
 
 -- the entry alone
 abbrev pub entry_alone : Sheet

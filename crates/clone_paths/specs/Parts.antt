@@ -1,10 +1,9 @@
 -- What the clones need to know of each node.
-use Rattle.std.specs.Prelude.{Option, None, Some, ◌≡◌, ◌⊎◌, ℕ, ◌+◌, ◌<◌, ◌≤◌, List, [], ◌∷◌, length, Bool, true, false, not, ◌&&◌, if◌then◌else◌}
-use Rattle.std.specs.Prelude.{slice_index, nat_lt}
+use Rattle.std.specs.Prelude.{Option, None, Some, ◌≡◌, ◌⊎◌, ℕ, ◌+◌, ◌<◌, ◌≤◌, List, [], ◌∷◌, length, Bool, true, false, not, if◌then◌else◌}
+use Rattle.std.specs.Prelude.{slice_index}
 use Rattle.flow.specs.declared.node.Node.{Node}
 use Rattle.flow.specs.declared.node.View.{View}
 use Rattle.flow.specs.declared.node.View.TheVariants.{Marks, Calls, Gives, Quits, Turns}
-use Rattle.flow.specs.Nodes.{led_to}
 use Rattle.regions.specs.Blocks.{NodeLeadsTo}
 use Rattle.regions.specs.Flags.{is_in}
 use Rattle.regions.specs.Weighty.{views_of}
@@ -12,7 +11,7 @@ use Rattle.weights.specs.Paths.{mark_count}
 use Rattle.clone_paths.specs.declared.parts.Outlet.{Outlet}
 use Rattle.clone_paths.specs.declared.parts.Outlet.TheVariants as outlet
 use Rattle.clone_paths.specs.declared.parts.Part.{Part}
-use Rattle.clone_paths.specs.Form.{is_last}
+pub use Rattle.copied_nodes.specs.Outlets.{is_debt_paid}
 
 -- what is owed before each node of a fast copy: the visits since its block began
 pub record AreDebts (nodes : List Node) (starts : List Bool) (debts : List ℕ) : Type 0 where
@@ -32,11 +31,6 @@ outlet_of weighty other = outlet.None
 abbrev pub is_inside : (ℕ → Bool) → View → Bool
 is_inside starts (Marks site next) = not (starts next)
 is_inside starts other = false
-
--- a node before which what is owed is paid by a node of its own
-abbrev pub is_debt_paid : (ℕ → Bool) → ℕ → View → Bool
-is_debt_paid starts owed (Marks site next) = false
-is_debt_paid starts owed v = nat_lt 0 owed && is_last starts (led_to v)
 
 abbrev pub part_of_node : (ℕ → Bool) → (ℕ → Bool) → ℕ → View → Part
 part_of_node weighty starts owed v = record { inside = is_inside starts v; owed = owed; pays = is_debt_paid starts owed v; outlet = outlet_of weighty v }

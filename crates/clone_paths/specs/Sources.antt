@@ -5,15 +5,11 @@ use Rattle.regions.specs.Flags.{AreFlags, is_in}
 use Rattle.regions.specs.Headers.{IsHeader}
 use Rattle.regions.specs.Weighty.{views_of}
 use Rattle.weights.specs.Weight.{AreWeights}
-use Rattle.clone_paths.specs.declared.nodes.Source.{Source}
+use Rattle.copied_nodes.specs.declared.nodes.Source.{Source}
 use Rattle.clone_paths.specs.Cloned.{cloned_limit}
-use Rattle.clone_paths.specs.Layout.{Sheet}
-use Rattle.clone_paths.specs.Made.{Tables, tables_of}
 use Rattle.clone_paths.specs.Parts.{HasOrder}
 use Rattle.flow.specs.Ready.{ArePlain}
-
-abbrev pub source_tables : Source → Sheet → Tables
-source_tables s sheet = tables_of s.weighty.now s.nodes.now s.starts.now s.weights.now sheet
+pub use Rattle.copied_nodes.specs.Made.{source_tables}
 
 -- all that is known of a weighty function before it is cloned
 pub record IsPrepared (s : Source) (headers : List Bool) : Type 0 where

@@ -6,8 +6,8 @@ ghost use Rattle.regions.specs.Weighty.{IsWeighty};
 ghost use Rattle.clone_paths.specs.Cloned.{Cloned, FunctionCloned, IsSmall, MayClone, StillFits};
 
 use crate::function::clone_function;
-use crate::nodes::Source;
 use cbi_base::{Memory, Seq};
+use copied_nodes::Source;
 use flow::{Function, Program, ProgramParts};
 use regions::{blocks, headers, weighty};
 use std::alloc::Global;

@@ -2,7 +2,7 @@ ghost use Rattle.std.specs.Prelude.{◌≡◌, ◌*◌, ◌≤◌, ℕ, IfOk, le
 ghost use Rattle.flow.specs.Words.{node_limit, view};
 ghost use Rattle.regions.specs.Flags.{is_in};
 ghost use Rattle.regions.specs.Rows.{EachFits};
-ghost use Rattle.clone_paths.specs.declared.label.CopyLabel.{CopyLabel};
+ghost use Rattle.copied_nodes.specs.declared.label.CopyLabel.{CopyLabel};
 ghost use Rattle.clone_paths.specs.Cloned.{FitsLike, FunctionCloned, NodesCloned, cloned_limit};
 ghost use Rattle.clone_paths.specs.Layout.{sheet_of};
 ghost use Rattle.clone_paths.specs.Made.{IsMade, IsLabelOfNode, Resolved, next_visited, parts_from, sheet_at};
@@ -10,10 +10,10 @@ ghost use Rattle.clone_paths.specs.Parts.{HasOrder};
 ghost use Rattle.clone_paths.specs.Sources.{IsPrepared, source_tables};
 
 use crate::debts::debts_of;
-use crate::layout::Layout;
-use crate::nodes::{Source, at, node_for};
+use crate::layout::{add_labels, first_labels};
 use crate::parts::part_of;
 use cbi_base::{Memory, Seq};
+use copied_nodes::{Layout, Source, at, node_for};
 use flow::{Function, Node, View, copy_of, view_of};
 use regions::is_in;
 use std::alloc::Global;
@@ -29,11 +29,11 @@ fn lay_out(
     ensures { IfOk result (λ l. sheet_of l ≡
         sheet_at (is_in headers.now) (parts_from source.now.weighty.now source.now.nodes.now source.now.starts.now debts.now) (length source.now.nodes.now)) }
 {
-    let mut layout = Layout::entry(alloc)?;
+    let mut layout = first_labels(alloc)?;
     for (place, node) in source.nodes.iter().enumerate() {
         let number = place as u32;
         let part = part_of(source.weighty, source.starts, at(debts, number), *node);
-        layout.add(is_in(headers, number), number, part)?;
+        add_labels(&mut layout, is_in(headers, number), number, part)?;
     }
     Ok(layout)
 }

@@ -1,20 +1,10 @@
-ghost use Rattle.std.specs.Prelude.{◌≡◌, ◌++◌, ◌≤◌, ◌<◌, ◌^◌, IfOk, OnOk, length};
+ghost use Rattle.std.specs.Prelude.{◌≡◌, ◌++◌, ◌≤◌, IfOk, OnOk, length};
 ghost use Rattle.clone_paths.specs.Layout.{copy_labels, entry_alone, fast_labels, gate_labels, with_node_labels, out_labels, sheet_of};
 
-use crate::label::{CopyLabel, Side};
 use crate::parts::{Outlet, Part};
 use cbi_base::Memory;
+use copied_nodes::{CopyLabel, Layout, Side};
 use std::alloc::Global;
-
-/// The labels of a sampled function in the order of its nodes, and for each node of the original one the places of the choice before it, of
-/// its slow copy and of its fast copy.
-#[derive(Drop)]
-pub(crate) struct Layout {
-    pub labels: Vec<CopyLabel>,
-    pub gates: Vec<u32>,
-    pub slow: Vec<u32>,
-    pub fast: Vec<u32>,
-}
 
 /// Adds the outlet itself, and the return from a call.
 fn push_out(
@@ -75,31 +65,34 @@ fn push_fast(labels: &mut Vec<CopyLabel>, node: u32, part: Part) -> Result<(), M
     Ok(())
 }
 
-impl Layout {
-    /// The entry, and no node of the original function yet.
-    pub(crate) fn entry(alloc: Global) -> Result<Layout, Memory>
-        ensures { IfOk result (λ l. sheet_of l ≡ entry_alone) }
-    {
-        let labels = vec![in alloc; CopyLabel::Enter]?;
-        Ok(Layout {
-            labels,
-            gates: Vec::new(alloc),
-            slow: Vec::new(alloc),
-            fast: Vec::new(alloc),
-        })
-    }
+/// The entry, and no node of the original function yet.
+pub(crate) fn first_labels(alloc: Global) -> Result<Layout, Memory>
+    ensures { IfOk result (λ l. sheet_of l ≡ entry_alone) }
+{
+    let labels = vec![in alloc; CopyLabel::Enter]?;
+    Ok(Layout {
+        labels,
+        gates: Vec::new(alloc),
+        slow: Vec::new(alloc),
+        fast: Vec::new(alloc),
+    })
+}
 
-    /// Adds the labels for the next node.
-    pub(crate) fn add(&mut self, header: bool, node: u32, part: Part) -> Result<(), Memory>
-        requires { length self.old.labels.items ≤ 16000000 }
-        ensures { OnOk result (sheet_of self.new ≡ with_node_labels header node part (sheet_of self.old)) }
-    {
-        self.gates.push(self.labels.len() as u32)?;
-        push_gate(&mut self.labels, header, node)?;
-        self.slow.push(self.labels.len() as u32)?;
-        push_copy(&mut self.labels, Side::Slow, node, 0, false, part.outlet)?;
-        self.fast.push(self.labels.len() as u32)?;
-        push_fast(&mut self.labels, node, part)?;
-        Ok(())
-    }
+/// Adds the labels for the next node.
+pub(crate) fn add_labels(
+    layout: &mut Layout,
+    header: bool,
+    node: u32,
+    part: Part,
+) -> Result<(), Memory>
+    requires { length layout.old.labels.items ≤ 16000000 }
+    ensures { OnOk result (sheet_of layout.new ≡ with_node_labels header node part (sheet_of layout.old)) }
+{
+    layout.gates.push(layout.labels.len() as u32)?;
+    push_gate(&mut layout.labels, header, node)?;
+    layout.slow.push(layout.labels.len() as u32)?;
+    push_copy(&mut layout.labels, Side::Slow, node, 0, false, part.outlet)?;
+    layout.fast.push(layout.labels.len() as u32)?;
+    push_fast(&mut layout.labels, node, part)?;
+    Ok(())
 }

@@ -4,10 +4,8 @@
 mod clones;
 mod debts;
 mod function;
-mod label;
 mod layout;
-mod nodes;
 mod parts;
 
 pub use clones::clone_program;
-pub use label::{CopyLabel, Side};
+pub use copied_nodes::{CopyLabel, Side};

@@ -10,10 +10,10 @@ use Rattle.regions.specs.Rows.{EachFits}
 use Rattle.regions.proofs.Within.{no_node}
 use Rattle.lower_relation.specs.Stands.{renumbered_view}
 use Rattle.compiler_exists.proofs.Turning.{turned_node, view_turned}
-use Rattle.clone_paths.specs.declared.label.CopyLabel.{CopyLabel}
-use Rattle.clone_paths.specs.declared.label.CopyLabel.TheVariants.{Enter, Gate, Back, In, Out}
-use Rattle.clone_paths.specs.declared.label.Side.{Side}
-use Rattle.clone_paths.specs.declared.label.Side.TheVariants.{Fast, Slow}
+use Rattle.copied_nodes.specs.declared.label.CopyLabel.{CopyLabel}
+use Rattle.copied_nodes.specs.declared.label.CopyLabel.TheVariants.{Enter, Gate, Back, In, Out}
+use Rattle.copied_nodes.specs.declared.label.Side.{Side}
+use Rattle.copied_nodes.specs.declared.label.Side.TheVariants.{Fast, Slow}
 use Rattle.clone_paths.specs.Form.{is_outlet}
 use Rattle.clone_paths.specs.Layout.{place_in_copy}
 use Rattle.clone_paths.specs.Made.{IsMade, IsLabelOfNode, Tables, made_node, made_free, made_in, made_out, made_same, made_visit}

@@ -1,18 +1,14 @@
 -- What the fields of a node's line are read as, by a plain body. A field that is a number has 32 bits.
-use Rattle.std.specs.Prelude.{ℕ, if◌then◌else◌, ℤ, List, [], ◌∷◌, Option, None, Some, codes}
+use Rattle.std.specs.Prelude.{ℕ, if◌then◌else◌, List, [], ◌∷◌, Option, None, Some, codes}
 use Rattle.std.specs.Option.{option_map}
-use Rattle.cbi_base.specs.Words.{is_word, number_of, signed_of, one_number, two_numbers, greatest_u32, lies_in}
+use Rattle.cbi_base.specs.Words.{is_word, number_of, one_number, two_numbers, greatest_u32}
 use Rattle.cbi_base.specs.Numbers.{◌>>=◌}
-use Rattle.cbi_base.specs.declared.scalar.Kind.TheVariants.{Int}
 use Rattle.flow.specs.declared.node.Node.{Node}
-use Rattle.flow.specs.declared.node.Node.TheVariants.{Push, Null, Local, Global, Text, Load, Store, Move, Member, Span, Math, Order, Sole, Convert, Dup}
+use Rattle.flow.specs.declared.node.Node.TheVariants.{Null, Local, Global, Text, Load, Store, Move, Member, Span, Math, Order, Sole, Convert, Dup}
 use Rattle.flow.specs.declared.node.Node.TheVariants.{Drop, Swap, Over, Pass, Fork, Again, Call, Return, Leave, Get, Put, Puts, Format, Alloc, Free, Exit}
 use Rattle.flow.specs.declared.node.Node.TheVariants.{Abort, Check, Clear, Zero, Spell, Mark, Skip, Test, Choose, Import, Export}
 use Rattle.program_lines.specs.Words.{kind_of, want_of, binary_of, order_of, unary_of}
-
--- the number of an `int` whose decimal the field is
-abbrev pub int_of : List ℕ → Option ℤ
-int_of field = signed_of field >>= λ value. if lies_in Int value then Some value else None
+pub use Rattle.value_lines.specs.ValueLines.{int_of, node_with_word, push_of}
 
 -- no field, one or two numbers, or three
 abbrev pub node_without_fields : Node → List (List ℕ) → Option Node
@@ -28,17 +24,6 @@ node_with_two_numbers make fields = option_map (λ pair. make pair.0 pair.1) (tw
 abbrev pub node_with_three_numbers : (ℕ → ℕ → ℕ → Node) → List (List ℕ) → Option Node
 node_with_three_numbers make [] = None
 node_with_three_numbers make (field ∷ rest) = number_of greatest_u32 field >>= λ first. option_map (λ pair. make first pair.0 pair.1) (two_numbers rest)
-
--- a word, and the number of the successor
-abbrev pub node_with_word : {A : Type 0} → (List ℕ → Option A) → (A → ℕ → Node) → List (List ℕ) → Option Node
-node_with_word read make [] = None
-node_with_word read make (field ∷ rest) = read field >>= λ a. option_map (make a) (one_number rest)
-
--- the fields after `push`: a kind, a value and the successor
-abbrev pub push_of : List (List ℕ) → Option Node
-push_of [] = None
-push_of (kind ∷ []) = None
-push_of (kind ∷ value ∷ rest) = kind_of kind >>= λ k. signed_of value >>= λ v. option_map (Push k v) (one_number rest)
 
 -- the fields after `zero`: a local, what its cells hold, and the successor
 abbrev pub zero_of : List (List ℕ) → Option Node

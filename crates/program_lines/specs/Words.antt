@@ -2,8 +2,6 @@
 use Rattle.std.specs.Prelude.{ℕ, Bool, true, false, if◌then◌else◌, List, Option, None, Some, codes}
 use Rattle.std.specs.Option.{option_map}
 use Rattle.cbi_base.specs.Numbers.{is_word}
-use Rattle.cbi_base.specs.declared.scalar.Kind.{Kind}
-use Rattle.cbi_base.specs.declared.scalar.Kind.TheVariants.{Char, Int, Unsigned}
 use Rattle.cbi_base.specs.declared.scalar.Want.{Want}
 use Rattle.cbi_base.specs.declared.scalar.Want.TheVariants.{Number, Pointer}
 use Rattle.cbi_base.specs.declared.operators.Binary.{Binary}
@@ -12,13 +10,7 @@ use Rattle.cbi_base.specs.declared.operators.Order.{Order}
 use Rattle.cbi_base.specs.declared.operators.Order.TheVariants as order
 use Rattle.cbi_base.specs.declared.operators.Unary.{Unary}
 use Rattle.cbi_base.specs.declared.operators.Unary.TheVariants.{Neg, Com, Not}
-
--- the kind with this letter
-unfoldable pub kind_of : List ℕ → Option Kind
-kind_of field =
-    if is_word field (codes "c")
-    then Some Char
-    else (if is_word field (codes "i") then Some Int else (if is_word field (codes "u") then Some Unsigned else None))
+unfoldable pub use Rattle.value_lines.specs.ValueLines.{kind_of}
 
 -- what a load wants
 unfoldable pub want_of : List ℕ → Option Want

@@ -10,7 +10,7 @@ use std::alloc::Global;
 use std::marker::Model;
 
 /// A run of equal cells. Contracts see it as it is spelled.
-#[derive(Debug, Drop)]
+#[derive(Drop)]
 struct CellRun {
     count: u32,
     cell: Cell,

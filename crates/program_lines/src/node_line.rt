@@ -2,24 +2,14 @@ ghost use Rattle.std.specs.Prelude.{◌≡◌};
 ghost use Rattle.cbi_base.specs.Numbers.{one_number};
 ghost use Rattle.program_lines.specs.Words.{kind_of, want_of, binary_of, order_of, unary_of};
 ghost use Rattle.program_lines.specs.NodeLines.{node_of, valued_node, paired_node, worded_node, plain_node, bare_node, threefold_node, control_node};
-ghost use Rattle.program_lines.specs.NodeLines.{outer_node, push_of, zero_of, int_of, node_with_word, node_with_three_numbers};
-ghost use Rattle.flow.specs.declared.node.Node.TheVariants.{Load, Math, Order, Sole, Convert, Move, Format, Spell, Choose};
+ghost use Rattle.program_lines.specs.NodeLines.{outer_node, zero_of, node_with_word, node_with_three_numbers};
+ghost use Rattle.flow.specs.declared.node.Node.TheVariants.{Load, Math, Order, Sole, Convert, Format, Spell, Choose};
 
 use crate::operations::{binary, order, unary};
-use crate::words::{int, kind, want};
-use cbi_base::{Fields, one_number, read_number, read_signed, two_numbers};
+use crate::words::want;
+use cbi_base::{Fields, one_number, read_number, two_numbers};
 use flow::Node;
-
-fn push(fields: &mut Fields<'_>) -> Option<Node>
-    ensures { result ≡ push_of fields.old }
-{
-    let first = fields.next()?;
-    let second = fields.next()?;
-    let kind = kind(first)?;
-    let value = read_signed(second)?;
-    let next = one_number(fields)?;
-    Some(Node::Push { kind, value, next })
-}
+use value_lines::{read_kind, read_move, read_push};
 
 fn zero(fields: &mut Fields<'_>) -> Option<Node>
     ensures { result ≡ zero_of fields.old }
@@ -30,14 +20,6 @@ fn zero(fields: &mut Fields<'_>) -> Option<Node>
     let want = want(second)?;
     let next = one_number(fields)?;
     Some(Node::Zero { index, want, next })
-}
-
-fn moving(fields: &mut Fields<'_>) -> Option<Node>
-    ensures { result ≡ node_with_word int_of Move fields.old }
-{
-    let size = int(fields.next()?)?;
-    let next = one_number(fields)?;
-    Some(Node::Move { size, next })
 }
 
 fn load(fields: &mut Fields<'_>) -> Option<Node>
@@ -75,7 +57,7 @@ fn sole(fields: &mut Fields<'_>) -> Option<Node>
 fn conversion(fields: &mut Fields<'_>) -> Option<Node>
     ensures { result ≡ node_with_word kind_of Convert fields.old }
 {
-    let kind = kind(fields.next()?)?;
+    let kind = read_kind(fields.next()?)?;
     let next = one_number(fields)?;
     Some(Node::Convert { kind, next })
 }
@@ -318,10 +300,10 @@ fn valued_node(word: &[u8], fields: &mut Fields<'_>) -> Option<Node>
     ensures { result ≡ valued_node word.now fields.old }
 {
     if word == b"push".as_slice() {
-        return push(fields);
+        return read_push(fields);
     }
     if word == b"move".as_slice() {
-        return moving(fields);
+        return read_move(fields);
     }
     if word == b"zero".as_slice() {
         return zero(fields);

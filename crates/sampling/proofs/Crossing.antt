@@ -8,9 +8,9 @@ use Rattle.flow.specs.declared.node.View.TheVariants.{Calls, Gives, Quits, Marks
 use Rattle.flow.specs.Nodes.{led_to}
 use Rattle.regions.specs.Blocks.{ends_block}
 use Rattle.weights.specs.Paths.{mark_count}
-use Rattle.clone_paths.specs.declared.label.CopyLabel.TheVariants.{Out}
-use Rattle.clone_paths.specs.declared.label.Side.{Side}
-use Rattle.clone_paths.specs.declared.label.Side.TheVariants.{Fast, Slow}
+use Rattle.copied_nodes.specs.declared.label.CopyLabel.TheVariants.{Out}
+use Rattle.copied_nodes.specs.declared.label.Side.{Side}
+use Rattle.copied_nodes.specs.declared.label.Side.TheVariants.{Fast, Slow}
 use Rattle.clone_paths.specs.Form.{Cloning, IsOwingNothing, IsNodeInCopy, IsOwing, IsSame, IsVisit, StandsForNode, MayOwe, is_last, is_outlet}
 
 -- control passes the node: it leaves the copy, or stays in it, where nothing is owed once the block ends

@@ -10,8 +10,8 @@ use Rattle.flow.specs.declared.node.View.{View}
 use Rattle.flow.specs.declared.node.View.TheVariants.{Picks, Imports}
 use Rattle.flow.specs.Words.{left_with_value, give_to, left_without_value, caller_resumed, path_picked, next_of, Now, Lacks, Taken, Takes, Frame, Next, On, State, Watch, run_ended}
 use Rattle.weights.specs.Weight.{IsWeight}
-use Rattle.clone_paths.specs.declared.label.CopyLabel.TheVariants.{Back, Enter, Gate}
-use Rattle.clone_paths.specs.declared.label.Side.TheVariants.{Fast, Slow}
+use Rattle.copied_nodes.specs.declared.label.CopyLabel.TheVariants.{Back, Enter, Gate}
+use Rattle.copied_nodes.specs.declared.label.Side.TheVariants.{Fast, Slow}
 use Rattle.clone_paths.specs.Form.{StandsForNode}
 use Rattle.sampling.specs.Copies.{AreCopies, Copies, cloning, sampled_code}
 use Rattle.sampling.specs.Follows.{Copied, IsAbove, OwnState, Returns, Spot, Waits, Weightless, sampled_state, frames_at_spots}

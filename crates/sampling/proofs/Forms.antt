@@ -19,8 +19,8 @@ use Rattle.regions.specs.Blocks.{After, ends_block}
 use Rattle.regions.specs.Flags.{AreFlags, is_in}
 use Rattle.regions.specs.Weighty.{HasSite, IsWeighty, Own, Through}
 use Rattle.regions.proofs.FlagLemmas.{in_within}
-use Rattle.clone_paths.specs.declared.label.CopyLabel.{CopyLabel}
-use Rattle.clone_paths.specs.declared.label.CopyLabel.TheVariants.{Enter}
+use Rattle.copied_nodes.specs.declared.label.CopyLabel.{CopyLabel}
+use Rattle.copied_nodes.specs.declared.label.CopyLabel.TheVariants.{Enter}
 use Rattle.clone_paths.specs.Cloned.{FunctionCloned, MayClone}
 use Rattle.clone_paths.specs.Form.{IsAsLabelled}
 use Rattle.sampling.specs.Copies.{AreCopies, Copies}

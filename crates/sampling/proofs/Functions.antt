@@ -9,9 +9,9 @@ use Rattle.flow.specs.declared.node.View.TheVariants.{Turns, Calls, Picks, Impor
 use Rattle.flow.specs.Words.{view_at, led_to}
 use Rattle.regions.specs.Blocks.{After}
 use Rattle.regions.specs.Weighty.{views_of}
-use Rattle.clone_paths.specs.declared.label.CopyLabel.{CopyLabel}
-use Rattle.clone_paths.specs.declared.label.CopyLabel.TheVariants.{Enter, Gate, In, Out}
-use Rattle.clone_paths.specs.declared.label.Side.TheVariants.{Fast}
+use Rattle.copied_nodes.specs.declared.label.CopyLabel.{CopyLabel}
+use Rattle.copied_nodes.specs.declared.label.CopyLabel.TheVariants.{Enter, Gate, In, Out}
+use Rattle.copied_nodes.specs.declared.label.Side.TheVariants.{Fast}
 use Rattle.weights.specs.Paths.{next_nodes}
 use Rattle.clone_paths.specs.Cloned.{NodesCloned, cloning_of}
 use Rattle.clone_paths.specs.Form.{Cloning}

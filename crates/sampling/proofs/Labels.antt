@@ -6,10 +6,10 @@ use Rattle.flow.specs.declared.node.View.{View}
 use Rattle.flow.specs.declared.node.View.TheVariants.{Row, Halts, Forks, Turns, Calls, Gives, Quits, Skips, Picks, Imports, Exports}
 use Rattle.flow.specs.Nodes.{led_to}
 use Rattle.regions.specs.Blocks.{ends_block}
-use Rattle.clone_paths.specs.declared.label.CopyLabel.{CopyLabel}
-use Rattle.clone_paths.specs.declared.label.CopyLabel.TheVariants.{Enter, Gate, Back, In, Out}
-use Rattle.clone_paths.specs.declared.label.Side.{Side}
-use Rattle.clone_paths.specs.declared.label.Side.TheVariants.{Fast, Slow}
+use Rattle.copied_nodes.specs.declared.label.CopyLabel.{CopyLabel}
+use Rattle.copied_nodes.specs.declared.label.CopyLabel.TheVariants.{Enter, Gate, Back, In, Out}
+use Rattle.copied_nodes.specs.declared.label.Side.{Side}
+use Rattle.copied_nodes.specs.declared.label.Side.TheVariants.{Fast, Slow}
 use Rattle.clone_paths.specs.Form.{Cloning, Here, IsOutletInCopy, IsAsLabelled, IsSame, StandsForNode, Owed, is_last, is_outlet}
 use Rattle.sampling.specs.Choices.{calls_weighty, is_choice, is_import, opens_region}
 use Rattle.sampling.specs.FastCopies.{LooksAtNothing, side_of}

@@ -7,9 +7,9 @@ use Rattle.flow.specs.declared.node.View.TheVariants.{Row, Halts, Forks, Turns, 
 use Rattle.flow.specs.Words.{call, has_result, params_of, caller_waiting, at_node, next_of, Now, value_taken, operands_taken, row_effect, Frame, On, State}
 use Rattle.regions.specs.Blocks.{ends_block}
 use Rattle.weights.specs.Paths.{mark_count, next_nodes}
-use Rattle.clone_paths.specs.declared.label.CopyLabel.TheVariants.{Back, Out}
-use Rattle.clone_paths.specs.declared.label.Side.{Side}
-use Rattle.clone_paths.specs.declared.label.Side.TheVariants.{Fast, Slow}
+use Rattle.copied_nodes.specs.declared.label.CopyLabel.TheVariants.{Back, Out}
+use Rattle.copied_nodes.specs.declared.label.Side.{Side}
+use Rattle.copied_nodes.specs.declared.label.Side.TheVariants.{Fast, Slow}
 use Rattle.clone_paths.specs.Form.{IsOutletInCopy, IsSame, StandsForNode, MayOwe, is_outlet}
 use Rattle.sampling.specs.Copies.{AreCopies, Copies, cloning}
 use Rattle.sampling.specs.Follows.{Copied, Follows, IsAbove, MayRun, OwnState, Returns, Spot, RunsBeside, Waits, sampled_state}

@@ -11,8 +11,8 @@ use Rattle.flow.specs.declared.node.View.TheVariants.{Skips}
 use Rattle.flow.specs.Words.{visits_skipped, next_of, led_to, Next, On, State, run_ended}
 use Rattle.regions.specs.Blocks.{ends_block}
 use Rattle.weights.specs.Paths.{mark_count}
-use Rattle.clone_paths.specs.declared.label.CopyLabel.TheVariants.{In}
-use Rattle.clone_paths.specs.declared.label.Side.{Side}
+use Rattle.copied_nodes.specs.declared.label.CopyLabel.TheVariants.{In}
+use Rattle.copied_nodes.specs.declared.label.Side.{Side}
 use Rattle.clone_paths.specs.Form.{Here, IsNodeInCopy, IsOwing, IsSame, StandsForNode, MayOwe, Owed, is_last}
 use Rattle.sampling.specs.Copies.{AreCopies, Copies, cloning}
 use Rattle.sampling.specs.Follows.{OwnState, sampled_state}

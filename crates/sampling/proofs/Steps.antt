@@ -3,8 +3,8 @@ use Rattle.std.proofs.Common.{◌≡◌, inl, inr, ℕ, ◌+◌, Bool, false, �
 use Rattle.flow.specs.declared.node.View.{View}
 use Rattle.flow.specs.declared.node.View.TheVariants.{Row, Halts, Forks, Turns, Calls, Gives, Quits, Marks, Nowhere}
 use Rattle.flow.specs.Words.{call, has_result, params_of, caller_waiting, at_node, next_of, step, Now, value_taken, operands_taken, row_effect, IsPositive, Frame, On, State, IsPlain}
-use Rattle.clone_paths.specs.declared.label.CopyLabel.TheVariants.{In}
-use Rattle.clone_paths.specs.declared.label.Side.{Side}
+use Rattle.copied_nodes.specs.declared.label.CopyLabel.TheVariants.{In}
+use Rattle.copied_nodes.specs.declared.label.Side.{Side}
 use Rattle.clone_paths.specs.Form.{Here, IsNodeInCopy, IsVisit, StandsForNode, Owed}
 use Rattle.sampling.specs.Copies.{AreCopies, Copies, cloning}
 use Rattle.sampling.specs.Follows.{Copied, Follows, OwnState, Returns, Spot, RunsBeside, Waits, Weightless, sampled_state}

@@ -6,8 +6,8 @@ use Rattle.cbi_base.specs.declared.trap.Trap.{Trap}
 use Rattle.flow.specs.declared.node.View.TheVariants.{Forks, Marks, Skips, Tests}
 use Rattle.flow.specs.Words.{at_node, countdown_lowered, seen_or_trapped, countdown_drawn, with_seen, with_test, next_of, IsPositive, Next, On, State, run_ended, sees_now}
 use Rattle.weights.specs.Paths.{mark_count}
-use Rattle.clone_paths.specs.declared.label.Side.{Side}
-use Rattle.clone_paths.specs.declared.label.Side.TheVariants.{Fast, Slow}
+use Rattle.copied_nodes.specs.declared.label.Side.{Side}
+use Rattle.copied_nodes.specs.declared.label.Side.TheVariants.{Fast, Slow}
 use Rattle.clone_paths.specs.Form.{IsVisit, StandsForNode, MayOwe}
 use Rattle.sampling.specs.Copies.{AreCopies, Copies, cloning, sampled_code}
 use Rattle.sampling.specs.Follows.{Copied, IsAbove, MayRun, OwnState, Returns, sampled_state}

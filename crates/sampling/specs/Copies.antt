@@ -4,8 +4,8 @@ use Rattle.flow.specs.declared.node.View.{View}
 use Rattle.flow.specs.declared.node.View.TheVariants.{Calls, Marks}
 use Rattle.flow.specs.Words.{Code, led_to, BranchesFork, IsPlain}
 use Rattle.regions.specs.Blocks.{ends_block}
-use Rattle.clone_paths.specs.declared.label.CopyLabel.{CopyLabel}
-use Rattle.clone_paths.specs.declared.label.CopyLabel.TheVariants.{Enter}
+use Rattle.copied_nodes.specs.declared.label.CopyLabel.{CopyLabel}
+use Rattle.copied_nodes.specs.declared.label.CopyLabel.TheVariants.{Enter}
 use Rattle.clone_paths.specs.Form.{Cloning, IsAsLabelled}
 
 -- the code of the program, and which functions are weighty; by function, where blocks begin, what the nodes of the sampled program are labelled,

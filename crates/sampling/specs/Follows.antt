@@ -3,9 +3,9 @@
 use Rattle.std.specs.Prelude.{◌≡◌, ℕ, ◌+◌, ◌<◌, List, [], ◌∷◌, true, false, Option, None, Some}
 use Rattle.flow.specs.State.{Frame, State, Watch}
 use Rattle.weights.specs.Paths.{IsPath, marks_on}
-use Rattle.clone_paths.specs.declared.label.CopyLabel.TheVariants.{Back}
-use Rattle.clone_paths.specs.declared.label.Side.{Side}
-use Rattle.clone_paths.specs.declared.label.Side.TheVariants.{Fast, Slow}
+use Rattle.copied_nodes.specs.declared.label.CopyLabel.TheVariants.{Back}
+use Rattle.copied_nodes.specs.declared.label.Side.{Side}
+use Rattle.copied_nodes.specs.declared.label.Side.TheVariants.{Fast, Slow}
 use Rattle.clone_paths.specs.Form.{StandsForNode, MayOwe}
 use Rattle.sampling.specs.Copies.{Copies, cloning}
 use Rattle.sampling.specs.Tally.{Tally}

@@ -1,3 +1,4 @@
+#include <errno.h>
 int __cbi_all_digits(char *text, unsigned long long a, int *point) {
     unsigned limb[290]; int count = 0; int length = 0; int n; int k; int e = __cbi_double_exponent(a); unsigned by; unsigned carry; unsigned d; unsigned long long m = __cbi_double_mantissa(a);
     if (m == 0) { text[0] = '0'; *point = 1; return 1; }
@@ -29,7 +30,7 @@ int __cbi_rounded(char *text, int length, int keep, int *point) {
     return keep + 1;
 }
 void __cbi_real(struct __cbi_sink *to, unsigned long long a, int letter, int flags, int width, int most, const char *sign) {
-    char text[1120]; int point = 1; int length; int x; int n; int size; int style = 0; int upper = letter == 'E' || letter == 'F' || letter == 'G'; int dot; const char *word;
+    char text[1120]; int point = 1; int length; int x; int n; int size; int style = 0; int upper = letter == 'A' || letter == 'E' || letter == 'F' || letter == 'G'; int dot; const char *word;
     if (a >> 63) sign = "-";
     size = *sign != 0;
     if (__cbi_double_is_nan(a) || __cbi_double_is_infinite(a)) {
@@ -131,27 +132,60 @@ unsigned long long __cbi_word_value(const char *s, const char **end) {
     *end = 0;
     return 0;
 }
+unsigned long long __cbi_hex_digits(const char *s, const char **end, int *e) {
+    unsigned long long m = 0; int after = 0; int any = 0; int d; int k = 0; int minus; const char *from;
+    *e = 0;
+    while ((d = __cbi_digit(*s)) < 16 || *s == '.' && !after) {
+        if (*s == '.') after = 1;
+        else {
+            any = 1;
+            if (m >> 60) { if (d) m = m | 1; if (!after) *e = *e + 4; }
+            else { m = m << 4 | d; if (after) *e = *e - 4; }
+        }
+        s++;
+    }
+    *end = any ? s : 0;
+    if ((*s | 32) == 'p') {
+        from = s + 1; minus = *from == '-';
+        if (*from == '-' || *from == '+') from++;
+        if (any && *from >= '0' && *from <= '9') { while (*from >= '0' && *from <= '9') { if (k < 100000) k = k * 10 + (*from - '0'); from++; } *e = *e + (minus ? -k : k); *end = from; }
+    }
+    return m;
+}
+unsigned long long __cbi_number_value(const char *at, const char **end, int *e) {
+    unsigned long long m;
+    if (*at != '0' || (at[1] | 32) != 'x') return __cbi_decimal_value(at, end, e);
+    m = __cbi_hex_digits(at + 2, end, e);
+    if (!*end) *end = at + 1;
+    return m;
+}
+void __cbi_told_range(unsigned long long m, int e, int least, int great, int small) {
+    int shift = least - e;
+    if (great || m && small && shift > 0 && (shift > 63 || m & (1ULL << shift) - 1)) errno = ERANGE;
+}
 double strtod(const char *s, char **end) {
-    const char *at = s; const char *stop; int minus; int e; unsigned long long m;
+    const char *at = s; const char *stop; int minus; int e; unsigned long long m; unsigned long long bits;
     while (*at == ' ' || *at >= 9 && *at <= 13) at++;
     minus = *at == '-';
     if (*at == '-' || *at == '+') at++;
-    if (*at == '0' && (at[1] | 32) == 'x') abort();
-    m = __cbi_decimal_value(at, &stop, &e);
+    m = __cbi_number_value(at, &stop, &e);
     if (!stop) { m = __cbi_word_value(at, &stop); if (end) *end = (char *)(stop ? stop : s); return __cbi_of_bits(m | (unsigned long long)(minus && stop) << 63); }
     if (end) *end = (char *)stop;
-    return __cbi_of_bits(__cbi_double_pack(minus, e, m));
+    bits = __cbi_double_pack(minus, e, m);
+    __cbi_told_range(m, e, -1074, (bits >> 52 & 2047) == 2047, (bits >> 52 & 2047) == 0);
+    return __cbi_of_bits(bits);
 }
 float __cbi_single_value(const char *s, char **end) {
-    const char *at = s; const char *stop; int minus; int e; unsigned long long m;
+    const char *at = s; const char *stop; int minus; int e; unsigned long long m; unsigned bits;
     while (*at == ' ' || *at >= 9 && *at <= 13) at++;
     minus = *at == '-';
     if (*at == '-' || *at == '+') at++;
-    if (*at == '0' && (at[1] | 32) == 'x') abort();
-    m = __cbi_decimal_value(at, &stop, &e);
+    m = __cbi_number_value(at, &stop, &e);
     if (!stop) return (float)strtod(s, end);
     if (end) *end = (char *)stop;
-    return __cbi_of_single(__cbi_single_pack(minus, e, m));
+    bits = __cbi_single_pack(minus, e, m);
+    __cbi_told_range(m, e, -149, (bits >> 23 & 255u) == 255u, (bits >> 23 & 255u) == 0u);
+    return __cbi_of_single(bits);
 }
 float strtof(const char *s, char **end) { return __cbi_single_value(s, end); }
 double strtold(const char *s, char **end) { return strtod(s, end); }

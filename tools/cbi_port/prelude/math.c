@@ -24,21 +24,6 @@ double ldexp(double x, int n) { unsigned long long a = __cbi_bits(x); if (!__cbi
 double scalbn(double x, int n) { return ldexp(x, n); }
 double frexp(double x, int *n) { unsigned long long a = __cbi_bits(x); unsigned long long m; int e; *n = 0; if (!__cbi_double_is(a) || (a >> 52 & 2047) == 2047) return x; e = __cbi_double_exponent(a); m = __cbi_double_mantissa(a); while (!(m >> 52)) { m = m << 1; e--; } *n = e + 53; return __cbi_of_bits(__cbi_double_pack((unsigned)(a >> 63), -53, m)); }
 double modf(double x, double *whole) { double t = trunc(x); *whole = t; if (x - x != 0) return x != x ? x : copysign(0, x); return copysign(x - t, x); }
-float fabsf(float x) { return (float)fabs(x); }
-float sqrtf(float x) { return (float)sqrt(x); }
-float floorf(float x) { return (float)floor(x); }
-float ceilf(float x) { return (float)ceil(x); }
-float truncf(float x) { return (float)trunc(x); }
-float roundf(float x) { return (float)round(x); }
-float fmodf(float x, float y) { return (float)fmod(x, y); }
-float fminf(float x, float y) { return (float)fmin(x, y); }
-float fmaxf(float x, float y) { return (float)fmax(x, y); }
-float copysignf(float x, float y) { return (float)copysign(x, y); }
-float ldexpf(float x, int n) { return (float)ldexp(x, n); }
-double fabsl(double x) { return fabs(x); }
-double sqrtl(double x) { return sqrt(x); }
-double floorl(double x) { return floor(x); }
-double ceill(double x) { return ceil(x); }
 double nan(const char *tag) { return __cbi_quiet(); }
 int isnormal(double x) { int e = (int)(__cbi_bits(x) >> 52 & 2047); return e != 0 && e != 2047; }
 int isunordered(double x, double y) { return x != x || y != y; }
@@ -47,3 +32,52 @@ int islessequal(double x, double y) { return x <= y; }
 int isgreater(double x, double y) { return x > y; }
 int isgreaterequal(double x, double y) { return x >= y; }
 int islessgreater(double x, double y) { return x < y || x > y; }
+long long llrint(double x) { return (long long)rint(x); }
+double scalbln(double x, long n) { return ldexp(x, n > 5000 ? 5000 : n < -5000 ? -5000 : n); }
+int fpclassify(double x) { unsigned long long a = __cbi_bits(x); int e = (int)(a >> 52 & 2047); if (e == 2047) return __cbi_double_is_nan(a) ? 0 : 1; if (e) return 4; return __cbi_double_is(a) ? 3 : 2; }
+float fabsf(float x) { return (float)fabs(x); }
+float truncf(float x) { return (float)trunc(x); }
+float floorf(float x) { return (float)floor(x); }
+float ceilf(float x) { return (float)ceil(x); }
+float roundf(float x) { return (float)round(x); }
+float rintf(float x) { return (float)rint(x); }
+float nearbyintf(float x) { return (float)nearbyint(x); }
+float sqrtf(float x) { return (float)sqrt(x); }
+float copysignf(float x, float y) { return (float)copysign(x, y); }
+float fminf(float x, float y) { return (float)fmin(x, y); }
+float fmaxf(float x, float y) { return (float)fmax(x, y); }
+float fdimf(float x, float y) { return (float)fdim(x, y); }
+float fmodf(float x, float y) { return (float)fmod(x, y); }
+long lroundf(float x) { return lround(x); }
+long long llroundf(float x) { return llround(x); }
+long lrintf(float x) { return lrint(x); }
+long long llrintf(float x) { return llrint(x); }
+float ldexpf(float x, int n) { return (float)ldexp(x, n); }
+float scalbnf(float x, int n) { return (float)scalbn(x, n); }
+float scalblnf(float x, long n) { return (float)scalbln(x, n); }
+float frexpf(float x, int *n) { return (float)frexp(x, n); }
+float modff(float x, float *whole) { double t; double rest = modf(x, &t); *whole = (float)t; return (float)rest; }
+float nanf(const char *tag) { return (float)__cbi_quiet(); }
+long double fabsl(long double x) { return (long double)fabs(x); }
+long double truncl(long double x) { return (long double)trunc(x); }
+long double floorl(long double x) { return (long double)floor(x); }
+long double ceill(long double x) { return (long double)ceil(x); }
+long double roundl(long double x) { return (long double)round(x); }
+long double rintl(long double x) { return (long double)rint(x); }
+long double nearbyintl(long double x) { return (long double)nearbyint(x); }
+long double sqrtl(long double x) { return (long double)sqrt(x); }
+long double copysignl(long double x, long double y) { return (long double)copysign(x, y); }
+long double fminl(long double x, long double y) { return (long double)fmin(x, y); }
+long double fmaxl(long double x, long double y) { return (long double)fmax(x, y); }
+long double fdiml(long double x, long double y) { return (long double)fdim(x, y); }
+long double fmodl(long double x, long double y) { return (long double)fmod(x, y); }
+long lroundl(long double x) { return lround(x); }
+long long llroundl(long double x) { return llround(x); }
+long lrintl(long double x) { return lrint(x); }
+long long llrintl(long double x) { return llrint(x); }
+long double ldexpl(long double x, int n) { return (long double)ldexp(x, n); }
+long double scalbnl(long double x, int n) { return (long double)scalbn(x, n); }
+long double scalblnl(long double x, long n) { return (long double)scalbln(x, n); }
+long double frexpl(long double x, int *n) { return (long double)frexp(x, n); }
+long double modfl(long double x, long double *whole) { double t; double rest = modf(x, &t); *whole = (long double)t; return (long double)rest; }
+long double nanl(const char *tag) { return (long double)__cbi_quiet(); }

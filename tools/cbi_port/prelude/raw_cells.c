@@ -3,7 +3,7 @@ struct cbi_int { int value; };
 struct cbi_unsigned { unsigned value; };
 void *cbi_malloc(unsigned count) {
     int *at = malloc(count + 1);
-    if (at == NULL || count == 0) return NULL;
+    if (at == NULL) return NULL;
     *at = count;
     return at + 1;
 }

@@ -27,4 +27,3 @@ char *strdup(const char *s) { unsigned n = 0; char *to; while (s[n]) n++; to = m
 char *strndup(const char *s, unsigned most) { unsigned n = 0; unsigned m; char *to; while (n < most && s[n]) n++; to = malloc(n + 1); if (!to) return 0; for (m = 0; m < n; m++) to[m] = s[m]; to[n] = 0; return to; }
 void *memchr(const void *at, int c, unsigned count) { const char *s = at; char wanted = c; while (count > 0) { if (*s == wanted) return (char *)s; s++; count--; } return 0; }
 int strcoll(const char *a, const char *b) { return strcmp(a, b); }
-char *strerror(int number) { return "error"; }

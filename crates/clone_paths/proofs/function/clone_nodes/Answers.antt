@@ -3,7 +3,7 @@ use Rattle.std.specs.Vec.{with_items}
 use Rattle.std.proofs.lemmas.List.{with_items_is}
 use Rattle.regions.specs.Flags.{is_in}
 use Rattle.regions.specs.Rows.{EachFits}
-use Rattle.clone_paths.specs.declared.label.CopyLabel.{CopyLabel}
+use Rattle.copied_nodes.specs.declared.label.CopyLabel.{CopyLabel}
 use Rattle.clone_paths.specs.Layout.{Sheet, sheet_of}
 use Rattle.clone_paths.specs.Made.{IsMade, Resolved, parts_from, sheet_at}
 use Rattle.clone_paths.specs.Parts.{AreDebts}

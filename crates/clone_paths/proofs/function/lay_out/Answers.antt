@@ -10,8 +10,8 @@ use Rattle.clone_paths.specs.declared.parts.Part.{Part}
 use Rattle.clone_paths.proofs.SheetLemmas.{labels_few}
 use Rattle.clone_paths.proofs.function.lay_out.Goals as goal
 
-pub add-requires : goal.add-requires
-add-requires c =
+pub add_labels-requires : goal.add_labels-requires
+add_labels-requires c =
     let part = parts_from c.args.source.now.weighty.now c.args.source.now.nodes.now c.args.source.now.starts.now c.args.debts.now in
     let few = labels_few (is_in c.args.headers.now) part c.loop-place.place in
     let same = ap (λ (s : Sheet). length s.labels) c.loop-place.invariant in
@@ -27,7 +27,7 @@ loop-place-preserved c =
     c.part_of-part.ensures ∙ ap (λ (v : View). part_of_node (is_in source.weighty.now) (is_in source.starts.now) c.at.result v) (sym at)
     ∙ ap (λ (d : ℕ). part_of_node (is_in source.weighty.now) (is_in source.starts.now) d (views_of source.nodes.now place)) c.at.ensures
     in
-    let whole = c.in_ok-add.ensures ∙ ap (λ (h : Bool). with_node_labels h place c.part_of-part.result (sheet_of c.loop-place.layout)) c.is_in.ensures
+    let whole = c.in_ok-add_labels.ensures ∙ ap (λ (h : Bool). with_node_labels h place c.part_of-part.result (sheet_of c.loop-place.layout)) c.is_in.ensures
     ∙ ap (λ (p : Part). with_node_labels (is_in c.args.headers.now place) place p (sheet_of c.loop-place.layout)) same
     ∙ ap (λ (s : Sheet). with_node_labels (is_in c.args.headers.now place) place (part place) s) c.loop-place.invariant
     in
