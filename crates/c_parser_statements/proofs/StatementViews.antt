@@ -16,6 +16,7 @@ use Rattle.c_parser_expressions.specs.Reading.{Cursor, next_cursor}
 use Rattle.c_parser_expressions.specs.Marks.{begins_with_sign}
 use Rattle.c_parser_expressions.specs.Steps.{Gives, Step}
 use Rattle.c_parser_expressions.specs.ExpressionParser.{begins_type}
+use Rattle.c_parser_statements.specs.StatementViews.{plain_inner}
 use Rattle.c_parser_statements.specs.StatementParser.{Header, header_by, for_by, entry_by, entry_step, statement_by, statement_at_depth, statements_below}
 
 pub plain_if_either : (token : ℕ) (condition : Expr) (first : Box Statement Global) (second : Option (Box Statement Global)) →
@@ -46,7 +47,7 @@ for_stops (suc n) c mid h i ne head body =
     rw (suc_zero_test n, head, deeper) refl
 
 pub for_err : (d : ℕ) (c mid later end : Cursor) (h : Header) (w : Stop) → (d ≡ 0 → ⊥) → header_by d (next_cursor c) ≡ Ok (h, mid)
-    → Gives plain_statement (Err w) later (statement_at_depth (d - 1) mid) → Gives plain_statement (Err w) end (for_by d (statements_below d) c)
+    → Gives plain_inner (Err w) later (statement_at_depth (d - 1) mid) → Gives plain_statement (Err w) end (for_by d (statements_below d) c)
 for_err d c mid later end h (stop.Refused i) ne head body = for_stops d c mid h i ne head body
 for_err d c mid later end h stop.Memory ne head body = tt
 

@@ -2,7 +2,7 @@ ghost use Rattle.std.specs.Prelude.{◌≤◌, option_map};
 ghost use Rattle.std.specs.Option.{IsSome};
 ghost use Rattle.c_syntax.specs.StatementTree as s;
 ghost use Rattle.c_syntax.specs.Plain.{plain_expr, plain_for_start, plain_statement, plain_second, plain_entry};
-ghost use Rattle.c_parser_statements.specs.StatementViews.{plain_header, plain_entry_list, plain_block};
+ghost use Rattle.c_parser_statements.specs.StatementViews.{plain_header, plain_inner, plain_entry_list, plain_block};
 ghost use Rattle.c_parser_expressions.specs.Marks.{sign_mark};
 ghost use Rattle.c_parser_expressions.specs.Reading.{first_kind};
 ghost use Rattle.c_parser_expressions.specs.Steps.{Gives, all_of};
@@ -59,8 +59,13 @@ fn until(alloc: Global, reader: &mut Reader<'_>, depth: u32) -> Result<Expr, Sto
 {
     reader.expect_word(Word::While)?;
     let condition = condition(alloc, reader, depth)?;
-    reader.expect(Sign::Semicolon)?;
-    Ok(condition)
+    match reader.expect(Sign::Semicolon) {
+        Ok(()) => Ok(condition),
+        Err(stop) => {
+            drop(condition);
+            Err(stop)
+        }
+    }
 }
 
 /// What a `for` does first.
@@ -85,13 +90,23 @@ fn header(alloc: Global, reader: &mut Reader<'_>, depth: u32) -> Result<ForHeade
 {
     reader.expect(Sign::LeftParen)?;
     let start = for_start(alloc, reader, depth)?;
-    let condition = optional(alloc, reader, depth, Sign::Semicolon)?;
-    let step = optional(alloc, reader, depth, Sign::RightParen)?;
-    Ok(ForHeader {
-        start,
-        condition,
-        step,
-    })
+    match optional(alloc, reader, depth, Sign::Semicolon) {
+        Ok(condition) => match optional(alloc, reader, depth, Sign::RightParen) {
+            Ok(step) => Ok(ForHeader {
+                start,
+                condition,
+                step,
+            }),
+            Err(stop) => {
+                drop((start, condition));
+                Err(stop)
+            }
+        },
+        Err(stop) => {
+            drop(start);
+            Err(stop)
+        }
+    }
 }
 
 /// An expression and its semicolon.
@@ -144,6 +159,15 @@ fn continue_statement(reader: &mut Reader<'_>) -> Result<Statement, Stop>
     Ok(Statement::Continue { token })
 }
 
+/// A statement within another.
+#[cycle(statement)]
+fn inner(alloc: Global, reader: &mut Reader<'_>, depth: u32) -> Result<Box<Statement>, Stop>
+    ensures { Gives plain_inner result reader.new (statement_at_depth depth reader.old) }
+{
+    let statement = statement(alloc, reader, depth)?;
+    Ok(Box::new(alloc, statement)?)
+}
+
 /// The second branch of an `if`, where one begins.
 #[cycle(statement)]
 #[tactic(auto, using(c_parser_expressions::proofs::Heads::says_some), unfolding(crate::specs::StatementParser::otherwise_by))]
@@ -158,8 +182,8 @@ fn otherwise(
         return Ok(None);
     }
     reader.pass();
-    let second = statement(alloc, reader, depth)?;
-    Ok(Some(Box::new(alloc, second)?))
+    let second = inner(alloc, reader, depth)?;
+    Ok(Some(second))
 }
 
 /// `if`, with or without `else`.
@@ -175,15 +199,24 @@ fn if_statement(alloc: Global, reader: &mut Reader<'_>, depth: u32) -> Result<St
     let token = reader.at();
     reader.pass();
     let condition = condition(alloc, reader, depth)?;
-    let first = statement(alloc, reader, depth - 1)?;
-    let first = Box::new(alloc, first)?;
-    let second = otherwise(alloc, reader, depth - 1)?;
-    Ok(Statement::If {
-        token,
-        condition,
-        first,
-        second,
-    })
+    match inner(alloc, reader, depth - 1) {
+        Ok(first) => match otherwise(alloc, reader, depth - 1) {
+            Ok(second) => Ok(Statement::If {
+                token,
+                condition,
+                first,
+                second,
+            }),
+            Err(stop) => {
+                drop(condition);
+                Err(stop)
+            }
+        },
+        Err(stop) => {
+            drop(condition);
+            Err(stop)
+        }
+    }
 }
 
 /// `while`.
@@ -199,12 +232,17 @@ fn while_statement(alloc: Global, reader: &mut Reader<'_>, depth: u32) -> Result
     let token = reader.at();
     reader.pass();
     let condition = condition(alloc, reader, depth)?;
-    let body = statement(alloc, reader, depth - 1)?;
-    Ok(Statement::While {
-        token,
-        condition,
-        body: Box::new(alloc, body)?,
-    })
+    match inner(alloc, reader, depth - 1) {
+        Ok(body) => Ok(Statement::While {
+            token,
+            condition,
+            body,
+        }),
+        Err(stop) => {
+            drop(condition);
+            Err(stop)
+        }
+    }
 }
 
 /// `do`.
@@ -219,8 +257,7 @@ fn do_statement(alloc: Global, reader: &mut Reader<'_>, depth: u32) -> Result<St
     }
     let token = reader.at();
     reader.pass();
-    let body = statement(alloc, reader, depth - 1)?;
-    let body = Box::new(alloc, body)?;
+    let body = inner(alloc, reader, depth - 1)?;
     let condition = until(alloc, reader, depth)?;
     Ok(Statement::Do {
         token,
@@ -242,14 +279,19 @@ fn for_statement(alloc: Global, reader: &mut Reader<'_>, depth: u32) -> Result<S
     let token = reader.at();
     reader.pass();
     let header = header(alloc, reader, depth)?;
-    let body = statement(alloc, reader, depth - 1)?;
-    Ok(Statement::For {
-        token,
-        start: header.start,
-        condition: header.condition,
-        step: header.step,
-        body: Box::new(alloc, body)?,
-    })
+    match inner(alloc, reader, depth - 1) {
+        Ok(body) => Ok(Statement::For {
+            token,
+            start: header.start,
+            condition: header.condition,
+            step: header.step,
+            body,
+        }),
+        Err(stop) => {
+            drop(header);
+            Err(stop)
+        }
+    }
 }
 
 /// An entry, unless the block ends.

@@ -24,15 +24,28 @@ use c_types_rules::{
 use cbi_base::{Binary, Memory, Name, Seq};
 use std::alloc::Global;
 
+/// Notes the type of the construct at the token.
+fn noted(alloc: Global, walk: &mut Walk, token: u32, x: Operand) -> Result<Operand, Stop>
+    ensures { IsWalked (operand_noted token (Ok x) walk.old) result walk.new }
+{
+    match x.ctype.try_clone(alloc) {
+        Ok(ctype) => {
+            note_type(walk, token, ctype);
+            Ok(x)
+        }
+        Err(_) => {
+            drop(x);
+            Err(Stop::Memory)
+        }
+    }
+}
+
 /// Notes the type of the construct at the token, or meets its fault.
 fn looked(alloc: Global, walk: &mut Walk, token: u32, answer: Looked) -> Result<Operand, Stop>
     ensures { IsWalked (operand_noted token answer walk.old) result walk.new }
 {
     match answer {
-        Ok(x) => {
-            note_type(walk, token, x.ctype.try_clone(alloc)?);
-            Ok(x)
-        }
+        Ok(x) => noted(alloc, walk, token, x),
         Err(kind) => Err(Stop::fault(kind, token)),
     }
 }
@@ -183,12 +196,15 @@ fn member_at(
 ) -> Result<Operand, Stop>
     ensures { IsWalked (selected_member token left.place (member_of walk.old.structs name.now left.ctype) walk.old) result walk.new }
 {
-    match member_of(walk.structs.as_slice(), name, left.ctype.shape()) {
+    let place = left.place;
+    let found = member_of(walk.structs.as_slice(), name, left.ctype.shape());
+    drop(left);
+    match found {
         Err(kind) => Err(Stop::fault(kind, token)),
         Ok(member) => {
             let offset = member.offset;
             let ctype = member.ctype.try_clone(alloc)?;
-            selected_as(alloc, walk, token, left.place, ctype, offset)
+            selected_as(alloc, walk, token, place, ctype, offset)
         }
     }
 }
@@ -203,7 +219,9 @@ fn member_behind_at(
 ) -> Result<Operand, Stop>
     ensures { IsWalked (selected_member token true (member_behind walk.old.structs name.now (value_type left)) walk.old) result walk.new }
 {
-    match member_behind(walk.structs.as_slice(), name, &left.ctype) {
+    let found = member_behind(walk.structs.as_slice(), name, &left.ctype);
+    drop(left);
+    match found {
         Err(kind) => Err(Stop::fault(kind, token)),
         Ok(member) => {
             let offset = member.offset;
@@ -252,7 +270,9 @@ fn chosen_at(
 ) -> Result<Operand, Stop>
     ensures { IsWalked (operand_noted token (typed_conditional condition first second) walk.old) result walk.new }
 {
-    looked(alloc, walk, token, chosen(&condition, first, second))
+    let answer = chosen(&condition, first, second);
+    drop(condition);
+    looked(alloc, walk, token, answer)
 }
 
 /// A cast, behind its operand.
@@ -266,8 +286,19 @@ fn cast_at(
 ) -> Result<Operand, Stop>
     ensures { IsWalked (operand_noted token (cast_to (with_stars stars base) operand) walk.old) result walk.new }
 {
-    let ctype = with_stars(alloc, stars, &base)?;
-    looked(alloc, walk, token, cast_to(ctype, &operand))
+    let ctype = with_stars(alloc, stars, &base);
+    drop(base);
+    match ctype {
+        Ok(ctype) => {
+            let answer = cast_to(ctype, &operand);
+            drop(operand);
+            looked(alloc, walk, token, answer)
+        }
+        Err(_) => {
+            drop(operand);
+            Err(Stop::Memory)
+        }
+    }
 }
 
 /// An operator behind its operand.
@@ -294,8 +325,11 @@ fn measured_at(
 ) -> Result<Operand, Stop>
     ensures { IsWalked (operand_noted token (typed_sizeof walk.old.structs (with_stars stars base)) walk.old) result walk.new }
 {
-    let ctype = with_stars(alloc, stars, &base)?;
+    let ctype = with_stars(alloc, stars, &base);
+    drop(base);
+    let ctype = ctype?;
     let answer = measured(walk.structs.as_slice(), &ctype);
+    drop(ctype);
     looked(alloc, walk, token, answer)
 }
 
@@ -348,8 +382,13 @@ fn operand_of(alloc: Global, walk: &mut Walk, expr: &Expr) -> Result<Operand, St
             value,
         } => {
             let target = operand_of(alloc, walk, target)?;
-            let value = operand_of(alloc, walk, value)?;
-            assigned_at(alloc, walk, *token, compound_of(*sign), target, value)
+            match operand_of(alloc, walk, value) {
+                Ok(value) => assigned_at(alloc, walk, *token, compound_of(*sign), target, value),
+                Err(stop) => {
+                    drop(target);
+                    Err(stop)
+                }
+            }
         }
         Expr::Conditional {
             token,
@@ -358,9 +397,19 @@ fn operand_of(alloc: Global, walk: &mut Walk, expr: &Expr) -> Result<Operand, St
             second,
         } => {
             let condition = operand_of(alloc, walk, condition)?;
-            let first = operand_of(alloc, walk, first)?;
-            let second = operand_of(alloc, walk, second)?;
-            chosen_at(alloc, walk, *token, condition, first, second)
+            match operand_of(alloc, walk, first) {
+                Ok(first) => match operand_of(alloc, walk, second) {
+                    Ok(second) => chosen_at(alloc, walk, *token, condition, first, second),
+                    Err(stop) => {
+                        drop((condition, first));
+                        Err(stop)
+                    }
+                },
+                Err(stop) => {
+                    drop(condition);
+                    Err(stop)
+                }
+            }
         }
         Expr::Chain { first, links, .. } => {
             let first = operand_of(alloc, walk, first)?;
@@ -373,8 +422,13 @@ fn operand_of(alloc: Global, walk: &mut Walk, expr: &Expr) -> Result<Operand, St
             operand,
         } => {
             let base = base_type(walk, base)?;
-            let operand = operand_of(alloc, walk, operand)?;
-            cast_at(alloc, walk, *token, *stars, base, operand)
+            match operand_of(alloc, walk, operand) {
+                Ok(operand) => cast_at(alloc, walk, *token, *stars, base, operand),
+                Err(stop) => {
+                    drop(base);
+                    Err(stop)
+                }
+            }
         }
         Expr::Prefix {
             token,
@@ -444,9 +498,16 @@ fn walk_links(
 {
     let mut left = first;
     for link in links {
-        let right = operand_of(alloc, walk, &link.operand)?;
-        let answer = chained(walk.structs.as_slice(), binary_of(link.sign), left, right);
-        left = looked(alloc, walk, link.token, answer)?;
+        match operand_of(alloc, walk, &link.operand) {
+            Ok(right) => {
+                let answer = chained(walk.structs.as_slice(), binary_of(link.sign), left, right);
+                left = looked(alloc, walk, link.token, answer)?;
+            }
+            Err(stop) => {
+                drop(left);
+                return Err(stop);
+            }
+        }
     }
     Ok(left)
 }
@@ -465,11 +526,16 @@ fn walk_postfix(
     let mut left = first;
     for operator in operators {
         left = match operator {
-            PostfixOperator::Index { token, index } => {
-                let index = operand_of(alloc, walk, index)?;
-                let answer = indexed(walk.structs.as_slice(), left, index);
-                looked(alloc, walk, *token, answer)?
-            }
+            PostfixOperator::Index { token, index } => match operand_of(alloc, walk, index) {
+                Ok(index) => {
+                    let answer = indexed(walk.structs.as_slice(), left, index);
+                    looked(alloc, walk, *token, answer)?
+                }
+                Err(stop) => {
+                    drop(left);
+                    return Err(stop);
+                }
+            },
             PostfixOperator::Member { token, name } => {
                 member_at(alloc, walk, *token, name, left)?
             }

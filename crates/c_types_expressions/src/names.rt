@@ -9,7 +9,7 @@ use std::alloc::Global;
 use std::marker::Model;
 
 /// What a name means: a variable, a function or a struct by its number, or a function of the library.
-#[derive(Clone, Copy, Debug)]
+#[derive(Clone, Copy)]
 pub enum Meaning {
     Variable { index: u32 },
     Function { index: u32 },
@@ -18,7 +18,7 @@ pub enum Meaning {
 }
 
 /// The beginning of a scope, or a declared name.
-#[derive(Debug, Drop)]
+#[derive(Drop)]
 pub enum ScopeEntry {
     Opens,
     Declares { name: Name, meaning: Meaning },

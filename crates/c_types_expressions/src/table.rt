@@ -6,7 +6,7 @@ use std::alloc::Global;
 use std::marker::Model;
 
 /// A list whose items can be replaced.
-#[derive(Debug, Drop)]
+#[derive(Drop)]
 pub struct Table<T> {
     items: Vec<T>,
 }

@@ -13,14 +13,14 @@ use cbi_base::{Memory, Name, Seq};
 use std::alloc::Global;
 
 /// A variable: a global by its number, or a local by its number in its function, parameters first.
-#[derive(Clone, Copy, Debug, PartialEq, Eq)]
+#[derive(Clone, Copy)]
 pub enum Variable {
     Global { index: u32 },
     Local { index: u32 },
 }
 
 /// A declared variable. Its scope begins behind the token of its name.
-#[derive(Debug, Drop)]
+#[derive(Drop)]
 pub struct VariableEntry {
     pub name: Name,
     pub variable: Variable,
@@ -28,7 +28,7 @@ pub struct VariableEntry {
 }
 
 /// A declared function.
-#[derive(Debug, Drop)]
+#[derive(Drop)]
 pub struct FunctionEntry {
     pub name: Name,
     pub ctype: FunctionType,
@@ -36,7 +36,7 @@ pub struct FunctionEntry {
 
 /// A defined function: its place among the declared functions, the place of its first local among the declared variables,
 /// and how many locals it has.
-#[derive(Clone, Copy, Debug)]
+#[derive(Clone, Copy)]
 pub struct Definition {
     pub function: u32,
     pub first: u32,
@@ -71,7 +71,7 @@ pub struct Walk {
 }
 
 /// Why the walk doesn't go on: a fault, or want of memory.
-#[derive(Clone, Copy, Debug)]
+#[derive(Clone, Copy)]
 pub enum Stop {
     Fault { kind: FaultKind, index: u32 },
     Memory,
@@ -97,7 +97,7 @@ impl From<Memory> for Stop {
 }
 
 /// A parameter: its name, the token of that, and its type.
-#[derive(Debug, Drop)]
+#[derive(Drop)]
 pub struct Parameter {
     pub token: u32,
     pub name: Option<Name>,
@@ -190,6 +190,7 @@ pub fn add_variable(
 {
     let place = next_number(walk.variables.len());
     let variable = number_variable(walk, global);
+    walk.declared_types.push(ctype)?;
     let meaning = Meaning::Variable { index: place };
     walk.names.declare(name, meaning)?;
     walk.variables.push(VariableEntry {
@@ -197,7 +198,6 @@ pub fn add_variable(
         variable,
         from: token,
     })?;
-    walk.declared_types.push(ctype)?;
     walk.ends.push(None)?;
     walk.variables_at.set(token, Some(place));
     Ok(())

@@ -5,14 +5,14 @@ ghost use Rattle.probes.specs.FirstSeen.{firsts_of, first_line};
 ghost use Rattle.probes.specs.Hottest.{times_of};
 
 use crate::history::History;
-use crate::probe::Probe;
 use crate::sites::{MOST_SITES, sites_line};
 use cbi_base::{Memory, Observation};
+use probe_base::Probe;
 use std::alloc::Global;
 use std::marker::Model;
 
 /// Says which sites were observed first.
-#[derive(Debug, Drop)]
+#[derive(Drop)]
 pub struct FirstSeen {
     history: History,
 }

@@ -5,7 +5,7 @@ ghost use Rattle.probes.specs.History.{truth_bits, truth_with, step_code, observ
 ghost use Rattle.probes.specs.History.{FitsSite};
 ghost use Rattle.probes.specs.History.{IsLastNumber, GrewByPacked};
 ghost use Rattle.probes.specs.Sites.{sites_seen};
-ghost use Rattle.probes.specs.Told.{GrewByPrefix};
+ghost use Rattle.probe_base.specs.Told.{GrewByPrefix};
 
 use cbi_base::{Memory, Observation, Seen};
 use std::alloc::Global;
@@ -16,7 +16,7 @@ use std::mem;
 const MOST_BYTES: usize = 5;
 
 /// The observations that a watcher was told, in order, from one to five bytes each. It grows by half, so that they take at most seven and a half each.
-#[derive(Debug, Drop)]
+#[derive(Drop)]
 pub struct History {
     bytes: Vec<u8>,
     site: u32,
@@ -303,7 +303,7 @@ impl History {
 }
 
 /// What is left of the observations of a history.
-#[derive(Debug, Drop)]
+#[derive(Drop)]
 pub struct Observations<'a> {
     bytes: &'a [u8],
     before: u32,
@@ -337,7 +337,7 @@ impl<'a> Iterator for Observations<'a> {
 }
 
 /// The sites of a history that are left, the latest first: each step leads to the site before it. It has no room of its own, so `IsPacked` is told 0.
-#[derive(Debug, Drop)]
+#[derive(Drop)]
 pub struct Latest<'a> {
     bytes: &'a [u8],
     site: u32,

@@ -6,10 +6,10 @@ ghost use Rattle.probes.specs.Sites.{sites_seen};
 ghost use Rattle.probes.specs.Hottest.{hottest_of, best_of, hottest_line, count_line, hotter_site, times_of, AreTimes, IsHottest};
 
 use crate::history::History;
-use crate::probe::Probe;
 use crate::sites::push_number;
 use cbi_base::{Memory, Observation};
 use indexmap::IndexMap;
+use probe_base::Probe;
 use std::alloc::Global;
 use std::marker::Model;
 
@@ -17,7 +17,7 @@ use std::marker::Model;
 const MOST_LISTED: usize = 65_536;
 
 /// Says which site was observed most often.
-#[derive(Debug, Drop)]
+#[derive(Drop)]
 pub struct Hottest {
     history: History,
 }

@@ -4,14 +4,14 @@ ghost use Rattle.probes.specs.Sites.{most_sites, sites_seen};
 ghost use Rattle.probes.specs.LastSeen.{last_of, last_seen_line};
 
 use crate::history::History;
-use crate::probe::Probe;
 use crate::sites::{MOST_SITES, sites_line};
 use cbi_base::{Memory, Observation};
+use probe_base::Probe;
 use std::alloc::Global;
 use std::marker::Model;
 
 /// Says which sites were observed last.
-#[derive(Debug, Drop)]
+#[derive(Drop)]
 pub struct LastSeen {
     history: History,
 }

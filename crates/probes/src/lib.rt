@@ -5,13 +5,10 @@ mod first_seen;
 mod history;
 mod hottest;
 mod last_seen;
-mod probe;
 mod sites;
-mod told;
 
 pub use first_seen::{FirstSeen, first_sites_in_order};
 pub use history::packed_observations_are_read;
 pub use hottest::{Hottest, hottest_leads};
 pub use last_seen::LastSeen;
-pub use probe::Probe;
-pub use told::{push_lines, tell_all};
+pub use probe_base::{Probe, push_lines, tell_all};

@@ -55,11 +55,10 @@ next_entry-returns t c =
     (sym c.begins_type.ensures ∙ c.if-begins_type.false) c.in_ok-statement.ensures
 
 -- the body of a `for` is refused
-pub for_statement-returns-in_err-body : goal.for_statement-returns-in_err-body
-for_statement-returns-in_err-body t c =
+pub for_statement-returns-in-Err : goal.for_statement-returns-in-Err
+for_statement-returns-in-Err t c =
     let a = c.args in
-    let same : c.from_residual-in_err-body.result ≡ Err c.in_err-body.field-0.0 = search rules in
-    rw same (for_err a.depth a.reader.now c.header.new.reader c.statement.new.reader c.statement.new.reader (plain_header c.in_ok-header.header)
-    c.in_err-body.field-0.0 c.if-depth-eq0.false
+    for_err a.depth a.reader.now c.header.new.reader c.inner.new.reader c.inner.new.reader (plain_header c.in_ok-header.header)
+    c.in-Err.stop c.if-depth-eq0.false
     (subst (λ (v : Cursor). header_by a.depth v ≡ Ok (plain_header c.in_ok-header.header, c.header.new.reader)) c.pass.ensures c.in_ok-header.ensures)
-    c.in_err-body.ensures)
+    c.in-Err.ensures

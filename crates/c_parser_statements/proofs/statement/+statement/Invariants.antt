@@ -6,7 +6,10 @@ use Rattle.c_parser_expressions.proofs.Many.{Front}
 use Rattle.c_parser_statements.proofs.statement.+statement.Given as goal
 
 abbrev pub decreases-otherwise : goal.decreases-otherwise
-decreases-otherwise l = l.depth * 20 + 11
+decreases-otherwise l = l.depth * 20 + 12
+
+abbrev pub decreases-inner : goal.decreases-inner
+decreases-inner l = l.depth * 20 + 11
 
 abbrev pub decreases-statement : goal.decreases-statement
 decreases-statement l = l.depth * 20 + 10

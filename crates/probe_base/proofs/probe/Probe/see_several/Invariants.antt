@@ -1,5 +1,5 @@
 use Rattle.std.proofs.Common.{◌≡◌, ◌++◌, take}
-use Rattle.probes.proofs.probe.Probe.see_several.Given as goal
+use Rattle.probe_base.proofs.probe.Probe.see_several.Given as goal
 
 -- the observations so far were told
 abbrev pub invariant-loop-observation : goal.invariant-loop-observation

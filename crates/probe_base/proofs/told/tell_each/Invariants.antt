@@ -1,5 +1,5 @@
-use Rattle.probes.proofs.Growing.{GrewBelow}
-use Rattle.probes.proofs.told.tell_each.Given as goal
+use Rattle.probe_base.proofs.Growing.{GrewBelow}
+use Rattle.probe_base.proofs.told.tell_each.Given as goal
 
 -- the watchers so far were told
 abbrev pub invariant-loop-probe : goal.invariant-loop-probe

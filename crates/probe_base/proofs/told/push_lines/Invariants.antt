@@ -1,6 +1,6 @@
 use Rattle.std.proofs.Common.{◌≡◌, take}
 use Rattle.std.specs.List.{flat_map}
-use Rattle.probes.proofs.told.push_lines.Given as goal
+use Rattle.probe_base.proofs.told.push_lines.Given as goal
 
 -- the lines so far
 abbrev pub invariant-loop-probe : goal.invariant-loop-probe

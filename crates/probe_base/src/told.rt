@@ -1,6 +1,6 @@
 ghost use Rattle.std.specs.Prelude.{◌≡◌, [], ◌∷◌, ◌++◌, OnOk, OnErr};
 ghost use Rattle.std.specs.List.{flat_map};
-ghost use Rattle.probes.specs.Told.{AllGrew, AllGrewByPrefix, GrewByPrefix};
+ghost use Rattle.probe_base.specs.Told.{AllGrew, AllGrewByPrefix, GrewByPrefix};
 
 use crate::probe::Probe;
 use cbi_base::{Memory, Observation};

@@ -1,9 +1,9 @@
 use Rattle.std.proofs.Common.{◌≡◌, ◌<◌, ◌++◌, length, refl, arith, rules}
 use Rattle.std.proofs.lemmas.Result.{err_from_is_err_and}
 use Rattle.std.proofs.lemmas.Option.{slice_get_read}
-use Rattle.probes.specs.Told.{GrewByPrefix}
-use Rattle.probes.proofs.Growing.{GrewBelow-more, AllGrew-end, AllGrewByPrefix-stop}
-use Rattle.probes.proofs.told.tell_each.Goals as goal
+use Rattle.probe_base.specs.Told.{GrewByPrefix}
+use Rattle.probe_base.proofs.Growing.{GrewBelow-more, AllGrew-end, AllGrewByPrefix-stop}
+use Rattle.probe_base.proofs.told.tell_each.Goals as goal
 
 pub returns-in_err-tell_one-clause-memory : goal.returns-in_err-tell_one-clause-memory
 returns-in_err-tell_one-clause-memory g c =

@@ -1,6 +1,6 @@
 ghost use Rattle.std.specs.Prelude.{◌≡◌, ℕ, List, [], ◌∷◌, ◌++◌, OnOk, OnErr};
 ghost use Rattle.cbi_base.specs.declared.observation.Observation.{Observation};
-ghost use Rattle.probes.specs.Told.{GrewByPrefix};
+ghost use Rattle.probe_base.specs.Told.{GrewByPrefix};
 
 use cbi_base::{Memory, Observation};
 
