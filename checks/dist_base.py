@@ -50,7 +50,7 @@ class Case(unittest.TestCase):
         for name in ("install", "build", "demo", "check", "checks/dist", "house/dist.py", "house/release", "house/unproved.py", "docs/cbi.1"):
             os.makedirs(os.path.dirname(self.path("top", name)), exist_ok=True)
             shutil.copy(os.path.join(TOP, name), self.path("top", name))
-        for name in ("tools", "examples/lookup"):
+        for name in ("tools", "house", "examples/lookup"):
             shutil.copytree(os.path.join(TOP, name), self.path("top", name), ignore=shutil.ignore_patterns("__pycache__"))
         self.write("top/.gitignore", "out/\n__pycache__/\n")
         self.write("top/CHANGELOG.md", CHANGES)

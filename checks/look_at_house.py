@@ -1,5 +1,5 @@
 #!/usr/bin/env python3
-"""Looks at the scripts of the house, in a small house that is made for each case: checks/house, tools/above, tools/map, tools/promises and tools/reading;
+"""Looks at the scripts of the house, in a small house that is made for each case: checks/house, house/above, house/map, house/promises and house/reading;
 and at what editors read of it: tags by Universal Ctags, colours by Vim.
 
     checks/look_at_house.py [CASE..]
@@ -145,7 +145,7 @@ class House(unittest.TestCase):
 
     def setUp(self) -> None:
         self.room = tempfile.mkdtemp(prefix="house-")
-        for script in ("checks/house", "checks/house_lemmas.py", "tools/house_crates.py", "tools/above", "tools/map", "tools/promises", "tools/reading"):
+        for script in ("checks/house", "checks/house_lemmas.py", "house/house_crates.py", "house/above", "house/map", "house/promises", "house/reading"):
             self.write(script, "")
             shutil.copy(os.path.join(ROOT, script), os.path.join(self.room, script))
         self.write("crates.txt", "# Base\nlow:\n\n# Tops\ntop: low\n")
@@ -319,25 +319,25 @@ class House(unittest.TestCase):
     def test_above_lists_what_stands_on_a_crate(self) -> None:
         # `most` stands on `low` by `top` alone
         self.write("crates.txt", "low:\nmost: top\ntop: low\n")
-        ran = self.call("tools/above", "--list", "low")
+        ran = self.call("house/above", "--list", "low")
         self.assertEqual([row.split()[-1] for row in ran.stdout.splitlines()[1:]], ["top", "most"], ran.stderr)
-        self.assertEqual(self.call("tools/above", "--list", "none").returncode, 1)
+        self.assertEqual(self.call("house/above", "--list", "none").returncode, 1)
 
     def test_the_map_has_each_crate_by_its_room_and_each_file_by_its_head(self) -> None:
-        self.assertEqual(self.call("tools/map", "--write").returncode, 0)
-        with open(os.path.join(self.room, "docs", "MAP.md"), encoding="utf-8") as it:
+        self.assertEqual(self.call("house/map", "--write").returncode, 0)
+        with open(os.path.join(self.room, "docs", "reference", "MAP.md"), encoding="utf-8") as it:
             rows = it.read().splitlines()
         for row in ("## Base", "### `low`", "| `Low` | What is low. |", "## Tops", "The top of a house of two crates."):
             self.assertIn(row, rows)
-        self.assertEqual(self.call("tools/map", "--check").returncode, 0)
+        self.assertEqual(self.call("house/map", "--check").returncode, 0)
         self.write("crates/low/specs/Low.antt", "-- What is lower." + LOW_SPEC[len("-- What is low."):])
-        self.assertEqual(self.call("tools/map", "--check").returncode, 1)
+        self.assertEqual(self.call("house/map", "--check").returncode, 1)
 
     def test_promises_has_each_public_function_with_the_names_of_its_clauses(self) -> None:
         self.write("crates/low/src/lib.rt", PASSED_SOURCE)
         self.write("crates/low/src/part.rt", PART_SOURCE)
-        self.assertEqual(self.call("tools/promises", "--write").returncode, 0)
-        with open(os.path.join(self.room, "docs", "PROMISES.md"), encoding="utf-8") as it:
+        self.assertEqual(self.call("house/promises", "--write").returncode, 0)
+        with open(os.path.join(self.room, "docs", "reference", "PROMISES.md"), encoding="utf-8") as it:
             rows = [row for row in it.read().splitlines() if row.startswith(("#", "| ["))]
         self.assertEqual(rows[1:], [
             "## Base",
@@ -351,17 +351,17 @@ class House(unittest.TestCase):
             "| [`whole`](../crates/top/src/lib.rt) | The whole. |  | `deep` |"])
 
     def test_promises_tells_a_clause_that_has_another_name(self) -> None:
-        self.assertEqual(self.call("tools/promises", "--write").returncode, 0)
-        self.assertEqual(self.call("tools/promises", "--check").returncode, 0)
+        self.assertEqual(self.call("house/promises", "--write").returncode, 0)
+        self.assertEqual(self.call("house/promises", "--check").returncode, 0)
         self.write("crates/top/src/lib.rt", TOP_SOURCE.replace("ensures deep", "ensures deeper"))
-        ran = self.call("tools/promises", "--check")
-        self.assertEqual((ran.returncode, ran.stderr), (1, "docs/PROMISES.md isn't what tools/promises prints: tools/promises --write\n"))
+        ran = self.call("house/promises", "--check")
+        self.assertEqual((ran.returncode, ran.stderr), (1, "docs/reference/PROMISES.md isn't what house/promises prints: house/promises --write\n"))
 
     def test_promises_names_a_crate_without_clauses(self) -> None:
-        self.assertIn("No public function with a clause: `low`.", self.call("tools/promises").stdout.splitlines())
+        self.assertIn("No public function with a clause: `low`.", self.call("house/promises").stdout.splitlines())
 
     def test_reading_follows_definitions_through_crates(self) -> None:
-        ran = self.call("tools/reading", "--files", "top::whole")
+        ran = self.call("house/reading", "--files", "top::whole")
         self.assertEqual(ran.stdout.splitlines(), [
             "     5 low/specs/Low.antt: IsDeep, IsKept",
             "     2 top/specs/Top.antt: IsWhole",
@@ -372,7 +372,7 @@ class House(unittest.TestCase):
         # the clause names one member of the two
         self.write("crates/command_base/src/work.rt", WORK_SOURCE)
         self.write("crates/top/src/words.rt", WORDS_SOURCE)
-        ran = self.call("tools/reading", "--files", "top::TopWords.took")
+        ran = self.call("house/reading", "--files", "top::TopWords.took")
         self.assertEqual(ran.stdout.splitlines(), [
             "     5 low/specs/Low.antt: IsDeep, IsKept",
             "     2 top/specs/Top.antt: IsWhole",
@@ -380,8 +380,8 @@ class House(unittest.TestCase):
             "     9 lines in 2 files of 2 crates"], ran.stderr)
 
     def test_reading_says_that_a_function_isnt_there(self) -> None:
-        ran = self.call("tools/reading", "top::nothing")
-        self.assertEqual((ran.returncode, ran.stderr), (1, "tools/reading: no function top::nothing\n"))
+        ran = self.call("house/reading", "top::nothing")
+        self.assertEqual((ran.returncode, ran.stderr), (1, "house/reading: no function top::nothing\n"))
 
     def test_tags_lead_to_definitions_and_functions(self) -> None:
         said = subprocess.run(["ctags", "--version"], stdout=subprocess.PIPE, text=True).stdout if shutil.which("ctags") else ""
@@ -402,7 +402,7 @@ class House(unittest.TestCase):
                                                            (9, "record"): "anttKeyword", (9, "IsDeep"): "anttConstructor", (10, "kept"): "anttDefined"}),
                             ("crates/top/src/lib.rt", {(2, "ghost"): "rattleGhost", (5, "pub"): "rustKeyword", (6, "ensures"): "rattleClause"})):
             asked = [f"call writefile([synIDattr(synID({line}, stridx(getline({line}), '{word}') + 1, 1), 'name')], 'said', 'a')" for line, word in words]
-            self.write("ask.vim", "\n".join(["set nocompatible encoding=utf-8", f"set runtimepath^={ROOT}/tools/vim", "filetype plugin on", "syntax on", f"edit {page}",
+            self.write("ask.vim", "\n".join(["set nocompatible encoding=utf-8", f"set runtimepath^={ROOT}/house/vim", "filetype plugin on", "syntax on", f"edit {page}",
                                              *asked, "qall!"]) + "\n")
             subprocess.run(["vim", "-es", "-u", "NONE", "-i", "NONE", "-S", "ask.vim"], cwd=self.room, stdin=subprocess.DEVNULL, check=True)
             with open(os.path.join(self.room, "said"), encoding="utf-8") as it:

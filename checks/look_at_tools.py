@@ -14,7 +14,7 @@ import unittest
 
 sys.dont_write_bytecode = True
 import looking  # noqa: E402
-from looking import EXAMPLES, TOOLS, TOP, Case, environment, sources  # noqa: E402
+from looking import EXAMPLES, HOUSE, TOOLS, TOP, Case, environment, sources  # noqa: E402
 from look_at_answers import Answer, Facts, Hangs, Numbers, Sections  # noqa: E402,F401: their cases are among those that are looked at
 from look_at_broken import Loops, Marks, Memory, Outputs, Traps  # noqa: E402,F401
 from look_at_bugs import Bugs, Evidence, PortedFacts, Words  # noqa: E402,F401
@@ -48,9 +48,11 @@ class Scripts(Case):
     def test_their_types_fit(self):
         if not shutil.which("mypy"):
             self.skipTest("there is no mypy here")
-        modules = [os.path.relpath(name, TOOLS) for name in sources() if name.endswith(".py") and "cbi_port" not in name]
-        done = subprocess.run(["mypy", "--config-file", "mypy.ini", "--cache-dir", self.path("cache"), "--scripts-are-modules", "try-cbi", *modules], cwd=TOOLS, stdout=subprocess.PIPE, stderr=subprocess.STDOUT, check=False)
-        self.assertEqual(done.returncode, 0, done.stdout.decode())
+        config = os.path.join(TOOLS, "mypy.ini")
+        for folder in (TOOLS, HOUSE):
+            modules = [name for name in sources() if name.startswith(folder + os.sep) and "cbi_port" not in name and not os.path.basename(name).startswith("cbi-")]
+            done = subprocess.run(["mypy", "--config-file", config, "--cache-dir", self.path("cache"), "--scripts-are-modules", *modules], cwd=folder, stdout=subprocess.PIPE, stderr=subprocess.STDOUT, check=False)
+            self.assertEqual(done.returncode, 0, done.stdout.decode())
 
     def test_no_module_is_long(self):
         looks = [os.path.join(TOP, "checks", name) for name in os.listdir(os.path.join(TOP, "checks")) if name.endswith(".py")]

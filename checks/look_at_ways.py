@@ -203,7 +203,7 @@ echo "$(wc -l <"$said") ok, 0 not" >>"$said"
         self.assertIn("\nthe run again: printf 'd=6 d? d? d? c? d? d?\\n' >input; cbi transform --mode plain examples/lookup/lookup.c | ", out)
         self.assertTrue(out.endswith(f"page: {self.path('page.html')}\n"), out)
         self.assertRegex(err, r"^\./demo: there is no cbi yet, so rt builds it without its proofs and makes each call of a hunt of 100 runs, [^\n]* CPU minutes\.\n")
-        self.assertTrue(err.endswith("tools/try-cbi: nothing was kept of the cbi that was built; ./build FOLDER --unproved leaves one\n"), err)
+        self.assertTrue(err.endswith("house/try-cbi: nothing was kept of the cbi that was built; ./build FOLDER --unproved leaves one\n"), err)
         self.assertIn(b"<h1><code>find(name)</code> returned NULL at examples/lookup/lookup.c:41", self.read("page.html"))
 
     def test_a_demo_that_is_ended_while_it_builds_leaves_nothing(self):
@@ -234,8 +234,8 @@ echo "$(wc -l <"$said") ok, 0 not" >>"$said"
 
     def test_where_nothing_can_be_built_it_says_why(self):
         self.executable("rt", "#!/bin/sh\necho 'error: no such crate' >&2\nexit 2\n")
-        _, err = self.call("env", f"PATH={self.path('bin')}:{os.environ['PATH']}", os.path.join(looking.TOOLS, "try-cbi"), "cbi", "bank", "--rate", "1", "--count", "1", "--seed", "1", due=2)
-        self.assertIn("tools/try-cbi: error: no such crate\n", err)
+        _, err = self.call("env", f"PATH={self.path('bin')}:{os.environ['PATH']}", os.path.join(looking.HOUSE, "try-cbi"), "cbi", "bank", "--rate", "1", "--count", "1", "--seed", "1", due=2)
+        self.assertIn("house/try-cbi: error: no such crate\n", err)
 
     def test_text_and_pictures_in_the_documents_are_of_what_the_hunt_writes(self):
         shutil.copytree(os.path.join(looking.EXAMPLES, "lookup"), self.path("lookup"))

@@ -15,7 +15,7 @@ from typing import Dict, List, Tuple
 
 sys.dont_write_bytecode = True
 ROOT = os.path.dirname(os.path.dirname(os.path.realpath(__file__)))
-sys.path[:0] = [os.path.join(ROOT, "checks"), os.path.join(ROOT, "tools")]
+sys.path[:0] = [os.path.join(ROOT, "checks"), os.path.join(ROOT, "house")]
 from bodies_read import Bad, Body, Change, Function, body_of, calls, functions  # noqa: E402
 from bodies_table import differs, write  # noqa: E402
 from bodies_tried import Outcome, Refusal, Try, judge, tries  # noqa: E402
@@ -168,8 +168,8 @@ class Tried(unittest.TestCase):
         for name in ("wrong_bodies", "bodies_read.py", "bodies_tried.py", "bodies_table.py"):
             os.makedirs(os.path.join(room, "checks"), exist_ok=True)
             shutil.copy2(os.path.join(ROOT, "checks", name), os.path.join(room, "checks", name))
-        os.makedirs(os.path.join(room, "tools"))
-        shutil.copy2(os.path.join(ROOT, "tools", "house_crates.py"), os.path.join(room, "tools"))
+        os.makedirs(os.path.join(room, "house"))
+        shutil.copy2(os.path.join(ROOT, "house", "house_crates.py"), os.path.join(room, "house"))
         with open(os.path.join(room, "crates.txt"), "w", encoding="utf-8") as it:
             it.write("fractions:\n")
         os.makedirs(os.path.join(room, "wrong_bodies", "fractions"))

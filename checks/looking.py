@@ -1,5 +1,6 @@
 """What the looks at the scripts of tools/ share: calls of them as processes, and folders to call them in."""
 import fcntl
+import itertools
 import os
 import pty
 import shutil
@@ -15,6 +16,7 @@ import unittest
 sys.dont_write_bytecode = True
 TOP = os.path.dirname(os.path.dirname(os.path.abspath(__file__)))
 TOOLS = os.path.join(TOP, "tools")
+HOUSE = os.path.join(TOP, "house")
 EXAMPLES = os.path.join(TOP, "examples")
 # The executable, which look_at_tools is called with.
 CBI = ""
@@ -54,8 +56,8 @@ def on_terminal(words, folder, columns=80, out=False):
 
 def sources():
     """The scripts and their modules."""
-    for folder, _, names in os.walk(TOOLS):
-        yield from (os.path.join(folder, name) for name in names if name.endswith(".py") or name in ("cbi-hunt", "cbi-show", "cbi-explain", "cbi-port", "try-cbi"))
+    for folder, _, names in itertools.chain(os.walk(TOOLS), os.walk(HOUSE)):
+        yield from (os.path.join(folder, name) for name in names if name.endswith(".py") or name.startswith("cbi-") or folder == HOUSE and "." not in name)
 
 
 class Case(unittest.TestCase):

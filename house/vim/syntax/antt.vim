@@ -1,4 +1,4 @@
-" The definitions and proofs of Rattle's crates. Put tools/vim on Vim's 'runtimepath'.
+" The definitions and proofs of Rattle's crates. Put house/vim on Vim's 'runtimepath'.
 if exists("b:current_syntax")
   finish
 endif

@@ -1,4 +1,4 @@
-" Rattle: Rust, with clauses and ghost members. Put tools/vim on Vim's 'runtimepath'.
+" Rattle: Rust, with clauses and ghost members. Put house/vim on Vim's 'runtimepath'.
 if exists("b:current_syntax")
   finish
 endif
