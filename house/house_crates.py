@@ -1,5 +1,6 @@
 """The crates of this repository as crates.txt has them, for the scripts that look at the house."""
 import os
+import re
 from typing import Dict, Iterator, List, Tuple
 
 ROOT = os.path.dirname(os.path.dirname(os.path.realpath(__file__)))
@@ -46,3 +47,21 @@ def below(crate: str) -> List[str]:
                 found.append(name)
                 left.append(name)
     return found
+
+
+def sources(crate: str) -> Iterator[str]:
+    """The text of each file of a crate's source."""
+    for at, folders, names in os.walk(os.path.join(ROOT, "crates", crate, "src")):
+        folders.sort()
+        yield from (read(os.path.join(at, name)) for name in sorted(names) if name.endswith(".rt"))
+
+
+def is_program(crate: str) -> bool:
+    return os.path.isfile(os.path.join(ROOT, "crates", crate, "src", "main.rt"))
+
+
+def is_proof(crate: str) -> bool:
+    """Whether a crate is proof alone: a library without a type or a constant, whose functions are laws: they take nothing but an allocator, and return nothing."""
+    text = "\n".join(sources(crate))
+    calls = re.findall(r"(?m)^ *(?:pub(?:\(\w+\))? )?fn (.*)$", text)
+    return not is_program(crate) and not re.search(r"(?m)^ *(?:pub )?(?:struct|enum|trait|const|impl)\b", text) and all(re.match(r"\w+(?:<\w+>)?\((?:alloc: Global)?\)(?! ->)", it) for it in calls)
