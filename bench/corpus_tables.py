@@ -306,7 +306,7 @@ def speeds(results: Results, runs: int) -> str:
     covers = [fault["times"][f"coverage {runs}"] for fault in results["faults"].values()]
     what = f"{runs:,} runs of gcc's build with coverage, and gcov of each"
     rows.append([what, f"{runs / median(covers):.0f} a second", f"{min(covers):.1f} to {max(covers):.1f} s", ""])
-    return table(["What, by seconds of a processor", "median", "from, to", "sites observed a run, median"], rows)
+    return table(["What, in CPU seconds", "median", "from, to", "sites observed a run, median"], rows)
 
 
 def corpus_table() -> str:

@@ -13,6 +13,7 @@ import unittest
 
 ROOT = os.path.dirname(os.path.dirname(os.path.realpath(__file__)))
 
+PICTURE = "# Architecture\n\n### Base\n\n`low`\n\n### Tops\n\n`top`\n"
 LOW_SPEC = """\
 -- What is low.
 use Rattle.std.specs.Prelude.{ℕ, List}
@@ -155,7 +156,7 @@ class House(unittest.TestCase):
         self.write("crates/top/src/lib.rt", TOP_SOURCE)
         self.write("crates/top/specs/Top.antt", TOP_SPEC)
         self.write("crates/top/specs/Lib.antt", "pub mod Top\n")
-        self.write("docs/ARCHITECTURE.md", "`low` and `top`\n")
+        self.write("docs/ARCHITECTURE.md", PICTURE)
         for page in ("README.md", "CHANGELOG.md", "CONTRIBUTING.md", "docs/READING.md"):
             self.write(page, "nothing\n")
 
@@ -167,6 +168,10 @@ class House(unittest.TestCase):
         os.makedirs(os.path.dirname(file), exist_ok=True)
         with open(file, "w", encoding="utf-8") as it:
             it.write(text)
+
+    def read(self, name: str) -> str:
+        with open(os.path.join(self.room, name), encoding="utf-8") as it:
+            return it.read()
 
     def call(self, *words: str) -> "subprocess.CompletedProcess[str]":
         return subprocess.run([sys.executable, os.path.join(self.room, words[0]), *words[1:]], stdout=subprocess.PIPE, stderr=subprocess.PIPE,
@@ -210,13 +215,12 @@ class House(unittest.TestCase):
 
     def test_a_name_that_a_crate_takes_from_two_is_told(self) -> None:
         # neither of the two sees the other
-        self.write("crates.txt", "low:\nside:\ntop: low side\n")
+        self.write("crates.txt", "# Base\nlow:\nside:\n# Tops\ntop: low side\n")
         self.write("crates/side/src/lib.rt", "//! What is beside it.\n")
         self.write("crates/side/specs/Side.antt", "-- What is beside it.\nabbrev pub IsKept : Type 0\nIsKept = Unit {0}\n")
         self.write("crates/top/specs/Over.antt", "-- Over it.\nuse Rattle.low.specs.Low.{IsKept}\n\nabbrev pub IsOver : Type 0\nIsOver = IsKept [] × IsWhole []\n")
         self.write("crates/top/src/more.rt", "fn over()\n    ensures { IsOver }\n{\n}\n")
         self.write("crates/top/src/side.rt", "ghost use Rattle.side.specs.Side.{IsKept};\n\nfn beside()\n    ensures { IsKept }\n{\n}\n")
-        self.write("docs/ARCHITECTURE.md", "`low`, `side` and `top`\n")
         self.told("two-meanings IsKept: 2")
         os.remove(os.path.join(self.room, "crates/top/specs/Over.antt"))
         self.write("crates/top/src/low.rt", "ghost use Rattle.low.specs.Low.{IsDeep};\n\nfn deep()\n    ensures { IsDeep }\n{\n}\n")
@@ -275,18 +279,43 @@ class House(unittest.TestCase):
         self.told("unnamed crates/top/specs/Top.antt:Lonely: 1")
 
     def test_an_edge_that_nothing_uses_is_told(self) -> None:
-        self.write("crates.txt", "low:\nother:\ntop: low other\n")
+        self.write("crates.txt", "# Base\nlow:\nother:\n# Tops\ntop: low other\n")
         self.write("crates/other/src/lib.rt", "//! Another.\n")
-        self.write("docs/ARCHITECTURE.md", "`low`, `other` and `top`\n")
         self.told("unused-edge top:other: 1")
 
     def test_a_number_of_a_paper_is_told(self) -> None:
         self.write("README.md", "As T{}.4 says.\n".format(3))
         self.told("number README.md: 1")
 
-    def test_a_crate_that_is_off_the_map_is_told(self) -> None:
-        self.write("docs/ARCHITECTURE.md", "`low`\n")
-        self.told("off-the-map top: 1")
+    def test_a_room_that_the_architecture_has_no_heading_of_is_told(self) -> None:
+        self.write("docs/ARCHITECTURE.md", PICTURE.replace("### Tops", "Tops"))
+        self.told("off-the-map Tops: 1")
+
+    def test_a_crate_without_a_room_or_a_folder_is_told(self) -> None:
+        self.write("crates.txt", "low:\n\n# Tops: what is above\ntop: low\n")
+        self.told("off-the-map low: 1")
+        self.write("crates.txt", "# Base\nlow:\nnone:\n# Tops\ntop: low\n")
+        self.told("off-the-map none (no such folder): 1")
+
+    def test_a_word_of_this_house_is_told_in_a_document(self) -> None:
+        for page, text, line in (
+                ("docs/COST.md", "Nine minutes of the clock.\n", "docs/COST.md:of the clock: 1, say wall clock"),
+                ("docs/reference/COST.md", "Seconds of a processor and\nminutes of\na Processor.\n", "docs/reference/COST.md:of a processor: 2, say CPU seconds, CPU minutes"),
+                ("README.md", "It is reckoned.\n", "README.md:reckoned: 1, say computed, counted"),
+                ("CONTRIBUTING.md", "As it was read\noff.\n", "CONTRIBUTING.md:read off: 1, say measured, taken from"),
+                ("CHANGELOG.md", "What was due came.\n", "CHANGELOG.md:what was due: 1, say what was expected"),
+                ("bench/one/README.md", "That is what is due.\n", "bench/one/README.md:what is due: 1, say what is expected"),
+                ("examples/README.md", "All rows were met.\n", "examples/README.md:were met: 1, say passed, came"),
+                ("crates/README.md", "Who is told of it.\n", "crates/README.md:is told of it: 1, say what reports it, and to whom")):
+            with self.subTest(page):
+                self.write(page, text)
+                self.told(f"house-word {line}")
+                self.write(page, "nothing\n")
+
+    def test_the_fields_words_and_longer_ones_are_no_word_of_this_house(self) -> None:
+        self.write("docs/COST.md", "Wall clock; CPU minutes; a clockwork of the clocks; unreckoned; what is due process.\n".replace("what is due", "what isn't due"))
+        self.write("checks/more.py", "# reckoned, as the text of a script may say\n")
+        self.assertEqual(self.call("checks/house").stdout, "house: 0 new, 0 in all\n")
 
     def test_what_is_known_passes_for_a_reason_and_no_more_of_it(self) -> None:
         self.write("crates/top/specs/Top.antt", TOP_SPEC + "-- " + "x" * 158 + "\n")
@@ -325,30 +354,54 @@ class House(unittest.TestCase):
 
     def test_the_map_has_each_crate_by_its_room_and_each_file_by_its_head(self) -> None:
         self.assertEqual(self.call("house/map", "--write").returncode, 0)
-        with open(os.path.join(self.room, "docs", "reference", "MAP.md"), encoding="utf-8") as it:
-            rows = it.read().splitlines()
+        rows = self.read("docs/reference/MAP.md").splitlines()
         for row in ("## Base", "### `low`", "| `Low` | What is low. |", "## Tops", "The top of a house of two crates."):
             self.assertIn(row, rows)
+        self.assertEqual(self.call("house/map").stdout, self.read("docs/reference/MAP.md"))
         self.assertEqual(self.call("house/map", "--check").returncode, 0)
         self.write("crates/low/specs/Low.antt", "-- What is lower." + LOW_SPEC[len("-- What is low."):])
+        ran = self.call("house/map", "--check")
+        self.assertEqual((ran.returncode, ran.stderr), (1, "docs/reference/MAP.md isn't what house/map makes: house/map --write\n"))
+
+    def test_the_rooms_have_a_line_for_each_crate_and_say_what_no_program_calls(self) -> None:
+        """`cbi` calls `top` and that `low`; `laws` has laws alone, one with an allocator; `plain` is called by the program `cases` alone."""
+        self.write("crates.txt", "# Base: what is low\nlow:\nlaws: low\nplain: low\n# Tops\ntop: low\ncbi: top\n# Cases\ncases: plain rows\nrows:\n")
+        self.write("crates/low/src/low.rt", "pub fn low() -> u8\n{\n    1\n}\n")
+        self.write("crates/laws/src/lib.rt", "//! Laws of `low`. They say more; much more.\npub fn first()\n    ensures { IsKept }\n{}\n\npub fn second<B>(alloc: Global)\n{\n    first();\n}\n")
+        self.write("crates/plain/src/lib.rt", "//! The same | plainly; slowly.\npub fn plain(n: u8) -> u8\n{\n    n\n}\n")
+        self.write("crates/rows/src/lib.rt", "//! Rows.\npub struct Row {}\n")
+        for program in ("cbi", "cases"):
+            self.write(f"crates/{program}/src/main.rt", f"//! The program `{program}`.\nfn main()\n{{}}\n")
+        self.assertEqual(self.call("house/map", "--write").returncode, 0)
+        said = self.read("crates/README.md")
+        self.assertEqual([row for row in said.splitlines()[4:] if row and row not in ("| Crate | |", "|---|---|")], [
+            "## Base: what is low", "| [`low`](low) | What is low |",
+            "### Proofs that no program calls", "| [`laws`](laws) | Laws of `low` |",
+            "### Code that only examples call", "| [`plain`](plain) | The same \\| plainly |",
+            "## Tops", "| [`top`](top) | The top of a house of two crates |", "| [`cbi`](cbi) | The program `cbi` |",
+            "## Cases", "| [`cases`](cases) | The program `cases` |", "| [`rows`](rows) | Rows |"])
+        self.assertEqual(self.call("house/map", "--rooms").stdout, said)
+        self.write("crates/README.md", said + "More.\n")
+        ran = self.call("house/map", "--check")
+        self.assertEqual((ran.returncode, ran.stderr), (1, "crates/README.md isn't what house/map makes: house/map --write\n"))
+        os.remove(os.path.join(self.room, "crates", "README.md"))
         self.assertEqual(self.call("house/map", "--check").returncode, 1)
 
     def test_promises_has_each_public_function_with_the_names_of_its_clauses(self) -> None:
         self.write("crates/low/src/lib.rt", PASSED_SOURCE)
         self.write("crates/low/src/part.rt", PART_SOURCE)
         self.assertEqual(self.call("house/promises", "--write").returncode, 0)
-        with open(os.path.join(self.room, "docs", "reference", "PROMISES.md"), encoding="utf-8") as it:
-            rows = [row for row in it.read().splitlines() if row.startswith(("#", "| ["))]
+        rows = [row for row in self.read("docs/reference/PROMISES.md").splitlines() if row.startswith(("#", "| ["))]
         self.assertEqual(rows[1:], [
             "## Base",
             "### `low`",
-            "| [`a_law`](../crates/low/src/part.rt) | A law of `\\|`. | `small` | `first`, `{..}` |",
-            "| [`Box::open`](../crates/low/src/part.rt) | Opens it. |  | `{..}` 2 |",
-            "| [`Box`](../crates/low/src/part.rt) | It is a `Shown`. |  | `shown` |",
-            "| [`Box::show`](../crates/low/src/part.rt) | As `Shown` has it. |  | `told` |",
+            "| [`a_law`](../../crates/low/src/part.rt) | A law of `\\|`. | `small` | `first`, `{..}` |",
+            "| [`Box::open`](../../crates/low/src/part.rt) | Opens it. |  | `{..}` 2 |",
+            "| [`Box`](../../crates/low/src/part.rt) | It is a `Shown`. |  | `shown` |",
+            "| [`Box::show`](../../crates/low/src/part.rt) | As `Shown` has it. |  | `told` |",
             "## Tops",
             "### `top`",
-            "| [`whole`](../crates/top/src/lib.rt) | The whole. |  | `deep` |"])
+            "| [`whole`](../../crates/top/src/lib.rt) | The whole. |  | `deep` |"])
 
     def test_promises_tells_a_clause_that_has_another_name(self) -> None:
         self.assertEqual(self.call("house/promises", "--write").returncode, 0)

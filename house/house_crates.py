@@ -11,6 +11,12 @@ def read(file: str) -> str:
         return it.read()
 
 
+def write(file: str, text: str) -> None:
+    os.makedirs(os.path.dirname(file), exist_ok=True)
+    with open(file, "w", encoding="utf-8") as it:
+        it.write(text)
+
+
 def rooms() -> Iterator[Tuple[str, List[str]]]:
     """The headings of crates.txt, each with its crates; the first may have none."""
     heading = ""
