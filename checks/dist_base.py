@@ -47,7 +47,7 @@ class Case(unittest.TestCase):
         self.room = tempfile.mkdtemp(prefix="cbi dist ")
         self.addCleanup(shutil.rmtree, self.room)
         self.top = self.path("top")
-        for name in ("install", "build", "demo", "check", "checks/dist", "house/dist.py", "house/release", "house/unproved.py", "docs/cbi.1"):
+        for name in ("install", "build", "demo", "check", "checks/dist", "docs/cbi.1"):
             os.makedirs(os.path.dirname(self.path("top", name)), exist_ok=True)
             shutil.copy(os.path.join(TOP, name), self.path("top", name))
         for name in ("tools", "house", "examples/lookup"):
