@@ -13,7 +13,7 @@ from house_crates import below, edges
 
 Texts = Dict[Tuple[str, str], str]
 # Rises with each change of how a try is made or judged: what was kept before is tried again.
-VERSION = 1
+VERSION = 2
 # How a goal was refused, by the prover's own words, the strongest first.
 WAYS = (("values", re.compile(r"allow values at which this goal is false|the goal fails, at|the goal does not follow from what it read")),
         ("types", re.compile(r"two types (?:first )?differ|differ only where")),
@@ -36,10 +36,11 @@ class Refusal(NamedTuple):
 
 
 class Outcome(NamedTuple):
-    """What a try came to for one body: what refused it, or why it is not taken as refused."""
+    """What a try came to for one body: what refused it, one goal a function, the other goals of these functions that are open, or why it is not taken as refused."""
     body: str
     refusals: Tuple[Refusal, ...]
     fault: str
+    others: Tuple[Refusal, ...] = ()
 
 
 class Try(NamedTuple):
@@ -201,6 +202,11 @@ def way(said: str) -> str:
     return next((name for name, words in WAYS if words.search(said)), "names" if NAMES.search(said) else "search")
 
 
+def strength(name: str) -> int:
+    """The place of a way among the ways, the strongest first."""
+    return [it for it, _ in WAYS].index(name)
+
+
 def told(every: List[Function], said: str) -> Dict[str, List[Refusal]]:
     """What the prover said of each function's own goals, by the function's path."""
     found: Dict[str, List[Refusal]] = {}
@@ -254,6 +260,7 @@ def add_lemmas(own: Dict[str, List[Refusal]], every: List[Function], body: Body,
 def judged(body: Body, every: List[Function], own: Dict[str, List[Refusal]], statuses: Dict[str, str], strays: List[str]) -> Outcome:
     """What the check says of one body."""
     refusals: List[Refusal] = []
+    others: List[Refusal] = []
     for name in body.refused:
         paths = [it.path for it in every if is_named(it.path, name)]
         if len(paths) != 1:
@@ -266,15 +273,21 @@ def judged(body: Body, every: List[Function], own: Dict[str, List[Refusal]], sta
             only = own.get(path)
             why = f"only because a proof file names what the change took away: {only[0].said[:160]}" if only else f"no goal of its own is left open ({statuses.get(path, 'nothing is said of it')})"
             return Outcome(body.name, (), f"{path} is not proved, but {why}")
-        refusals.append(min(goals, key=lambda it: [name for name, _ in WAYS].index(it.way)))
+        goals.sort(key=lambda it: (strength(it.way), it.goal))
+        refusals.append(goals[0])
+        others += goals[1:]
     if strays:
         return Outcome(body.name, (), f"it breaks another function than it says, {', '.join(strays)}")
-    return Outcome(body.name, tuple(refusals), "")
+    return Outcome(body.name, tuple(refusals), "", tuple(others))
 
 
 def as_text(outcomes: List[Outcome]) -> str:
-    return json.dumps([[it.body, [list(refusal) for refusal in it.refusals], it.fault] for it in outcomes])
+    return json.dumps([[it.body, [list(refusal) for refusal in it.refusals], it.fault, [list(refusal) for refusal in it.others]] for it in outcomes])
 
 
 def from_text(text: str) -> List[Outcome]:
-    return [Outcome(body, tuple(Refusal(function, goal, way(said), said) for function, goal, _, said in refusals), fault) for body, refusals, fault in json.loads(text)]
+    return [Outcome(body, refusals_in(first), fault, refusals_in(others)) for body, first, fault, others in json.loads(text)]
+
+
+def refusals_in(rows: List[List[str]]) -> Tuple[Refusal, ...]:
+    return tuple(Refusal(function, goal, way(said), said) for function, goal, _, said in rows)

@@ -33,7 +33,7 @@ class Ways(Case):
     """The commands for a fresh clone."""
 
     def test_words_that_are_wrong_are_told(self):
-        usages = {"build": "usage: ./build FOLDER [--man FOLDER] [--gate | --unproved | --checked]\n", "demo": "usage: ./demo [--build] [PAGE]\n", "check": "usage: ./check [--all] [CRATE..]\n"}
+        usages = {"build": "usage: ./build FOLDER [--man FOLDER] [--gate | --unproved | --checked]\n", "demo": "usage: ./demo [--build] [PAGE]\n", "check": "usage: ./check [--all] [KIND..]\n"}
         for words in (["build"], ["build", "--what", "a"], ["build", "a", "b"], ["build", "a", "--man"], ["build", "a", "--gate", "--unproved"], ["build", "--help"], ["demo", "a", "b"], ["demo", "--help"], ["check", "--help"]):
             self.executable("rt", "#!/bin/sh\necho \"$*\" >>'" + self.path("asked") + "'\n")
             self.assertEqual(self.way(*words), (2, "", usages[words[0]]), words)
@@ -125,8 +125,8 @@ echo "$(wc -l <"$said") ok, 0 not" >>"$said"
         return self.call("bash", "-c", f"ulimit -S -s 8192; ulimit -H -s {limit or '$(ulimit -H -s)'}; PATH='{self.path('bin')}':$PATH exec '{looking.TOP}/check' \"$@\"", "check", *words, due=due)
 
     def test_rows_that_are_met_and_rows_that_are_not(self):
-        """What is due is what the gate asks of the program, but for the rows that are left out."""
-        slow = sum(1 for crate, *_ in self.slow_rows() if crate == "cases_pairs")
+        """What is expected is what the gate asks of the program, but for the rows that are left out."""
+        slow = sum(1 for kind, *_ in self.slow_rows() if kind == "cases_pairs")
         begins = r"^\./check: rt builds and runs programs without their proofs, [^\n]* CPU minutes each: cases_pairs\. \.ci/run proves, [^\n]*\n"
         out, err = self.checked('cat "$said"', "cases_pairs")
         self.assertRegex(out, begins + rf"cases_pairs: {29 - slow} ok, 0 not, in \d+ s; {slow} slow rows left out\n$")
@@ -137,21 +137,38 @@ echo "$(wc -l <"$said") ok, 0 not" >>"$said"
             out, err = self.checked(body, "cases_pairs", due=1)
             self.assertRegex(out, begins + "$")
             self.assertIn(told, err)
-            self.assertTrue(err.endswith(f"\n./check: cases_pairs didn't write what its stdout has; rt try ended with status {status}\n"), err)
-        for name in ("nowhere", "cbi", "cases_rows"):
+            self.assertTrue(err.endswith(f"\n./check: cases_pairs didn't write what the stdout of its program has; rt try ended with status {status}\n"), err)
+        for name in ("nowhere", "cbi", "cases_rows", "cases"):
             _, err = self.checked('cat "$said"', name, due=2)
-            self.assertEqual(err, f"./check: {name} is no program of cases\n")
+            self.assertEqual(err, f"./check: {name} is no kind of cases; there are cases_base cases_pairs cases_machine cases_files cases_texts cases_commands\n")
 
-    def test_all_programs_of_cases_are_looked_at_where_none_is_named(self):
+    def test_all_kinds_of_cases_are_looked_at_where_none_is_named(self):
         # no git, so the released executable isn't taken for the tree's own, which checks/process and checks/examples would look at
         self.executable("git", "#!/bin/sh\nexit 1\n")
         out, _ = self.checked('cat "$said"')
         found = {line.split(": ")[0]: int(line.split()[1]) for line in out.splitlines()[1:]}
-        due = collections.Counter({crate: self.of_crate(crate, "stdout").count("\nok ") + 1 for crate in found})
-        due.subtract(crate for crate, *_ in self.slow_rows())
+        due = collections.Counter()
+        for crate in ("cases", "cases_commands"):
+            for name in self.of_crate(crate, "args").split():
+                due[self.kind_of(crate, name)] += f"\n{self.of_crate(crate, 'data', name)}".count("\ncase ")
+        due.subtract(kind for kind, *_ in self.slow_rows())
         self.assertEqual(found, dict(due))
-        crates = os.listdir(os.path.join(looking.TOP, "crates"))
-        self.assertEqual(sorted(found), sorted(name for name in crates if name.startswith("cases_") and "stdout" in os.listdir(os.path.join(looking.TOP, "crates", name))))
+
+    def test_every_file_of_rows_is_looked_at_and_each_row_is_expected_once(self):
+        for crate in ("cases", "cases_commands"):
+            folder = os.path.join(looking.TOP, "crates", crate, "data")
+            there = [os.path.relpath(os.path.join(at, name), folder) for at, _, names in os.walk(folder) for name in names]
+            names = self.of_crate(crate, "args").split()
+            self.assertEqual(sorted(names), sorted(there))
+            rows = [line[5:] for name in names for line in self.of_crate(crate, "data", name).split("\n") if line.startswith("case ")]
+            self.assertEqual(self.of_crate(crate, "stdout").splitlines(), [*(f"ok {row}" for row in rows), f"{len(rows)} ok, 0 not"])
+
+    def test_the_program_of_a_kind_has_its_rows_alone(self):
+        """It is a library and a main, so that its answers don't wait for what other kinds link."""
+        note = f"sed -n 's/^use cases_/made of /p' src/main.rt >>'{self.path('made')}'; sed -n '/^look_at_/p' ../../crates.txt >>'{self.path('made')}'"
+        out, _ = self.checked(f'{note}; cat "$said"', "cases_base")
+        self.assertIn("\ncases_base: 16 ok, 0 not, in ", out)
+        self.assertEqual(self.read("made").decode(), "made of base::BaseRows;\nmade of rows::look;\nlook_at_cases_base: cases_base cases_rows\n")
 
     def test_rows_that_nest_deep_have_a_large_stack_where_the_system_gives_one(self):
         given = resource.getrlimit(resource.RLIMIT_STACK)[1]
@@ -167,13 +184,19 @@ echo "$(wc -l <"$said") ok, 0 not" >>"$said"
         with open(os.path.join(looking.TOP, "crates", crate, *parts), encoding="utf-8") as file:
             return file.read()
 
+    @staticmethod
+    def kind_of(crate, name):
+        """The kind of the rows that a file of a program of cases has."""
+        return f"cases_{name.split('/')[0]}" if crate == "cases" else crate
+
     def slow_rows(self):
-        """The rows that are left out: crate, file, row and why."""
+        """The rows that are left out: kind, crate, file, row and why."""
         with open(os.path.join(looking.TOP, "checks", "slow_rows"), encoding="utf-8") as file:
-            return [tuple(line.rstrip("\n").split("|")) for line in file if not line.startswith("#")]
+            rows = [line.rstrip("\n").split("|") for line in file if not line.startswith("#")]
+        return [(self.kind_of(crate, name), crate, name, row, why) for crate, name, row, why in rows]
 
     def test_what_is_left_out_is_a_row_and_has_a_reason(self):
-        for crate, name, row, why in self.slow_rows():
+        for _, crate, name, row, why in self.slow_rows():
             self.assertIn(name, self.of_crate(crate, "args").split())
             self.assertEqual(self.of_crate(crate, "data", name).split("\n").count(f"case {row}"), 1, row)
             self.assertTrue(why, row)

@@ -147,6 +147,15 @@ class Page(unittest.TestCase):
             found["low", "another"] = Outcome("another", (Refusal("twice", "overflow", "values", ""),), "")
             self.assertIn("low/another", differs(room, [body("a_body", "twice"), body("another", "twice")], found)[0])
 
+    def test_a_line_holds_for_each_open_goal(self) -> None:
+        first, second = Refusal("twice", "returns", "values", ""), Refusal("twice", "overflow", "search", "")
+        for line_of, refusals, others, well in ((second, (first,), (second,), True), (second, (first,), (), False), (first, (first._replace(way="search"),), (), False),
+                                                (second, (second._replace(way="limit"),), (), True), (second, (second._replace(way="values"),), (), True), (second, (first, second), (), False)):
+            with tempfile.TemporaryDirectory() as room:
+                write(room, [body("a_body", "twice")], {("low", "a_body"): Outcome("a_body", (line_of,), "")})
+                found = {("low", "a_body"): Outcome("a_body", refusals, "", others)}
+                self.assertEqual(differs(room, [body("a_body", "twice")], found) == [], well, (line_of, refusals, others))
+
 
 COMPARE = "(left.top * right.bottom).cmp(&(right.top * left.bottom))"
 BODIES: Dict[str, Tuple[str, str, str, str]] = {

@@ -65,9 +65,9 @@ fn tell_answers(
 }
 
 /// The rows of the shared types.
-pub struct Asked;
+pub struct BaseRows;
 
-impl Rows for Asked {
+impl Rows for BaseRows {
     fn unread<'a>(&self, texts: &str, row: &'a str) -> Option<&'a str> {
         bad_line(&FORM, texts, row)
     }

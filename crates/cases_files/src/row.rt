@@ -143,15 +143,15 @@ fn tell_program(texts: &str, row: &str, told: &mut Page) {
 }
 
 /// The rows of files and of rankings.
-pub struct Asked;
+pub struct FileRows;
 
-impl Answers for Asked {
+impl Answers for FileRows {
     fn answer(&self, question: &str, came: &mut Page) -> bool {
         answer(question, came)
     }
 }
 
-impl Rows for Asked {
+impl Rows for FileRows {
     /// Something has to be asked for, and something must come.
     fn unread<'a>(&self, texts: &str, row: &'a str) -> Option<&'a str> {
         match bad_line(&FORM, texts, row) {

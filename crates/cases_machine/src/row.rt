@@ -44,15 +44,15 @@ const ASKS: [&str; 6] = [
 ];
 
 /// The rows of programs, runs and values.
-pub struct Asked;
+pub struct MachineRows;
 
-impl Answers for Asked {
+impl Answers for MachineRows {
     fn answer(&self, question: &str, came: &mut Page) -> bool {
         answer(question, came)
     }
 }
 
-impl Rows for Asked {
+impl Rows for MachineRows {
     fn unread<'a>(&self, texts: &str, row: &'a str) -> Option<&'a str> {
         match bad_line(&FORM, texts, row) {
             None if !has_any(row, &ASKS) => Some("it asks for nothing"),

@@ -47,9 +47,9 @@ fn answer_bound(numbers: &[u32], came: &mut Page) -> bool {
 }
 
 /// The rows of pairs.
-pub struct Asked;
+pub struct PairRows;
 
-impl Answers for Asked {
+impl Answers for PairRows {
     fn answer(&self, question: &str, came: &mut Page) -> bool {
         let Some(words) = question.strip_prefix("bound ") else {
             return false;
@@ -61,7 +61,7 @@ impl Answers for Asked {
     }
 }
 
-impl Rows for Asked {
+impl Rows for PairRows {
     /// Something must come.
     fn unread<'a>(&self, texts: &str, row: &'a str) -> Option<&'a str> {
         match bad_line(&FORM, texts, row) {

@@ -5,7 +5,7 @@
 //! A block's lines are indented by four blanks, and each stands for its text and a newline. A backslash at a line's end: no newline. `\xHH`: a byte, so
 //! `\x5C` a backslash, and an empty line of a block is `    \x0A\`. `\*N ` at a line's begin: the line's bytes N times.
 //!
-//! A program of cases is `look` over its kind of `Rows`.
+//! A program of cases is `look` over its kind of `Rows`, or `look_by_file` over `Files` of several kinds.
 #![tactic(auto)]
 
 mod bytes;
@@ -22,4 +22,4 @@ pub use form::{
 };
 pub use given::{keep, numbers_in, numbers_of, piece_of, store_of, words_of};
 pub use page::Page;
-pub use rows::{Rows, look};
+pub use rows::{Files, Rows, Tally, look, look_at_file, look_by_file, print_unread};

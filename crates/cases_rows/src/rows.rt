@@ -26,13 +26,13 @@ fn parts_of(file: &str) -> Option<(&str, &str)> {
 
 /// How many rows were answered `ok`, and how many otherwise.
 #[derive(Clone, Copy)]
-struct Tally {
+pub struct Tally {
     ok: u64,
     not: u64,
 }
 
 /// Answers a row or a file that can't be read: `unread NAME` and why.
-fn print_unread(rt: &HostRuntime, name: &str, why: &str, tally: &mut Tally) -> io::Result<()> {
+pub fn print_unread(rt: &HostRuntime, name: &str, why: &str, tally: &mut Tally) -> io::Result<()> {
     tally.not = tally.not.saturating_add(1);
     println!(rt; "unread {name}\n{why}")
 }
@@ -86,7 +86,8 @@ fn look_at_rows<R: Rows>(
     Ok(())
 }
 
-fn look_at_file<R: Rows>(
+/// Looks at each row of a file, in order, where all are of this kind.
+pub fn look_at_file<R: Rows>(
     rt: &HostRuntime,
     rows: &R,
     name: &str,
@@ -98,11 +99,29 @@ fn look_at_file<R: Rows>(
     }
 }
 
+/// The files of a program of cases.
+pub trait Files {
+    /// Looks at each row of the file with this name, in order.
+    fn look_at(&self, rt: &HostRuntime, name: &str, tally: &mut Tally) -> io::Result<()>;
+}
+
+/// Files whose rows are all of one kind.
+#[derive(Drop)]
+struct OfKind<'a, R> {
+    rows: &'a R,
+}
+
+impl<'a, R: Rows> Files for OfKind<'a, R> {
+    fn look_at(&self, rt: &HostRuntime, name: &str, tally: &mut Tally) -> io::Result<()> {
+        look_at_file(rt, self.rows, name, tally)
+    }
+}
+
 /// Looks at each row of the files that the program's words name; whether there is some row, and each is `ok`.
-fn look_at_files<R: Rows>(rt: &HostRuntime, rows: &R) -> io::Result<bool> {
+fn look_at_files<F: Files>(rt: &HostRuntime, files: &F) -> io::Result<bool> {
     let mut tally = Tally { ok: 0, not: 0 };
     for name in env::args(rt)?.skip(1) {
-        look_at_file(rt, rows, name.as_str(), &mut tally)?;
+        files.look_at(rt, name.as_str(), &mut tally)?;
     }
     println!(rt; "{} ok, {} not", tally.ok, tally.not)?;
     Ok(tally.ok > 0 && tally.not == 0)
@@ -110,9 +129,14 @@ fn look_at_files<R: Rows>(rt: &HostRuntime, rows: &R) -> io::Result<bool> {
 
 /// Looks at each row of the files that the program's words name, and answers a line of each and one that sums up. The status isn't 0 where there is no row, or
 /// one isn't `ok`.
-pub fn look<R: Rows>(rt: &HostRuntime, rows: &R) -> ExitCode {
-    match look_at_files(rt, rows) {
+pub fn look_by_file<F: Files>(rt: &HostRuntime, files: &F) -> ExitCode {
+    match look_at_files(rt, files) {
         Ok(true) => ExitCode::SUCCESS,
         _ => ExitCode::FAILURE,
     }
+}
+
+/// The same, where all rows are of one kind.
+pub fn look<R: Rows>(rt: &HostRuntime, rows: &R) -> ExitCode {
+    look_by_file(rt, &OfKind { rows })
 }

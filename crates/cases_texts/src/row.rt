@@ -130,9 +130,9 @@ fn tell_text(texts: &str, head: &str, step: &str, told: &mut Page) {
 }
 
 /// The rows of texts.
-pub(crate) struct Texts;
+pub struct TextRows;
 
-impl Rows for Texts {
+impl Rows for TextRows {
     fn unread<'a>(&self, texts: &str, row: &'a str) -> Option<&'a str> {
         bad_line(texts, row)
     }

@@ -23,10 +23,4 @@ mod runs;
 mod sited;
 mod typed;
 
-use cases_rows::look;
-use row::Texts;
-use std::process::ExitCode;
-
-fn main(rt: HostRuntime) -> ExitCode {
-    look(&rt, &Texts)
-}
+pub use row::TextRows;

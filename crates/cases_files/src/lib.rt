@@ -1,5 +1,5 @@
 //! Program files, banks, lists of names, reports and collections as they are read, written and grown, the numbers of rankings, eliminations and cards, as the
-//! rows of the files ask for them that the words name.
+//! rows of files ask for them.
 #![tactic(auto)]
 
 mod bytes;
@@ -13,10 +13,4 @@ mod row;
 mod session_rows;
 mod thrown;
 
-use cases_rows::look;
-use row::Asked;
-use std::process::ExitCode;
-
-fn main(rt: HostRuntime) -> ExitCode {
-    look(&rt, &Asked)
-}
+pub use row::FileRows;
