@@ -147,6 +147,17 @@ class Page(unittest.TestCase):
             found["low", "another"] = Outcome("another", (Refusal("twice", "overflow", "values", ""),), "")
             self.assertIn("low/another", differs(room, [body("a_body", "twice"), body("another", "twice")], found)[0])
 
+    def test_what_is_not_tried_keeps_its_line(self) -> None:
+        every = [body("a_body", "twice"), body("another", "twice")]
+        first = {("low", name): Outcome(name, (Refusal("twice", "returns", "values", ""),), "") for name in ("a_body", "another")}
+        again = {("low", "another"): Outcome("another", (Refusal("twice", "overflow", "search", ""),), "")}
+        with tempfile.TemporaryDirectory() as room:
+            write(room, every, first)
+            write(room, every, again)
+            self.assertEqual(differs(room, every, {**first, **again}), [])
+            with open(os.path.join(room, "docs", "reference", "WRONG_BODIES.md"), encoding="utf-8") as it:
+                self.assertTrue(it.read().endswith("\n\n2 bodies: 1 by values, 1 by search.\n"))
+
     def test_a_line_holds_for_each_open_goal(self) -> None:
         first, second = Refusal("twice", "returns", "values", ""), Refusal("twice", "overflow", "search", "")
         for line_of, refusals, others, well in ((second, (first,), (second,), True), (second, (first,), (), False), (first, (first._replace(way="search"),), (), False),
