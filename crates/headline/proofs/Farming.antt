@@ -1,9 +1,13 @@
 -- The reports of a farm's texts are those of its runs, under the numbers that the sites have in the whole table.
+use Rattle.std.specs.Prelude.{slice_get}
+use Rattle.std.specs.List.{AllByRecursion}
 use Rattle.std.proofs.Common.{◌≡◌, ℕ, true, List, [], ◌∷◌, ◌++◌, map, Option, ap, ap₂, sym, subst, ◌∙◌, refl}
 use Rattle.flow.specs.Words.{PartFits, OneEnding, table_of, SpellsProgram}
 use Rattle.cbi_base.specs.declared.identity.ProgramId.{ProgramId}
 use Rattle.cbi_base.specs.Store.{Held}
 use Rattle.flow.specs.declared.choice.Part.{Part}
+use Rattle.flow.specs.declared.site.Site.{Site}
+use Rattle.flow.specs.declared.site.TableParts.{TableParts}
 use Rattle.sha2.specs.Sha256.{sha256}
 use Rattle.c_syntax.specs.ItemTree.{SourceTree}
 use Rattle.c_types_expressions.specs.declared.walk.Walk.{Walk}
@@ -16,6 +20,8 @@ use Rattle.collector.specs.Spelling.{SpellsBundle, bundle_text}
 use Rattle.elimination_tallies.specs.declared.labelled.LabelledRun.{LabelledRun}
 use Rattle.elimination_tallies.specs.Recount.{run_of_report, runs_of}
 use Rattle.ranking.specs.Ranked.{IsRankingOf}
+use Rattle.site_parts.specs.Laws.{HasItsSites}
+use Rattle.site_parts.specs.Part.{part_of, whole_number}
 use Rattle.site_parts.specs.Widened.{widened_entries, widened_report}
 use Rattle.compiler.specs.Accepted.{IsAccepted}
 use Rattle.compiler.proofs.Refusing.{OneKnown, OneTree}
@@ -26,8 +32,8 @@ use Rattle.command_collect.proofs.FileLemmas.{bundle-file}
 use Rattle.cbi_options.specs.declared.words.RankWords.{RankWords}
 use Rattle.command_rank.specs.Rank.{IsRanked}
 use Rattle.command_widen.specs.Widen.{widened_as}
-use Rattle.headline.specs.Chain.{AreEach, AreReportsOf, IsReportOf, Made, meant_table}
-use Rattle.headline.specs.Farm.{HoldParts, IsLeftByWiden, PartRun, meant_part_run, part_runs, run_number}
+use Rattle.headline.specs.Chain.{AreEach, AreReportsOf, IsReportOf, Made, meant_sites, meant_table}
+use Rattle.headline.specs.Farm.{HasItsShare, HoldParts, IsFarmRanking, IsLeftByWiden, PartRun, meant_part_run, part_runs, run_number}
 use Rattle.headline.specs.Farm.HoldParts.{APart, NoParts, SomeParts}
 use Rattle.headline.specs.Handed.{IsLeftByCollect, by_number, firsts_by_number}
 use Rattle.headline.specs.Laws.{AWidenedCollectionIsOfTheWhole}
@@ -105,7 +111,7 @@ module _ (one_ending : OneEnding) (one_program : OneProgram) (one_tree : OneTree
         (same-through all (map_of all) left.collected.collection.reports (λ r. ((members all alike r).1, (members all alike r).0)) (same-as (map_of all) left.collected.collection.reports (sym held)))
 
     -- a widened collection
-    a-part : (words : TransformWords) (share : Part) (made : List Made) (more : List PartRun) (wide : List ℕ) (texts : List (List ℕ)) → IsLeftByWiden text words share made wide → AreHeldParts more texts
+    a-part : (words : TransformWords) (share : Part) (made : List Made) (more : List PartRun) (wide : List ℕ) (texts : List (List ℕ)) → IsLeftByWiden text whole words share made wide → AreHeldParts more texts
         → AreHeldParts (part_runs words share (by_number made) ++ more) (wide ∷ texts)
     a-part words share made more wide texts left rest =
         let w = left.widened in
@@ -145,11 +151,44 @@ module _ (one_ending : OneEnding) (one_program : OneProgram) (one_tree : OneTree
     held-parts (SomeParts {runs = runs} {more = more} {collection = collection} {inner = inner} {texts = texts} left within rest) =
         some-parts runs more collection inner texts left (held-parts within) (held-parts rest)
 
+    -- site s of a part's program is the site I + s * N of the whole one
+    share-of : HasItsSites → (words part : TransformWords) (share : Part) (made : List Made) (wide : List ℕ) → IsFileOf words text whole → IsLeftByWiden text whole part share made wide
+        → (site : ℕ) → slice_get (meant_sites tree known (plan_of part)) site ≡ slice_get (meant_sites tree known (plan_of words)) (whole_number share site)
+    share-of has_sites words part share made wide is left site =
+        let w = left.widened in
+        let parts_mean = table-means one_ending one_program one_tree one_known text left.file (plan_of part) left.is_file.program left.is_file.compiled left.is_file.spells tree known accepted w.parts
+        (subst (λ bytes. SpellsProgram bytes w.parts) left.program_is w.spell.runs.spell.program) in
+        let whole_means = table-means one_ending one_program one_tree one_known text whole (plan_of words) is.program is.compiled is.spells tree known accepted w.whole
+        (subst (λ bytes. SpellsProgram bytes w.whole) left.whole_is w.spell.whole_spelled) in
+        let same : meant_sites tree known (plan_of part) ≡ part_of share (meant_sites tree known (plan_of words)) =
+        ap (λ (t : TableParts). t.sites) (sym parts_mean) ∙ ap (λ (t : TableParts). t.sites) w.spell.has_part
+        ∙ ap (λ (p : Part). part_of p (table_of w.whole).sites) left.share_is ∙ ap (λ (t : TableParts). part_of share t.sites) whole_means in
+        ap (λ (sites : List Site). slice_get sites site) same ∙ has_sites share (meant_sites tree known (plan_of words)) site left.fits
+
+    both-share : (P : PartRun → Type 0) (a b : List PartRun) → AllByRecursion P a → AllByRecursion P b → AllByRecursion P (a ++ b)
+    both-share P [] b first second = second
+    both-share P (run ∷ a) b first second = (first.0, both-share P a b first.1 second)
+
+    each-share : (words part : TransformWords) (share : Part) (made : List Made)
+        → ((site : ℕ) → slice_get (meant_sites tree known (plan_of part)) site ≡ slice_get (meant_sites tree known (plan_of words)) (whole_number share site))
+        → AllByRecursion (HasItsShare tree known (plan_of words)) (part_runs part share made)
+    each-share words part share [] has = tt
+    each-share words part share (one ∷ made) has = (has, each-share words part share made has)
+
+    all-shares : HasItsSites → (words : TransformWords) → IsFileOf words text whole → {runs : List PartRun} {texts : List (List ℕ)} → HoldParts text whole runs texts
+        → AllByRecursion (HasItsShare tree known (plan_of words)) runs
+    all-shares has_sites words is NoParts = tt
+    all-shares has_sites words is (APart {words = part} {share = share} {made = made} {more = more} {wide = wide} left rest) =
+        both-share (HasItsShare tree known (plan_of words)) (part_runs part share (by_number made)) more
+        (each-share words part share (by_number made) (share-of has_sites words part share made wide is left)) (all-shares has_sites words is rest)
+    all-shares has_sites words is (SomeParts {runs = runs} {more = more} left within rest) =
+        both-share (HasItsShare tree known (plan_of words)) runs more (all-shares has_sites words is within) (all-shares has_sites words is rest)
+
     -- the ranking of such a collection
-    pub ranks-farm : (words : TransformWords) (collection ranking : List ℕ) (runs : List PartRun) (texts : List (List ℕ)) (held : Option Held) (r : RankWords) → IsFileOf words text whole → HoldParts text whole runs texts
+    ranked-so : (words : TransformWords) (collection ranking : List ℕ) (runs : List PartRun) (texts : List (List ℕ)) (held : Option Held) (r : RankWords) → IsFileOf words text whole → HoldParts text whole runs texts
         → IsLeftByCollect whole texts collection → (ranked : IsRanked held r ranking) → ranked.texts.program ≡ whole → ranked.texts.collection ≡ collection
         → IsRankingOf (meant_table tree known (plan_of words)) r.policy (map (meant_part_run tree known) (firsts_by_number run_number runs)) ranking
-    ranks-farm words collection ranking runs texts held r is hold left ranked program_is collection_is =
+    ranked-so words collection ranking runs texts held r is hold left ranked program_is collection_is =
         let c = left.collected.collection in
         let within = held-parts hold in
         let b = ranked.bundle in
@@ -162,3 +201,11 @@ module _ (one_ending : OneEnding) (one_program : OneProgram) (one_tree : OneTree
         (subst (λ bytes. SpellsProgram bytes ranked.parts) program_is ranked.spell.spell.program) in
         subst (λ t. IsRankingOf t r.policy (map (meant_part_run tree known) (firsts_by_number run_number runs)) ranking) table
         (subst (λ rs. IsRankingOf (table_of ranked.parts) r.policy rs ranking) seen ranked.ranking)
+
+    pub ranks-farm : HasItsSites → (words : TransformWords) (collection ranking : List ℕ) (runs : List PartRun) (texts : List (List ℕ)) (held : Option Held) (r : RankWords) → IsFileOf words text whole
+        → HoldParts text whole runs texts → IsLeftByCollect whole texts collection → (ranked : IsRanked held r ranking) → ranked.texts.program ≡ whole → ranked.texts.collection ≡ collection
+        → IsFarmRanking tree known (plan_of words) r.policy runs ranking
+    ranks-farm has_sites words collection ranking runs texts held r is hold left ranked program_is collection_is = record {
+      ranking_is = ranked-so words collection ranking runs texts held r is hold left ranked program_is collection_is;
+      shares = all-shares has_sites words is hold;
+    }

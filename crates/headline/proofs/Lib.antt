@@ -15,3 +15,4 @@ pub mod Ranking
 pub mod Stopping
 pub mod Studies
 pub mod Widened
+pub mod WideningUnrefused

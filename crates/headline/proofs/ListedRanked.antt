@@ -1,5 +1,5 @@
 -- What `runs` writes is what is collected of its calls, and what is ranked are its runs.
-use Rattle.std.proofs.Common.{◌≡◌, ◌≤◌, ◌<◌, ◌+◌, ℕ, suc, Bool, List, [], ◌∷◌, length, Option, None, ap, sym, subst, ◌∙◌, refl, arith}
+use Rattle.std.proofs.Common.{◌≡◌, ℕ, suc, Bool, List, [], ◌∷◌, length, Option, None, ap, sym, subst, ◌∙◌, refl, arith}
 use Rattle.sha2.specs.Sha256.{sha256}
 use Rattle.cbi_base.specs.Store.{Held}
 use Rattle.cbi_base.specs.declared.identity.ProgramId.{ProgramId}

@@ -1,5 +1,6 @@
 -- The runs of a study are those that its chain makes.
-use Rattle.std.proofs.Common.{◌≡◌, ℕ, suc, true, List, [], ◌∷◌, length, map, None, Option, ap, ap₂, sym, ◌∙◌, refl, arith}
+use Rattle.std.specs.Prelude.{◌==◌, if◌then◌else◌}
+use Rattle.std.proofs.Common.{◌≡◌, ◌<◌, ℕ, suc, true, lt-ltb, List, [], ◌∷◌, length, map, None, Option, ap, ap₂, sym, ◌∙◌, refl, arith}
 use Rattle.cbi_base.specs.declared.observation.Observation.{Observation}
 use Rattle.cbi_base.specs.declared.outcome.Outcome.{Outcome}
 use Rattle.c_syntax.specs.ItemTree.{SourceTree}
@@ -16,6 +17,7 @@ use Rattle.study.specs.Study.{AreStudyRuns, IsStudyRun, StudyRun, labelled_run}
 use Rattle.study.specs.Studied.{run_of, study_form}
 use Rattle.command_run.specs.Run.{is_expected_output}
 use Rattle.headline.specs.Chain.{AreMadeFor, IsMadeFor, Made, meant_behaviour, meant_run, meant_sites}
+use Rattle.headline.specs.Handed.{by_number, made_number, with_first}
 
 -- a run as a ranking sees it, where no output is asked for
 abbrev seen-as : List Site → Outcome → List Observation → LabelledRun
@@ -51,3 +53,16 @@ module _ (one_bank : OneBank) (one_input : OneInput) (tree : SourceTree) (known 
 pub length-runs : (endings : List Ending) → length (map run_of endings) ≡ length endings
 length-runs [] = refl
 length-runs (e ∷ more) = ap suc (length-runs more)
+
+placed-first : (one x : Made) (more : List Made) → made_number one < made_number x → with_first made_number one (x ∷ more) ≡ one ∷ x ∷ more
+placed-first one x more less =
+    ap (λ before. if before then one ∷ x ∷ more else (if made_number one == made_number x then one ∷ more else x ∷ with_first made_number one more))
+    (lt-ltb (made_number one) (made_number x) less)
+
+-- runs that are made for rising numbers stand by number
+pub by-rising : (plan : StudyPlan) (number : ℕ) (made : List Made) → AreMadeFor plan number made → by_number made ≡ made
+by-rising plan number [] for = refl
+by-rising plan number (one ∷ []) for = refl
+by-rising plan number (one ∷ x ∷ more) for =
+    let less : made_number one < made_number x = omega (arith, for.0.run, for.1.0.run) in
+    ap (with_first made_number one) (by-rising plan (suc number) (x ∷ more) for.1) ∙ placed-first one x more less

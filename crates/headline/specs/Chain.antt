@@ -109,6 +109,7 @@ meant_report tree known plan file work made = record {
 
 -- the run is the one that a study makes for this number: its bank and its line, within the study's turns, and no output is asked for
 pub record IsMadeFor (plan : StudyPlan) (number : ℕ) (made : Made) : Type 0 where
+  pub run : made.words.run ≡ number
   pub made_run : IsMadeRun plan.seed plan.rate number made.bank made.files.input
   pub turns : made.words.turns ≡ plan.turns
   pub expect : made.files.expect ≡ None

@@ -20,6 +20,7 @@ use Rattle.command_rank.specs.Rank.{IsRanked}
 use Rattle.cbi_options.specs.declared.words.WidenWords.{WidenWords}
 use Rattle.command_widen.specs.Widen.{IsWidened, widened_as}
 use Rattle.headline.specs.Chain.{AreMadeFor, AreReportsOf, Made, RunsAsMeant, meant_run, meant_table}
+use Rattle.headline.specs.Handed.{IsCollectionOf}
 
 -- A file that `transform` wrote of a text, a bank's text, an input and a bound of turns: every ending of the machine on the program that the file
 -- spells, by the bank that the text spells, goes as the text means.
@@ -38,14 +39,15 @@ ARankingOfRunsIsTheElimination =
     AreReportsOf file made ranked.bundle.reports →
     IsRankingOf (meant_table tree known (plan_of words)) r.policy (map (meant_run tree known (plan_of words)) made) ranking
 
--- A study's ranking is that of its chain: its text is transformed, a run is made for each of its numbers, and the reports are collected and ranked.
+-- A study's ranking is that of its chain: its text is transformed, a run is made for each of its numbers, the reports are collected, and the collection
+-- is ranked.
 abbrev pub AStudyIsItsChain : Type 0
 AStudyIsItsChain =
-    (words : TransformWords) (text file : List ℕ) (plan : StudyPlan) (result : StudyResult) (held : Option Held) (r : RankWords) (ranking : List ℕ)
-    (made : List Made) →
-    IsStudy text plan result → plan_of words ≡ study_form → IsFileOf words text file → (ranked : IsRanked held r ranking) → ranked.texts.program ≡ file →
-    r.policy ≡ plan.policy → AreReportsOf file made ranked.bundle.reports → AreMadeFor plan 1 made → length made ≡ plan.runs →
-    ranking ≡ result.ranking.items
+    (words : TransformWords) (text file collection : List ℕ) (plan : StudyPlan) (result : StudyResult) (held : Option Held) (r : RankWords)
+    (ranking : List ℕ) (made : List Made) →
+    IsStudy text plan result → plan_of words ≡ study_form → IsFileOf words text file → IsCollectionOf file made collection →
+    (ranked : IsRanked held r ranking) → ranked.texts.program ≡ file → ranked.texts.collection ≡ collection → r.policy ≡ plan.policy →
+    AreMadeFor plan 1 made → length made ≡ plan.runs → ranking ≡ result.ranking.items
 
 -- What `widen` wrote is a collection of runs of the whole program, as the commands that read one take it: its text is one of the widened reports.
 abbrev pub AWidenedCollectionIsOfTheWhole : Type 0

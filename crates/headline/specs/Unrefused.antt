@@ -1,5 +1,5 @@
--- That nothing is refused on the way from a written file to the ranking of its runs.
-use Rattle.std.specs.Prelude.{◌≡◌, ℕ, ◌≤◌, List, length, Option, IsSome, Contains}
+-- That nothing is refused on the way from a written file to the ranking of its runs, nor where a collection of a share's runs is widened.
+use Rattle.std.specs.Prelude.{◌≡◌, ℕ, ◌≤◌, List, length, Option, Some, None, IsSome, Contains}
 use Rattle.std.specs.List.{sum_by}
 use Rattle.cbi_base.specs.Store.{Held}
 use Rattle.c_syntax.specs.ItemTree.{SourceTree}
@@ -18,6 +18,9 @@ use Rattle.cbi_options.specs.declared.words.CollectWords.{CollectWords}
 use Rattle.command_collect.specs.Collect.{AreCollectTexts, CollectRefused}
 use Rattle.command_inputs.specs.declared.runs.RunsTexts.{RunsTexts}
 use Rattle.command_inputs.specs.Runs.{AreRunsTexts, RunsRefused}
+use Rattle.cbi_options.specs.declared.words.WidenWords.{WidenWords}
+use Rattle.command_widen.specs.declared.texts.WidenTexts.{WidenTexts}
+use Rattle.command_widen.specs.Widen.{AreWidenTexts, WidenRefused}
 use Rattle.headline.specs.Chain.{Made, meant_run}
 use Rattle.headline.specs.Handed.{HoldRuns, IsLeftByCollect, by_number}
 
@@ -56,3 +59,12 @@ NoRankingIsRefused =
     (file : List ℕ) (inner : List (List ℕ)) (held : Option Held) (program collection : List ℕ) (texts : RunsTexts) →
     IsSome held → AreRunsTexts held program collection texts → texts.program ≡ file → IsLeftByCollect file inner texts.collection →
     RunsRefused held program collection → ⊥
+
+-- The program of all sites and one of a share of them, that `transform` wrote of one text with the same mode and schemes, and a collection that `collect`
+-- left of the second: `widen` refuses nothing.
+abbrev pub NoWideningIsRefused : Type 0
+NoWideningIsRefused =
+    (words : TransformWords) (text whole file : List ℕ) (inner : List (List ℕ)) (w : WidenWords) (held : Option Held) (texts : WidenTexts) →
+    words.part ≡ None → IsFileOf words text whole → IsFileOf (record words { part = Some w.part }) text file → IsSome held →
+    AreWidenTexts held w texts → texts.whole ≡ whole → texts.runs.program ≡ file → IsLeftByCollect file inner texts.runs.collection →
+    WidenRefused w held → ⊥

@@ -7,6 +7,7 @@ use compiler::one_accepted_text;
 use flow::one_ending;
 use program_file::one_program;
 use report_file::one_report;
+use site_parts::parts_have_their_sites;
 use std::alloc::Global;
 
 /// A farm: each machine runs the program of a part of the sites, and its collection is widened. What `rank` writes of these, collected for the program
@@ -22,4 +23,5 @@ pub fn a_farm_is_the_elimination(alloc: Global)
     written_collection();
     order_does_not_matter();
     a_widened_collection_is_of_the_whole();
+    parts_have_their_sites();
 }

@@ -6,6 +6,7 @@ ghost use Rattle.headline.specs.Laws.{
   WrittenProgramsRunAsTheTextMeans,
 };
 
+use crate::headline::collections_hold_their_runs;
 use compiler::one_accepted_text;
 use elimination::one_elimination;
 use flow::one_ending;
@@ -33,10 +34,12 @@ pub fn a_ranking_of_runs_is_the_elimination(alloc: Global)
     one_accepted_text();
 }
 
-/// The ranking of a study is that of the chain of commands on the banks and inputs that are made for its numbers.
+/// The ranking of a study is that of the chain of commands on the banks and inputs that are made for its numbers: their reports are collected, in any
+/// order, grouping, repetition and depth, and the collection is ranked.
 pub fn a_study_is_its_chain(alloc: Global)
     ensures { AStudyIsItsChain }
 {
+    collections_hold_their_runs(alloc);
     a_ranking_of_runs_is_the_elimination(alloc);
     one_accepted_text();
     one_made_run();

@@ -1,5 +1,10 @@
 //! Laws of what no command on the way refuses, each on a function that does nothing but call on the laws below it.
-ghost use Rattle.headline.specs.Unrefused.{NoCollectionIsRefused, NoRankingIsRefused, NoRunIsRefused};
+ghost use Rattle.headline.specs.Unrefused.{
+  NoCollectionIsRefused,
+  NoRankingIsRefused,
+  NoRunIsRefused,
+  NoWideningIsRefused,
+};
 
 use collector::{
     groups_do_not_matter, one_collection, order_does_not_matter, reports_are_taken_whole,
@@ -15,7 +20,8 @@ use std::alloc::Global;
 
 /// Nothing on the way is refused: not a run of a file that `transform` wrote, with a bank's text and an input that fits; not the texts that `run` and
 /// `collect` left of runs of such a file, where runs of one number are one run and the limits of collections hold for them, each counted once; and not
-/// such a collection beside its file, for `rank`, `cards` and `pairs`, whose refusals are one and the same.
+/// such a collection beside its file, for `rank`, `cards` and `pairs`, whose refusals are one and the same; nor such a collection of a share's program
+/// beside that one and the program of all sites, for `widen`.
 ///
 /// So by the clause `complete` of the top call, where the words read as such a command (`usage_only`), the names are held and the store and out are
 /// sound (`reads_stay`, `writes_stay`, `out_stays`), its status is 0 or 7.
@@ -23,6 +29,7 @@ pub fn nothing_on_the_way_is_refused(alloc: Global)
     ensures runs { NoRunIsRefused }
     ensures collections { NoCollectionIsRefused }
     ensures rankings { NoRankingIsRefused }
+    ensures widenings { NoWideningIsRefused }
 {
     one_program(alloc);
     one_ending();

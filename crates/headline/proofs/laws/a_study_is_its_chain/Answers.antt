@@ -1,15 +1,19 @@
 use Rattle.std.proofs.Common.{map, subst, sym, ◌∙◌}
 use Rattle.study.proofs.StudyEnds.{ranking_once}
 use Rattle.ranking.specs.Ranked.{IsRankingOf}
+use Rattle.collector.specs.Spelling.{SpellsBundle}
 use Rattle.study.specs.Study.{labelled_run}
 use Rattle.study.specs.Studied.{run_of, study_form}
-use Rattle.headline.specs.Chain.{meant_run, meant_table}
+use Rattle.headline.specs.Chain.{AreReportsOf, meant_run, meant_table}
 use Rattle.headline.proofs.Ranking.{has-table}
-use Rattle.headline.proofs.Studies.{all-made, length-runs}
+use Rattle.headline.proofs.Studies.{all-made, by-rising, length-runs}
 use Rattle.headline.proofs.laws.a_study_is_its_chain.Goals as goal
 
 pub returns : goal.returns
-returns c = λ words text file plan result held r ranking made study form is ranked program_is policy are for many.
+returns c = λ words text file collection plan result held r ranking made study form is collected ranked program_is collection_is policy for many.
+    let are : AreReportsOf file made ranked.bundle.reports =
+    subst (λ runs. AreReportsOf file runs ranked.bundle.reports) (by-rising plan 1 made for)
+    (c.collections_hold_their_runs.ensures file collection made ranked.bundle collected (subst (λ bytes. SpellsBundle bytes ranked.bundle) collection_is ranked.spell.spell.collection)) in
     let tree = study.compiled.tree in
     let known = study.compiled.known in
     let chain = c.a_ranking_of_runs_is_the_elimination.ensures words text file held r ranking made tree known is study.compiled.accepted ranked program_is are in

@@ -2,6 +2,7 @@ use Rattle.command_transform.specs.Transform.{plan_of}
 use Rattle.headline.specs.Chain.{meant_run}
 use Rattle.headline.proofs.Ranking.{run-means}
 use Rattle.headline.proofs.NoneRefused.{no-collection, no-ranking, no-run}
+use Rattle.headline.proofs.WideningUnrefused.{no-widening}
 use Rattle.headline.proofs.unrefused.nothing_on_the_way_is_refused.Goals as goal
 
 pub returns-clause-runs : goal.returns-clause-runs
@@ -20,3 +21,8 @@ returns-clause-collections c = λ words text file tree known w held texts made i
 pub returns-clause-rankings : goal.returns-clause-rankings
 returns-clause-rankings c = λ file inner held program collection texts tells are same left refused.
     no-ranking c.one_report.ensures c.one_collection.ensures c.written_collection.ensures c.one_program.ensures file inner held program collection texts tells are same left refused
+
+pub returns-clause-widenings : goal.returns-clause-widenings
+returns-clause-widenings c = λ words text whole file inner w held texts none is shared tells are whole_is program_is left refused.
+    no-widening c.one_ending.ensures c.one_program.ensures c.one_accepted_text.ensures.tree c.one_accepted_text.ensures.known c.one_report.ensures c.one_collection.ensures c.written_collection.ensures
+    words text whole file inner w held texts none is shared tells are whole_is program_is left refused

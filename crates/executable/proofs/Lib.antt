@@ -1,0 +1,7 @@
+pub mod Eliminating
+pub mod Leaving
+pub mod Reading
+pub mod Sharing
+pub mod Studying
+pub mod Telling
+pub mod Wrapped

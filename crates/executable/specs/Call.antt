@@ -1,0 +1,51 @@
+-- One call of the executable: its words, the files before it and after it, what it put out, and the status that it ended with.
+use Rattle.std.specs.Prelude.{◌≡◌, ℕ, List, [], ◌++◌, Option, Some, IsNone}
+use Rattle.cbi_base.specs.declared.observation.Observation.{Observation}
+use Rattle.cbi_base.specs.Store.{Held}
+use Rattle.cbi_words.specs.declared.command.Command.{Command}
+use Rattle.cbi_words.specs.Reading.{command_of_words}
+use Rattle.command_base.specs.declared.done.Done.{Done}
+use Rattle.command_base.specs.Outside.{AllStayBut, Outside, outside_state}
+use Rattle.commands.specs.Commands.{Did, IsRefused, written_by}
+use Rattle.top_call.specs.Statuses.{IsStatus, IsUntouched}
+
+pub record Call : Type 0 where
+  pub words : List (List ℕ)
+  pub before : Held
+  pub after : Held
+  pub out : List ℕ
+  pub status : ℕ
+
+-- a call by these
+abbrev pub call_of : (words : List (List ℕ)) → (before after : Held) → (out : List ℕ) → (status : ℕ) → Call
+call_of words before after out status = record { words = words; before = before; after = after; out = out; status = status }
+
+-- the command that its words read as
+abbrev pub command_of : Call → Option Command
+command_of call = command_of_words call.words
+
+-- what the call found and what it left, where out had taken this before it, and each watcher was told this before and after it
+abbrev pub found_by : Call → (taken : List ℕ) → (told : List (List Observation)) → Outside (List Observation)
+found_by call taken told = outside_state (Some call.before) (Some taken) told
+
+abbrev pub left_by : Call → (taken : List ℕ) → (told : List (List Observation)) → Outside (List Observation)
+left_by call taken told = outside_state (Some call.after) (Some (taken ++ call.out)) told
+
+-- what was done of this command, and what was said of it
+abbrev pub IsDone : Option Command → (call : Call) → (taken : List ℕ) → (told_before told_after : List (List Observation)) → Type 0
+IsDone command call taken told_before told_after =
+    (said : Done) × Did (λ (told : List Observation). told) command (found_by call taken told_before) (left_by call taken told_after) said
+
+-- What the top call says at the end of a call, by the clauses of `top_call::cbi` of the same names, over a store and an out that tell what they hold and
+-- have taken.
+pub record IsCall (call : Call) : Type 0 where
+  pub taken : List ℕ
+  pub told_before : List (List Observation)
+  pub told_after : List (List Observation)
+  pub status : IsStatus call.status
+  pub done : call.status ≡ 0 → IsDone (command_of call) call taken told_before told_after
+  pub usage : call.status ≡ 2 → IsNone (command_of call)
+  pub refused : call.status ≡ 5 → IsRefused (command_of call) (Some call.before)
+  pub untouched : IsUntouched call.status → call.out ≡ []
+  pub unwritten : IsUntouched call.status → call.after ≡ call.before
+  pub held : AllStayBut (written_by (command_of call)) (Some call.before) (Some call.after)

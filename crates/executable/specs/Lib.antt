@@ -1,0 +1,5 @@
+pub mod Call
+pub mod Closed
+pub mod Runs
+pub mod Shares
+pub mod Steps
