@@ -27,7 +27,7 @@ RULES = {
                 "Look at whether the value is checked before it is used, and at why it was returned."),
     "pairs": ("Two values", "Runs fail more often where a variable's new value stood in this relation to another variable or to a constant.",
               "Look at whether the two may stand like this at all, and at the bounds that the code relies on."),
-    "hang": ("A run without end", "Runs that went back more often than they may were last seen here.", "Look at what is to end the loop."),
+    "hang": ("A hang", "Runs that hang were last seen here.", "Look at what is to end the loop."),
     "reach": ("A line that failing runs come to", "Failing runs come to this line more often than others.", "Look at what leads there."),
 }
 
@@ -127,7 +127,7 @@ def loops_of(view: View) -> List[Tuple[str, Call]]:
     found = [(cbi_told.endless_of(example), (example.broke.loop or example.broke.calls[0]) if example.broke else None) for example in (hunted.examples if hunted else [])
              if cbi_told.endless_of(example)]
     loops = {(call.file, call.line): (said, call) for said, call in found if said and call}
-    seen = [(f"A run went on without end, and was last seen at {one.statement} ({one.times} of those that were looked at).", Call(one.file, one.line, one.function, one.statement))
+    seen = [(f"A run hangs, and was last seen at {one.statement} ({one.times} of those that were looked at).", Call(one.file, one.line, one.function, one.statement))
             for one in (hunted.hanging if hunted else []) if one.line]
     return list(loops.values()) or seen
 

@@ -209,8 +209,8 @@ def ranking(view: View, width: int, every: bool) -> Iterator[str]:
     yield from legend(view, width)
 
 
-LEGEND = ("Each row is about the runs that no row above it explains. A bar is the longer the more runs it is about: # is how often runs fail that come to the place, "
-          "= what the predicate adds to that for sure (95 %), - what it may add, and . how often runs succeed in which it was true.")
+LEGEND = ("Each row is about the runs that no row above it explains. Bar length: number of runs. # failure rate when the line is reached; "
+          "= extra failure rate when the predicate is true (95 % lower bound); - what it may add beyond that; . success rate when it is true.")
 
 
 def legend(view: View, width: int) -> Iterator[str]:

@@ -13,13 +13,13 @@ from cbi_where import Spot, Where
 AROUND = 2        # lines of source before and behind the one that is told
 MOST_ONLY = 6     # lines behind it that run only where its fact is true
 MOST_NAMES = 3
-NO_ROWS = "No predicate passes the test: the runs don't say where the bug is. More inputs may, or a smaller rate."
+NO_ROWS = "No predicate passes the test: the runs don't say where the bug is. More inputs may help, or a smaller --rate."
 NO_FACT = "No fact is beyond chance."
 HELPS = ["More inputs that differ, also in little."]
 ONLY_HERE = "<- runs only where this is true"
 PLACES = "Where failing runs go"
-PLACES_SAID = "Lines that failing runs are seen at more often than others, beyond chance (Fisher's exact test, corrected for how many lines were looked at)."
-PLACES_WEAK = "Lines that failing runs are seen at more often than others; by chance alone some would be."
+PLACES_SAID = "Lines that failing runs reach more often than others, beyond chance (Fisher's exact test, corrected for the number of lines tested)."
+PLACES_WEAK = "Lines that failing runs reach more often than others; some would by chance."
 LINES = "Suspicious lines"
 LINES_SAID = ("Each line by its best fact, one for each three around. Strength is the square of the correlation between the fact and failing: "
               "1 where it was true in all failing runs and in no other.")
@@ -120,10 +120,10 @@ def expected_of(number: float) -> str:
 
 
 def doubt(bug: BugShown, view: View) -> Optional[str]:
-    """That chance alone may have made it look so strong."""
+    """That it may look so strong by chance."""
     if not bug.weak() or view.answer is None:
         return None
-    return f"Weak evidence: of the {view.answer.observed} facts that were looked at, chance alone would make {expected_of(bug.expected)} look as strong{', by inputs' if view.answer.several() else ''}."
+    return f"Weak evidence: of {view.answer.observed:,} facts tested, about {expected_of(bug.expected)} would look this strong by chance{' (counted by inputs)' if view.answer.several() else ''}."
 
 
 def same_as(bug: BugShown, view: View) -> Optional[str]:
@@ -215,7 +215,7 @@ def left_over(view: View) -> Optional[str]:
         return None
     runs = sum(len(bug.runs) for bug in folded)
     facts = "1 weak fact" if len(folded) == 1 else f"{len(folded)} weak facts"
-    return f"{facts} of {count_of(runs, 'other failing run')}: chance alone would make one as strong more often than once in 20 hunts"
+    return f"{facts} about {count_of(runs, 'other failing run')}: by chance, more than 1 hunt in 20 has one this strong"
 
 
 def left_out(view: View) -> Optional[str]:
@@ -266,7 +266,7 @@ def trap_of(outcome: str) -> str:
 
 
 def ended_by(endings: Dict[str, int]) -> str:
-    """`a null pointer that is used (trap 8, 161 runs) and by other output (3)`."""
+    """`a null pointer dereference (trap 8, 161 runs) and by wrong output (3)`."""
     parts: List[str] = []
     for outcome, count in sorted(endings.items(), key=lambda item: (-item[1], item[0])):
         trap = f"trap {outcome[8:]}, " if outcome.startswith("trapped ") else ""
@@ -387,7 +387,7 @@ def hanging_line(view: View) -> Optional[str]:
         return None
     looked = sum(one.times for one in view.hunted.hanging)
     where = ", ".join(f"{hanging_place(one, view)}{one.statement} ({one.times})" for one in view.hunted.hanging)
-    return f"{count_of(looked, 'run')} that went on without end {'was' if looked == 1 else 'were'} made again, and last seen at {where}."
+    return f"{count_of(looked, 'hanging run')} {'was' if looked == 1 else 'were'} made again, and last seen at {where}."
 
 
 def hanging_place(one: Hanging, view: View) -> str:
@@ -402,4 +402,4 @@ def weak_line(view: View) -> str:
     """The rule by which rows are folded, told."""
     tried = view.seen.observed if view.seen else 0
     rows = "1 weak row" if len(view.weak) == 1 else f"{len(view.weak)} weak rows"
-    return f"{rows}: of the {tried} facts that were looked at, chance alone would make one or more look as strong"
+    return f"{rows}: of {tried:,} facts tested, one or more would look this strong by chance"

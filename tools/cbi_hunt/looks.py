@@ -1,4 +1,4 @@
-"""Looks again at failing runs: the smallest input, what it wrote beside what was due, and how the run is made again. Not proved."""
+"""Looks again at failing runs: the smallest input, what it wrote beside what is expected, and how the run is made again. Not proved."""
 import argparse
 import dataclasses
 import os
@@ -42,7 +42,7 @@ class Hunt:
     sample: Optional[Sample] = None
 
 
-# What was written beside what was due
+# What was written beside what is expected
 
 def first_difference(wrote: bytes, due: bytes) -> Tuple[int, bytes, bytes]:
     """The first line that differs, with both of them; line 0 where none does."""
@@ -174,7 +174,7 @@ def made_smaller(hunt: Hunt, bug: BugShown, program: Program, data: bytes, ended
     """The input made smaller, with how many runs that took; none where nothing can be made smaller."""
     outcome, status = ending_of(ended), status_of(ended) if hunt.plan.status else 0
     if outcome == "ended" and not hunt.plan.oracle and not status:
-        print("cbi-hunt: --minimize asks for an oracle where runs end by other output: nothing says what the program should write on a smaller input", file=sys.stderr)
+        print("cbi-hunt: --minimize needs an oracle where runs fail by wrong output: nothing says what the program should write on a smaller input", file=sys.stderr)
         return None, 0
     single, counters = for_predicate(hunt.chosen, hunt.plan.cbi, hunt.kept, program, bug.lead.found.predicate)
     smaller = Smaller(hunt.plan, hunt.kept.folder, Wanted(single, counters, outcome, status), Told())

@@ -13,11 +13,11 @@ from cbi_hunted import Sample
 from cbi_told import short_name
 
 NO_FAILURE = """\
-No run failed, so there is nothing that a failure could be told apart from. What may help:
+No run failed, so there is nothing to compare. What may help:
 - Where the bug shows in what the program writes, say what it should write: NAME.expected, --expect or --oracle.
 - Give inputs on which it fails.{cut}"""
 ONLY_FAILURES = """\
-All runs that count failed, so there is nothing that a failure could be told apart from. What may help:{more}
+All runs that count failed, so there is nothing to compare them with. What may help:{more}
 - Give inputs on which the program does as it should.{beside}"""
 MOST_HIDDEN = 3
 
@@ -51,7 +51,7 @@ def cut_line(count: Count, chosen: argparse.Namespace) -> Optional[str]:
     """Says that runs which were cut are left out, and the word that takes them in."""
     if not count.hanging_inputs or chosen.hangs == "fail":
         return None
-    return "runs that were cut went back more often than --turns allows; they are left out, and --hangs fail counts them as failed"
+    return "runs that were cut hang, or need more turns than --turns allows; they are left out (--hangs fail counts them as failed)"
 
 
 def hidden_line(inputs: Inputs) -> Optional[str]:
