@@ -19,12 +19,15 @@ from look_at_answers import Answer, Facts, Hangs, Numbers, Sections  # noqa: E40
 from look_at_broken import Loops, Marks, Memory, Outputs, Traps  # noqa: E402,F401
 from look_at_bugs import Bugs, Evidence, PortedFacts, Words  # noqa: E402,F401
 from look_at_farms import Farm  # noqa: E402,F401
+from look_at_given import Advice, Given, Hanging, Marked, Progress, Room, Wavering  # noqa: E402,F401
+from look_at_given import Traps as TrapWords  # noqa: E402,F401
 from look_at_hunts import Hunt, Sample  # noqa: E402,F401
 from look_at_inputs import Folders, Mutants, Oracles, Smaller  # noqa: E402,F401
 from look_at_lists import Listed, Retold, Without  # noqa: E402,F401
 from look_at_pages import Pages, Sarif, Style, sound  # noqa: E402,F401
 from look_at_screens import Screens  # noqa: E402,F401
 from look_at_signals import Signals  # noqa: E402,F401
+from look_at_since import Since  # noqa: E402,F401
 from look_at_statuses import Statuses  # noqa: E402,F401
 from look_at_texts import Lines, Port, Ported  # noqa: E402,F401
 from look_at_ways import Ways  # noqa: E402,F401
@@ -249,9 +252,9 @@ BRANCH_ROWS = """\
      first failing run: 1
      1 | int main(void){int a=getchar();if(a);return 0;}
 
-Each row is about the runs that no row above it explains. A bar is the longer the more runs it is about: # is
-how often runs fail that come to the place, = what the predicate adds to that for sure (95 %), - what it may
-add, and . how often runs succeed in which it was true.
+Each row is about the runs that no row above it explains. Bar length: number of runs. # failure rate when the
+line is reached; = extra failure rate when the predicate is true (95 % lower bound); - what it may add beyond
+that; . success rate when it is true.
 """
 BRANCH_TEXT = """\
 1 bug explains 9 of the 10 failing runs; 1 is left over (20 runs).
@@ -263,8 +266,7 @@ True in 9 of the 10 failing runs that looked there, and in 1 of the 10 others th
 
 ended by: a call of abort (trap 14, 9 runs)
 
-1 weak fact about 1 other failing run: by chance, more than 1 hunt in 20 has one this strong
-(--all shows it).
+1 weak fact about 1 other failing run: by chance, more than 1 hunt in 20 has one this strong (--all shows it).
 
 ranked: 20 runs, of which 10 failed and 10 succeeded
 

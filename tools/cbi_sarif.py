@@ -94,7 +94,9 @@ def level_of_bug(bug: BugShown) -> str:
 def result_of_bug(bug: BugShown, view: View) -> Dict[str, Any]:
     title, about = cbi_told.title_of(bug, view), dict(cbi_told.about(bug, view))
     parts = [title.endless, f"{title.doubt}{title.said.told.fact.past()}.", cbi_told.counts_of_bug(bug, view), cbi_told.doubt(bug, view)]
-    parts += [f"{cbi_told.capital(what)}: {'; '.join(about[what])}." for what in ("perhaps the same bug", "ended by", "failing inputs") if what in about]
+    parts += [f"{cbi_told.capital(what)}: {'; '.join(told)}." for what, told in about.items() if what in ("perhaps the same bug", "ended by", "failing inputs") or what.startswith("changed since ")]
+    if view.hunted and view.hunted.since:
+        parts.insert(0, f"Fails in the new version alone, not in {view.hunted.since.old}.")
     found = bug.lead.found
     one = result(view, scheme_of(bug.lead, view), level_of_bug(bug), found.strength / 10000, " ".join(part for part in parts if part), bug.lead.told.spot, bug.lead.told.function)
     one["partialFingerprints"] = fingerprint_of(bug.lead, one["ruleId"], view)
@@ -196,6 +198,11 @@ def sarif_of(view: View) -> Iterator[str]:
     run: Dict[str, Any] = {"tool": {"driver": {"name": "cbi", "version": VERSION, "rules": rules}}, "columnKind": "utf16CodeUnits"}
     if bases:
         run["originalUriBaseIds"] = bases
+    first = [said for said in (view.hunted.warning if view.hunted else "", cbi_told.since_line(view)) if said]
+    if first:
+        run["properties"] = {"notes": first}
+    if view.hunted and view.hunted.since:
+        run["properties"]["since"] = view.hunted.since._asdict()
     run["results"] = results_of(view)
     yield json.dumps({"$schema": "https://json.schemastore.org/sarif-2.1.0.json", "version": "2.1.0", "runs": [run]}, indent=2)
 

@@ -168,7 +168,14 @@ def text_of(view: View, width: int = 10000, every: bool = False) -> Iterator[str
         yield line if line.startswith("the run again: ") else clip(line, width)
 
 
+def first_of(view: View, width: int) -> Iterator[str]:
+    """What is told before all else: a warning, and how two versions did."""
+    first = [line for said in (view.hunted.warning if view.hunted else "", cbi_told.since_line(view)) if said for line in wrapped(said, width)]
+    yield from [*first, ""] if first else []
+
+
 def whole_text(view: View, width: int, every: bool) -> Iterator[str]:
+    yield from first_of(view, width)
     totals = view.hunted.notes if view.hunted else [cbi_told.totals_line(view.totals)] if view.totals else []
     notes = [line for said in totals for line in prose(said, width)]
     if view.answer and not view.answer.told_apart():

@@ -13,6 +13,7 @@ from cbi_where import Spot, Where
 AROUND = 2        # lines of source before and behind the one that is told
 MOST_ONLY = 6     # lines behind it that run only where its fact is true
 MOST_NAMES = 3
+NEAR = 10         # lines around a fact in which changes are told
 NO_ROWS = "No predicate passes the test: the runs don't say where the bug is. More inputs may help, or a smaller --rate."
 NO_FACT = "No fact is beyond chance."
 HELPS = ["More inputs that differ, also in little."]
@@ -189,6 +190,9 @@ def about(bug: BugShown, view: View) -> Iterator[Tuple[str, List[str]]]:
         yield "perhaps the same bug", [same]
     if bug.endings:
         yield "ended by", [ended_by(bug.endings)]
+    changed = changed_near(bug.lead.told.spot, view)
+    if changed and view.hunted and view.hunted.since:
+        yield f"changed since {view.hunted.since.old}", [changed]
     if bug.way:
         yield "way there", [way_step(said, view) for said in bug.way]
     if bug.also:
@@ -230,6 +234,30 @@ def line_of(said: Stated, view: View) -> str:
     return f"{view.where.named(said.told.spot)}, {said.told.function}: {said.told.fact.past()} ({found.a} of {totals[0]} failing, {found.b} of {count_of(totals[1], 'other')})"
 
 
+# Two versions
+
+def since_line(view: View) -> Optional[str]:
+    """How the old and the new version did on the same inputs."""
+    since = view.hunted.since if view.hunted else None
+    if since is None:
+        return None
+    names = f" ({', '.join(map(short_name, since.names))}{f' and {since.both - len(since.names)} more' if since.both > len(since.names) else ''})" if since.names else ""
+    both = f", {since.both} in both versions and set aside{names}" if since.both else ", none in both versions"
+    mended = f", {since.mended} in the old one alone (mended)" if since.mended else ""
+    return f"Since {since.old}: of {count_of(since.inputs, 'input')} {since.alone or 'none'} {'fails' if since.alone == 1 else 'fail'} in the new version alone{both}{mended}."
+
+
+def changed_near(spot: Spot, view: View) -> Optional[str]:
+    """The lines near this one that the old version hasn't."""
+    since = view.hunted.since if view.hunted else None
+    lines = [line for line in (since.changed.get(spot.file, []) if since else []) if abs(line - spot.line) <= NEAR]
+    if since is None or not lines:
+        return None
+    spans = [(low, high) for low, high in zip(*([line for line in lines if line + step not in lines] for step in (-1, 1)))]
+    said = ", ".join(str(low) if low == high else f"{low} to {high}" for low, high in spans)
+    return f"{'line' if len(lines) == 1 else 'lines'} {said}" + (" (this one)" if lines == [spot.line] else "")
+
+
 # How runs ended
 
 def row_title(shown: Shown) -> str:
@@ -238,7 +266,7 @@ def row_title(shown: Shown) -> str:
 
 
 def nothing_said(view: View) -> List[str]:
-    """What is told where nothing can be told apart: how runs ended, and what may help."""
+    """What is told where nothing can be told apart: what may help, and how runs ended."""
     advice = view.hunted.advice if view.hunted else ""
     return [*(advice.split("\n") if advice else [NO_ROWS]), *ended(view)]
 
