@@ -20,7 +20,7 @@ from cbi_hunt.oracles import oracle_of
 from cbi_hunt.room import with_room
 from cbi_hunt.showing import show
 from cbi_hunt.signals import heed, heed_now, interrupted
-from cbi_hunt.since import Before, make_old, set_aside
+from cbi_hunt.since import Before, make_old, old_words, set_aside
 from cbi_hunt.texts import text_of, transform
 from cbi_hunt.told import keep_failing, notes
 from cbi_hunt.words import arguments
@@ -101,6 +101,8 @@ def main() -> int:
     chosen = arguments(sys.argv[1:])
     heed(interrupted)
     check_given(chosen)
+    if chosen.since:
+        old_words(chosen)
     cbi = executable(chosen.cbi)
     chosen.command = " ".join(shlex.quote(word) for word in ["cbi-hunt", *sys.argv[1:]])
     with folder_of(chosen) as folder:
