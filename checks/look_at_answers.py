@@ -309,7 +309,7 @@ page: kept/page.html
             out = self.hunt("--inputs", "in puts", "--expect", "due", "--runs", runs, "--rate", "2")
             self.assertTrue(out.startswith("No fact is beyond chance.\nWhat may help:\n- More inputs that differ, also in little.\n- A smaller rate (--rate 1 looks at every visit).\n"), out)
             self.assertIn("Perhaps by chance, upper.c:", out)
-        self.assertRegex(" ".join(out.split()), r"chance alone would make 0\.\d+ look as strong, by inputs\.")
+        self.assertRegex(" ".join(out.split()), r"about 0\.\d+ would look this strong by chance \(counted by inputs\)\.")
 
     def test_each_bug_has_its_own_inputs(self):
         """Nine inputs have an `a`, and nine others a `!`, of which the smallest has one byte."""
@@ -410,7 +410,7 @@ class Hangs(Hunting):
         words = ["cbi-hunt", "hang.c", "--inputs", "words", "--turns", "1000", "--rate", "1", "--jobs", "1"]
         out, _ = self.call(*words, due=1)
         self.assertIn("10 runs on 10 inputs: 0 failed, 8 succeeded, 2 neither (2 cut)\n", out)
-        self.assertIn("\nruns that were cut went back more often than --turns allows; they are left out, and --hangs fail counts them as failed\n", out)
+        self.assertIn("\nruns that were cut hang, or need more turns than --turns allows; they are left out (--hangs fail counts them as failed)\n", out)
         out, _ = self.call(*words, "--hangs", "fail", "--keep", "kept")
         self.assertTrue(out.startswith("The run never leaves the loop `while (c != 'x')` at hang.c:5 in main.\n"
                                        "2 hanging runs were made again, and last seen at line 6, main: if (c == 'y') (2).\nNo fact is beyond chance.\n"), out)

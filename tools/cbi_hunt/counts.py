@@ -19,6 +19,7 @@ class Count:
 
     def __init__(self, plan: Plan, relabel: Optional[Relabel] = None):
         self.plan, self.relabel = plan, relabel
+        # Of runs that something judged, by the places of their inputs: the labels in their reports.
         self.labels: Dict[int, Set[str]] = {}
         self.aside: Set[int] = set()
         self.succeeded_inputs: Set[int] = set()
@@ -34,7 +35,7 @@ class Count:
             run = head._replace(label=self.relabel(place, head.outcome, head.label)) if self.relabel else head
             if head.label == "fail" and run.label == "none":
                 self.aside.add(place)
-            if run.outcome.startswith("ended"):
+            if run.outcome.startswith("ended") and not (self.plan.status and cbi_files.status_of(run.outcome)):
                 self.labels.setdefault(place, set()).add(head.label)
             self.marks.append(Mark(run.number, run.sites, run.label == "fail"))
             self.cut += run.outcome.startswith("cut")

@@ -2,7 +2,7 @@
 import time
 from typing import List, Optional
 
-from cbi_files import count_of, status_of
+from cbi_files import Fault, count_of
 from cbi_hunt.again import Repeater, program_for
 from cbi_hunt.looks import Hunt
 from cbi_runs import asked, oracle_name
@@ -12,8 +12,8 @@ MOST_AGAIN, SECONDS = 40, 5.0   # inputs that are judged again, and how long tha
 
 def judged_places(hunt: Hunt) -> List[int]:
     """The inputs that the oracle judged, failing and others in turn, spread evenly over all."""
-    labels, plan = hunt.count.labels, hunt.plan
-    failing = [place for place in sorted(labels) if "fail" in labels[place] and not (plan.status and status_of(hunt.count.failing_inputs.get(place, "")))]
+    labels = hunt.count.labels
+    failing = [place for place in sorted(labels) if "fail" in labels[place]]
     others = [place for place in sorted(labels) if "fail" not in labels[place]]
     half = MOST_AGAIN // 2
     spread = [[places[number * len(places) // half] for number in range(half)] if len(places) > half else places for places in (failing, others)]
@@ -21,9 +21,13 @@ def judged_places(hunt: Hunt) -> List[int]:
 
 
 def verdict_again(hunt: Hunt, repeater: Repeater, program: str, place: int) -> str:
+    """What it says this time; nothing that it says where it fails."""
     path = hunt.inputs.paths[place]
     run = repeater.run(program, path)
-    return asked(hunt.plan, path, run.output, run.outcome).label
+    try:
+        return asked(hunt.plan, path, run.output, run.outcome).label
+    except Fault:
+        return ""
 
 
 def flaky_note(hunt: Hunt) -> Optional[str]:
@@ -32,7 +36,7 @@ def flaky_note(hunt: Hunt) -> Optional[str]:
     if not hunt.plan.oracle:
         return None
     found, tried = [place for place in sorted(labels) if len(labels[place]) > 1], len(labels)
-    if not found:
+    if not found and not hunt.chosen.farm:
         program, repeater = program_for(hunt.chosen, hunt.plan.cbi, hunt.kept, "plain"), Repeater(hunt.plan, hunt.kept.folder)
         begun, tried = time.monotonic(), 0
         for place in judged_places(hunt):
