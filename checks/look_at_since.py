@@ -116,6 +116,13 @@ class Since(Case):
         again = re.search("(?m)^the run again: (.*)$", out)[1]
         self.assertIn("It counts as failing: its output wasn't the expected one.", self.call("bash", "-c", again)[0])
 
+    def test_a_smaller_input_fails_in_the_new_one_alone(self):
+        """Six letters are the least; what is taken out never leaves a `!`, on which the old one fails. And of outputs that changed: eight letters."""
+        words = ["--since", "old.c", "--minimize"]
+        self.assertRegex(self.hunt("new.c", *words), r"(?m)^smallest failing input, made from 06 of 7 bytes in \d+ runs \(6 bytes\): abcdef$")
+        self.write("new.c", OLD.replace('printf("%d\\n", n);', 'if (n > 7)\n        n = 7;\n    printf("%d\\n", n);'))
+        self.assertRegex(self.hunt("new.c", *words, "--changed", "fail", due=None), r"(?m)^smallest failing input, made from 08 of 9 bytes in \d+ runs \(8 bytes\): abcdefgh$")
+
     def test_what_the_old_one_crashed_on_is_mended_whatever_it_wrote(self):
         self.write("new.c", OLD.replace("abort();", "n = n + 100;"))
         both_ways = [number for number, word in enumerate(self.words) if "!" in word]

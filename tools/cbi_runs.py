@@ -25,7 +25,7 @@ OF_STATUS = "CBI_STATUS"
 # How an oracle that a shell reads is called: its text stands behind these words, and then the shell's name for itself.
 SHELL = ["sh", "-c"]
 # How want of room is told, which errors of the system say it, and what is written to see it.
-NO_SPACE, NO_ROOM, PROBE = "no space left", (errno.ENOSPC, errno.EDQUOT), bytes(1 << 16)
+NO_SPACE, NO_ROOM, PROBE = "no space left in", (errno.ENOSPC, errno.EDQUOT), bytes(1 << 16)
 
 
 class Plan(NamedTuple):
@@ -80,7 +80,7 @@ def call_to(path: str, words: List[str]) -> None:
             call(words, out)
     except Fault as fault:
         folder = os.path.dirname(os.path.abspath(path))
-        raise Fault(f"{NO_SPACE} in {folder}") if "write fault" in str(fault) and is_full(folder) else fault
+        raise Fault(f"{NO_SPACE} {folder}") if "write fault" in str(fault) and is_full(folder) else fault
     os.replace(path + ".part", path)
 
 

@@ -177,11 +177,12 @@ def example_of(hunt: Hunt, runs: List[int], bug: Optional[BugShown], program: Pr
 def made_smaller(hunt: Hunt, bug: BugShown, program: Program, data: bytes, ended: str) -> Tuple[Optional[bytes], int]:
     """The input made smaller, with how many runs that took; none where nothing can be made smaller."""
     outcome, status = ending_of(ended), status_of(ended) if hunt.plan.status else 0
-    if outcome == "ended" and not hunt.plan.oracle and not status:
+    old, changed = (hunt.kept.path("since", "plain"), hunt.before.changed) if hunt.before else (None, False)
+    if outcome == "ended" and not hunt.plan.oracle and not status and not changed:
         print("cbi-hunt: --minimize needs an oracle where runs fail by wrong output: nothing says what the program should write on a smaller input", file=sys.stderr)
         return None, 0
     single, counters = for_predicate(hunt.chosen, hunt.plan.cbi, hunt.kept, program, bug.lead.found.predicate)
-    smaller = Smaller(hunt.plan, hunt.kept.folder, Wanted(single, counters, outcome, status), Told())
+    smaller = Smaller(hunt.plan, hunt.kept.folder, Wanted(single, counters, outcome, status, old, changed), Told())
     fewer = smaller.of(data)
     os.remove(single)
     return (fewer, smaller.steps) if fewer is not None and len(fewer) < len(data) else (None, 0)

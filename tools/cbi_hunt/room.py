@@ -24,8 +24,8 @@ def with_room(chosen: argparse.Namespace, folder: str, hunt: Callable[[], int]) 
 def told(chosen: argparse.Namespace, folder: str) -> str:
     """One line: where there is no room, what is kept, and what to do."""
     if not chosen.keep:
-        return f"{NO_SPACE} in {os.path.dirname(folder)}: nothing is kept; make room, or take another folder by TMPDIR or --keep"
+        return f"{NO_SPACE} {os.path.dirname(folder)}: nothing is kept; make room, or take another folder by TMPDIR or --keep"
     batches = os.path.join(folder, "batches")
     spans = [name.split("-") for name in (os.listdir(batches) if os.path.isdir(batches) else []) if name.replace("-", "").isdigit()]
     runs = sum(int(last) - int(first) + 1 for first, last in spans)
-    return f"{NO_SPACE} in {chosen.keep}: {count_of(runs, 'run')} {'is' if runs == 1 else 'are'} kept there; make room and say the same again, which makes the rest alone"
+    return f"{NO_SPACE} {chosen.keep}: {count_of(runs, 'run')} {'is' if runs == 1 else 'are'} kept there; make room and say the same again, which makes the rest alone"
