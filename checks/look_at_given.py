@@ -1,4 +1,5 @@
 """Looks at what cbi-hunt says of what it is given wrong, of oracles that waver, of disks that are full, and of how far it is, as look_at_tools does at the rest."""
+import argparse
 import ast
 import contextlib
 import io
@@ -7,7 +8,6 @@ import re
 import shutil
 import subprocess
 import sys
-import time
 import unittest
 import unittest.mock
 
@@ -16,7 +16,7 @@ from looking import TOOLS, Case, Hunting, environment, sources
 
 sys.path.insert(0, TOOLS)
 import cbi_files  # noqa: E402
-from cbi_hunt import counts, given, texts  # noqa: E402
+from cbi_hunt import beside_gcc, counts, given, texts  # noqa: E402
 
 PLAIN = "int main(void)\n{\n    return getchar() - getchar();\n}\n"
 
@@ -128,15 +128,32 @@ class Wavering(Hunting):
 
 
 class Hanging(Case):
-    def test_a_program_that_hangs_is_waited_for_once_and_not_for_long(self):
-        """Three inputs of ten hang in gcc's build as well: at the twenty seconds, twice, that one took each, it would be two minutes."""
+    def test_a_program_that_hangs_in_both_builds_is_told_as_that(self):
         self.write("x.c", "#include <string.h>\nint main(void)\n{\n    int c = getchar();\n    while (c == 'h')\n        ;\n    return (int)strlen(\"\");\n}\n")
         for number in range(10):
             self.write(f"in/{number}", "h" if number < 3 else "a")
-        begun = time.monotonic()
         out, _ = self.call("cbi-hunt", "x.c", "--inputs", "in", "--hangs", "fail", "--turns", "1000", due=None)
         self.assertIn("; 7 of 10 outputs as gcc's, 3 runs hang in both builds\n", out)
-        self.assertLess(time.monotonic() - begun, 110)
+
+    def test_it_is_run_once_and_not_waited_for_long(self):
+        """What stands in for gcc's build notes each call; it sleeps for a minute and a half at `h`, and is ended after a second or so."""
+        self.transform("int main(void)\n{\n    while (getchar() == 'h')\n        for (;;)\n            ;\n    return 0;\n}\n", "plain")
+        os.chmod(self.write("native", f"#!/bin/sh\nread -r word\necho \"$word\" >>'{self.path('calls')}'\ncase $word in h*) exec sleep 90 ;; esac\n"), 0o755)
+        chosen, patience = argparse.Namespace(args=None, turns=1000), []
+        run = subprocess.run
+
+        def noted(words, **more):
+            patience.append(more.get("timeout"))
+            return run(words, **more)
+
+        native = beside_gcc.Native(self.path("native"), None)
+        comparison = beside_gcc.Comparison(chosen, native, self.path("prog.cbi"), looking.CBI, self.room)
+        with unittest.mock.patch.object(beside_gcc.subprocess, "run", noted):
+            found = comparison.compare([(name, name.encode() + b"\n") for name in ("h1", "a1", "h2", "a2", "a3")])
+        self.assertEqual((found.equal, found.total, found.summary()), (3, 5, "3 of 5 outputs as gcc's, 2 runs hang in both builds"))
+        self.assertEqual(sorted(self.read("calls").split()), [b"a1", b"a2", b"a3", b"h1", b"h2"])
+        longest = max(1.0, 20 * comparison.longest)
+        self.assertEqual([seconds for seconds in patience if seconds and seconds != 20], [longest, longest])
 
 
 class Room(Hunting):
