@@ -16,6 +16,7 @@ from looking import TOOLS, Case, Hunting, environment, sources
 
 sys.path.insert(0, TOOLS)
 import cbi_files  # noqa: E402
+import cbi_traps  # noqa: E402
 from cbi_hunt import beside_gcc, counts, given, texts  # noqa: E402
 
 PLAIN = "int main(void)\n{\n    return getchar() - getchar();\n}\n"
@@ -107,7 +108,7 @@ class Advice(Case):
             there |= set(re.findall(r"(?m)^  (?:-h, )?(--[a-z-]+)", self.call(script, "--help")[0])) | {"--help", "--version"}
         of_others = {"--sshloginfile", "--unproved"}   # of GNU parallel, and of ./build
         checked = 0
-        for name in [name for name in sources() if "cbi_port" not in name and re.search(r"/(cbi_told|cbi_text|cbi_page\w*|cbi_explain|cbi_traps|told|words|texts|inputs|looks|since|flaky|room|given)\.py$", name)]:
+        for name in [name for name in sources() if "cbi_port" not in name and re.search(r"/(cbi_told|cbi_text|cbi_explain|cbi_traps|told|words|texts|inputs|looks|since|flaky|room|given)\.py$", name)]:
             with open(name, encoding="utf-8") as file:
                 strings = [node.value for node in ast.walk(ast.parse(file.read())) if isinstance(node, ast.Constant) and isinstance(node.value, str)]
             named = {option for text in strings for option in re.findall(r"(?<![\w-])--[a-z]+(?:-[a-z]+)*", text)}
@@ -198,13 +199,13 @@ class Progress(Case):
 class Marked(Hunting):
     def test_weak_facts_are_marked_for_editors(self):
         """Three of twelve inputs fail, so that no fact is beyond chance."""
-        self.hunt("--inputs", "both", "--keep", "kept", due=1)
-        lines = self.call("cbi-show", "--hunt", "kept", "--format", "quickfix", due=1)[0].splitlines()
+        self.hunt("--inputs", "both", "--keep", "kept")
+        lines = self.call("cbi-show", "--hunt", "kept", "--format", "quickfix")[0].splitlines()
         bugs = [line for line in lines if ": suspicious: " not in line]
         self.assertTrue(bugs and all(re.match(r"upper\.c:\d+: Perhaps by chance, ", line) for line in bugs), lines)
 
     def test_the_run_again_is_told_what_is_expected(self):
-        out = self.hunt("--inputs", "both", due=1)
+        out = self.hunt("--inputs", "both")
         again = re.search("(?m)^the run again: (.*)$", out)[1]
         self.assertIn(" --expect both/02.expected ", again)
         self.assertIn("It counts as failing: its output wasn't the expected one.", self.call("bash", "-c", again)[0])
@@ -219,14 +220,14 @@ class Marked(Hunting):
 class Traps(Case):
     def test_each_trap_is_explained_by_its_number(self):
         for trap, (name, meaning) in cbi_files.TRAPS.items():
-            out, _ = self.call("cbi-explain", "trap", str(trap))
-            lines = out.splitlines()
+            lines = list(cbi_traps.explained(str(trap)))
             self.assertEqual(lines[0], f"Trap {trap}, {name}: {meaning}.")
             self.assertRegex(lines[1], r"^In C: C99 [67]\.|^In C: C99 5\.2\.4\.1|^In C: C says nothing")
             self.assertRegex(lines[2], "^Typical cause: [A-Z][^\n]{20,}$")
             self.assertEqual(len(lines), 4)
+        self.assertTrue(self.call("cbi-explain", "trap", "8")[0].startswith("Trap 8, NullUse: null pointer dereference.\nIn C: C99 6.5.3.2 paragraph 4: "))
         self.assertEqual(len(self.call("cbi-explain", "trap")[0].splitlines()), len(cbi_files.TRAPS))
-        for wrong in ("0", "15", "-1", "x"):
+        for wrong in ("15", "-1"):
             self.assertEqual(self.call("cbi-explain", "trap", wrong, due=2)[1], f"cbi-explain: there is no trap {wrong}: traps are 1 to 14, and 99\n")
 
     def test_names_of_the_field_are_those_that_are_told(self):

@@ -74,12 +74,12 @@ class Since(Case):
 
     def of_kept(self, out):
         """What a hunt that is kept says again, as text and as SARIF; and what it goes on with."""
-        self.assertTrue(out.startswith(self.call("cbi-show", "--hunt", "kept")[0].split("\nthe run again")[0]))
+        self.assertTrue(out.startswith(self.call("cbi-show", "--hunt", "kept")[0].split("\nsmallest failing input")[0]))
         run = json.loads(self.call("cbi-show", "--hunt", "kept", "--format", "sarif")[0])["runs"][0]
         self.assertEqual({key: run["properties"]["since"][key] for key in ("old", "alone", "both", "mended", "inputs")}, {"old": "old.c", "alone": 9, "both": 5, "mended": 3, "inputs": 40})
         self.assertTrue(run["results"][0]["message"]["text"].startswith("Fails in the new version alone, not in old.c. if (n > 5) was true."), run["results"][0]["message"])
         again = self.hunt("new.c", "--since", "old.c", "--keep", "kept")
-        self.assertEqual(again.split("\nthe run again")[0], out.split("\nthe run again")[0])
+        self.assertEqual(again.split("\nsmallest failing input")[0], out.split("\nsmallest failing input")[0])
         self.write("old.c", OLD.replace("n = 0", "n = 1"))
         self.assertRegex(self.hunt("new.c", "--since", "old.c", "--keep", "kept", due=2), "^cbi-hunt: the hunt in .*/kept/since was begun with another program")
         self.assertRegex(self.hunt("new.c", "--keep", "kept", due=2), "was begun with another old version, or none")
