@@ -184,16 +184,24 @@ class Room(Hunting):
 
 
 class Progress(Case):
-    def test_where_err_is_a_file_a_line_comes_each_minute(self):
+    def told(self, **given):
+        """What comes to err, which is a file, of lines at these seconds."""
         err = io.StringIO()
-        with contextlib.redirect_stderr(err):
-            with unittest.mock.patch.object(counts.time, "monotonic", return_value=0.0):
-                told = counts.Told()
-            for seconds in (59, 61, 100, 122):
-                with unittest.mock.patch.object(counts.time, "monotonic", return_value=float(seconds)):
-                    told.show(f"{seconds} s")
+        kept = {name: value for name, value in os.environ.items() if name != "CBI_PROGRESS"}
+        with contextlib.redirect_stderr(err), unittest.mock.patch.dict(os.environ, {**kept, **given}, clear=True), unittest.mock.patch.object(counts.time, "monotonic") as clock:
+            clock.return_value = 0.0
+            told = counts.Told()
+            for seconds in (9, 59, 61, 100, 122):
+                clock.return_value = float(seconds)
+                told.show(f"{seconds} s")
             told.clear()
-        self.assertEqual(err.getvalue(), "cbi-hunt: 61 s\ncbi-hunt: 122 s\n")
+        return err.getvalue().splitlines()
+
+    def test_where_err_is_a_file_a_line_comes_each_minute(self):
+        self.assertEqual(self.told(), ["cbi-hunt: 61 s", "cbi-hunt: 122 s"])
+        self.assertEqual(self.told(CBI_PROGRESS="many"), ["cbi-hunt: 61 s", "cbi-hunt: 122 s"])
+        self.assertEqual(self.told(CBI_PROGRESS="50"), ["cbi-hunt: 59 s", "cbi-hunt: 122 s"])
+        self.assertEqual(self.told(CBI_PROGRESS="0"), [])
 
 
 class Marked(Hunting):
