@@ -215,7 +215,7 @@ class Sections(Case):
         runs = [self.run_of(number, number <= 2, number % 2 == 0, number % 2 == 0 if number <= 6 else None) for number in range(1, 11)]
         text = self.show(runs, due=1)
         self.assertTrue(text.endswith("\n\nThe ranking of cbi rank has no row.\n"), text)
-        self.assertLess(text.index("Where failing runs go:\n     line 3, main: 100 % of the failing runs, 50 % of the others\nLines that failing runs reach more often than others; by chance alone some would be."),
+        self.assertLess(text.index("Where failing runs go:\n     line 3, main: 100 % of the failing runs, 50 % of the others\nLines that failing runs reach more often than others; some would by chance."),
                         text.index("Perhaps by chance, prog.c:"))
         self.assertEqual(text.count("Where failing runs go"), 1)
         page = sound(self, self.show(runs, "--format", "html", due=1))
