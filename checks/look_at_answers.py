@@ -389,7 +389,7 @@ page: kept/page.html
         self.assertEqual(said.decode().replace("\r\n", "\n").split("\x1b[K")[-1].split("\n"), lines)
 
     def test_what_to_do_is_told_in_full_on_a_narrow_terminal(self):
-        for words, due in ((["--turns", "0"], ["they are left out, and --hangs fail counts them as failed No run failed,", "- Where the bug shows in what the program writes, say what it should write: NAME.expected, --expect or --oracle. - Give",
+        for words, due in ((["--turns", "0"], ["they are left out (--hangs fail counts them as failed) No run failed,", "- Where the bug shows in what the program writes, say what it should write: NAME.expected, --expect or --oracle. - Give",
                                                "- 12 runs were cut: allow more turns (--turns), or count them as failed (--hangs fail)."]),
                            (["--oracle", "false"], ["All runs that count failed, so there is nothing to compare them with. What may help:"])):
             done = subprocess.run(["cbi-hunt", "upper.c", "--inputs", "in puts", *words], cwd=self.room, env=dict(environment(), COLUMNS="50"), stdout=subprocess.PIPE, check=False)
