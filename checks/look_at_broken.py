@@ -191,7 +191,7 @@ class Broken(Case):
         kept = Kept(self.path("kept"))
         self.addCleanup(kept.lock.close)
         inputs = inputs_of(chosen, self.path("kept"))
-        plan, _ = plan_of(chosen, kept, inputs, looking.CBI)
+        plan, *_ = plan_of(chosen, kept, inputs, looking.CBI)
         return Hunt(chosen, plan, kept, inputs, Count(plan))
 
     def broken(self, text, data, due=None, words=()):
