@@ -125,6 +125,7 @@ def excerpt(bug: BugShown, view: View) -> Iterator[str]:
 def answer(view: View) -> Iterator[str]:
     """The head of the page: the first bug; or where no fact is beyond chance that this is so, and what may help."""
     yield '<header class="card" id="answer">'
+    yield from (f"<p>{escaped(said)}</p>" for said in (view.hunted.warning if view.hunted else "", cbi_told.since_line(view)) if said)
     told, first, endless = view.answer, view.first(), cbi_told.endless_first(view)
     if told is None:
         yield f"<h1>{escaped(cbi_told.row_title(first))}</h1>" if first else f"<h1>{code(view.where.main)}: no fact stands out</h1><p>{cbi_told.NO_ROWS}</p>"

@@ -133,9 +133,18 @@ def formatted(view: cbi_rows.View, form: str, every: bool = False, to_file: bool
 
 
 def write(lines: Iterator[str], path: str) -> None:
+    """Writes a file, which is there whole or not at all; what is no plain file, as a pipe, and what stands where no other may, takes it as it comes."""
     text = "".join(line + "\n" for line in lines)
-    with open(path, "w", encoding="utf-8", errors="backslashreplace", newline="\n") as file:
-        file.write(text)
+    direct = os.path.islink(path) or os.path.exists(path) and not (os.path.isfile(path) and os.access(os.path.dirname(path) or ".", os.W_OK))
+    target = path if direct else path + ".part"
+    try:
+        with open(target, "w", encoding="utf-8", errors="backslashreplace", newline="\n") as file:
+            file.write(text)
+        if target != path:
+            os.replace(target, path)
+    finally:
+        if target != path and os.path.exists(target):
+            os.remove(target)
 
 
 def lines_of(chosen: argparse.Namespace) -> Tuple[Iterator[str], int]:
