@@ -8,6 +8,7 @@ use Rattle.command_base.specs.declared.done.Done.{Done}
 use Rattle.command_base.specs.Outside.{AllStayBut, Outside, outside_state}
 use Rattle.commands.specs.Commands.{Did, IsRefused, written_by}
 use Rattle.top_call.specs.Statuses.{IsStatus, IsUntouched}
+use Rattle.top_call.specs.Told.{DoneTold}
 
 pub record Call : Type 0 where
   pub words : List (List ℕ)
@@ -49,3 +50,23 @@ pub record IsCall (call : Call) : Type 0 where
   pub untouched : IsUntouched call.status → call.out ≡ []
   pub unwritten : IsUntouched call.status → call.after ≡ call.before
   pub held : AllStayBut (written_by (command_of call)) (Some call.before) (Some call.after)
+
+-- What `top_call::cbi` says at its end of a call by these words, by its clauses of these names: of what the store held before and after, what out had taken
+-- before and after, watchers of which `seen` gives the list, their lines, and what err is told.
+pub record IsSaid {B : Type 0} (seen : B → List Observation) (words : List (List ℕ)) (status : ℕ) (held_before held_after : Option Held)
+    (taken_before taken_after : Option (List ℕ)) (watching watched : List B) (lines : List ℕ) (ErrIsTold : List ℕ → Type 0) : Type 0 where
+  pub is_status : IsStatus status
+  pub done : status ≡ 0 → DoneTold (Did seen (command_of_words words) (outside_state held_before taken_before watching)
+      (outside_state held_after taken_after watched)) lines ErrIsTold
+  pub usage : status ≡ 2 → IsNone (command_of_words words)
+  pub refused : status ≡ 5 → IsRefused (command_of_words words) held_before
+  pub untouched : IsUntouched status → taken_after ≡ taken_before
+  pub unwritten : IsUntouched status → held_after ≡ held_before
+  pub held : AllStayBut (written_by (command_of_words words)) held_before held_after
+
+-- a call of which that is said, over a store and an out that tell what they hold and have taken, is one
+abbrev pub MakesACall : {B : Type 0} → (seen : B → List Observation) → (ErrIsTold : List ℕ → Type 0) → Type 0
+MakesACall seen ErrIsTold =
+    (words : List (List ℕ)) (status : ℕ) (before after : Held) (taken out lines : List ℕ) (watching watched : List _) →
+    IsSaid seen words status (Some before) (Some after) (Some taken) (Some (taken ++ out)) watching watched lines ErrIsTold
+    → IsCall (call_of words before after out status)

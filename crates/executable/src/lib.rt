@@ -1,5 +1,5 @@
-//! Laws of calls of the executable one after another: what is put out at the end, by words, files, outs and statuses alone. That each call of the top call
-//! is such a call is proved here too.
+//! Laws of calls of the executable one after another: what is put out at the end, by words, files, outs and statuses alone. That what the top call says makes
+//! such a call is a law too.
 #![tactic(auto)]
 
 mod call;
