@@ -6,6 +6,7 @@ import cbi_broke
 from cbi_answer import BugShown, Stated
 from cbi_files import count_of, ending_said, share, visible
 from cbi_hunted import Example, File, Hanging
+from cbi_reach import MOST_NAMED, named_lines
 from cbi_rows import PAIR_ABOVE, Near, PairShown, Shown, View
 from cbi_seen import MOST_PLACES, Place, Totals
 from cbi_where import Spot, Where
@@ -172,6 +173,13 @@ def excerpt(bug: BugShown, view: View, around: int = AROUND) -> List[Line]:
     return [Line(number, lines[number - 1], number == spot.line, number in bug.only) for number in range(max(1, spot.line - around), min(last, until) + 1)]
 
 
+def led_to(bug: BugShown, view: View) -> List[str]:
+    """The statements without a fact of their own that its branch leads to and that don't stand in its excerpt."""
+    shown = {line.number for line in excerpt(bug, view)}
+    far = [spot for spot in bug.lead.leads if spot.file != bug.lead.told.spot.file or spot.line not in shown]
+    return [f"{view.where.named(spot)}: {(view.where.text(spot) or '').strip()}" for spot in far[:MOST_NAMED]]
+
+
 def files_of(bug: BugShown, view: View) -> List[File]:
     return view.hunted.files_of(bug.runs) if view.hunted else []
 
@@ -191,6 +199,9 @@ def about(bug: BugShown, view: View) -> Iterator[Tuple[str, List[str]]]:
         yield "ended by", [ended_by(bug.endings)]
     if bug.way:
         yield "way there", [way_step(said, view) for said in bug.way]
+    led = led_to(bug, view)
+    if led:
+        yield "leads to", led
     if bug.also:
         yield "also", [brief(said, view) for said in bug.also]
     files = files_of(bug, view)
@@ -227,7 +238,8 @@ def left_out(view: View) -> Optional[str]:
 def line_of(said: Stated, view: View) -> str:
     answer, found = view.answer, said.found
     totals = (answer.failing, answer.successful) if answer else (0, 0)
-    return f"{view.where.named(said.told.spot)}, {said.told.function}: {said.told.fact.past()} ({found.a} of {totals[0]} failing, {found.b} of {count_of(totals[1], 'other')})"
+    leads = f"; leads to {named_lines(said.leads, view.where)}" if said.leads else ""
+    return f"{view.where.named(said.told.spot)}, {said.told.function}: {said.told.fact.past()} ({found.a} of {totals[0]} failing, {found.b} of {count_of(totals[1], 'other')}){leads}"
 
 
 # How runs ended
