@@ -22,7 +22,9 @@ from look_at_farms import Farm  # noqa: E402,F401
 from look_at_hunts import Hunt, Sample  # noqa: E402,F401
 from look_at_inputs import Folders, Mutants, Oracles, Smaller  # noqa: E402,F401
 from look_at_lists import Listed, Retold, Without  # noqa: E402,F401
+from look_at_neighbours import Changes, Neighbours  # noqa: E402,F401
 from look_at_pages import Pages, Sarif, Style, sound  # noqa: E402,F401
+from look_at_rates import Rates  # noqa: E402,F401
 from look_at_reach import Flows, Reached, Reaches  # noqa: E402,F401
 from look_at_screens import Screens  # noqa: E402,F401
 from look_at_signals import Signals  # noqa: E402,F401

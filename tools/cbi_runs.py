@@ -26,7 +26,7 @@ SHELL = ["sh", "-c"]
 
 
 class Plan(NamedTuple):
-    """What a run is made with, whatever its number."""
+    """What a run is made with, whatever its number. Of the inputs so many are the hunt's own, and behind them stand neighbours of a failing one; 0 where all are."""
     cbi: str
     program: str
     rate: int
@@ -40,6 +40,10 @@ class Plan(NamedTuple):
     patience: int = 10
     hangs: bool = False
     status: bool = False
+    own: int = 0
+
+    def is_neighbour(self, place: int) -> bool:
+        return 0 < self.own <= place
 
     def input_of(self, run: int) -> int:
         """The place of a run's input: the inputs in turn, again and again."""

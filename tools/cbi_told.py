@@ -59,11 +59,31 @@ def headline(view: View) -> str:
     strong = answer.strong()
     runs = [run for bug in strong for run in bug.runs]
     explained, failing = (len(set(map(hunted.place_of, runs))), answer.inputs[0]) if hunted and not view.sample() else (len(runs), answer.failing)
+    if hunted and hunted.own and not view.sample():
+        return f"{bugs_said(view)} {explained_with_neighbours(view, runs)}."
     left = f"; {failing - explained} {'is' if failing - explained == 1 else 'are'} left over" if explained < failing else ""
     every = answer.failing + answer.successful
     of = f"{every} ranked runs" if view.sample() else f"{every} runs" + (f" on {sum(answer.inputs)} inputs" if answer.several() else "") if hunted is None or answer.several() else f"{every} inputs"
-    bugs = count_of(len(strong), "bug") + (", perhaps fewer," if any(same_as(bug, view) for bug in strong) else "")
-    return f"{bugs} {'explains' if len(strong) == 1 else 'explain'} {part_of(explained, failing, 'failing ' + unit(view))}{left} ({of})."
+    return f"{bugs_said(view)} {part_of(explained, failing, 'failing ' + unit(view))}{left} ({of})."
+
+
+def bugs_said(view: View) -> str:
+    """`1 bug explains`, `2 bugs, perhaps fewer, explain`."""
+    strong = view.answer.strong() if view.answer else []
+    fewer = ", perhaps fewer," if any(same_as(bug, view) for bug in strong) else ""
+    return f"{count_of(len(strong), 'bug')}{fewer} {'explains' if len(strong) == 1 else 'explain'}"
+
+
+def explained_with_neighbours(view: View, runs: List[int]) -> str:
+    """Of the hunt's own failing inputs, and of failing neighbours, how many these runs are on."""
+    answer, hunted = view.answer, view.hunted
+    if answer is None or hunted is None:
+        return ""
+    near, own = hunted.neighbours_of(runs), len(hunted.names)
+    explained, neighbours = len(set(map(hunted.place_of, runs))) - near, answer.inputs[0] - own
+    of = f"{count_of(hunted.own, 'input')}, {count_of(hunted.inputs - hunted.own, 'neighbour')}"
+    beside = f" and {part_of(near, neighbours, 'failing neighbour')}" if neighbours else ""
+    return f"{part_of(explained, own, 'failing input')}{beside} ({of})"
 
 
 def letter(bug: BugShown, view: View) -> str:
@@ -108,12 +128,17 @@ def endless_first(view: View) -> Optional[str]:
 def counts_of_bug(bug: BugShown, view: View) -> str:
     """In how many failing and other runs its fact was true, of how many that looked there."""
     found, came = bug.lead.found, "came there" if view.hunted and view.hunted.rate == 1 else "looked there"
+    near = view.hunted.neighbours_of(bug.runs) if view.hunted else 0
     later = view.answer is not None and bug.live < view.answer.failing
     others = f"no other {came}" if not found.d else "not in the one other that did" if (found.b, found.d) == (0, 1) else f"in {part_of(found.b, found.d, 'other')} that did"
     missing = f" {count_of(bug.live - found.c, 'failing run')} did not {came.replace('came', 'come').replace('looked', 'look')}." if found.c < bug.live else ""
     if later:
-        return f"Of the {count_of(bug.live, 'failing run')} that no bug above explains, true in {part_of(found.a, found.c)} that {came}, and {others}.{missing}"
-    return f"True in {part_of(found.a, found.c, 'failing run')} that {came}, and {others}.{missing}"
+        return f"Of the {count_of(bug.live, 'failing run')} that no bug above explains, true in {part_of(found.a, found.c)} that {came}, and {others}.{missing}{of_neighbours(near)}"
+    return f"True in {part_of(found.a, found.c, 'failing run')} that {came}, and {others}.{missing}{of_neighbours(near)}"
+
+
+def of_neighbours(near: int) -> str:
+    return f" Of these failing runs {near} {'is' if near == 1 else 'are'} on neighbours of an input." if near else ""
 
 
 def expected_of(number: float) -> str:

@@ -9,7 +9,7 @@ from cbi_hunt.kept import Kept
 from cbi_runs import Plan
 
 class Count:
-    """How many runs ended how, which inputs failed, and how many site lines each run has."""
+    """How many runs ended how, and of these those of neighbours; which inputs failed, and how many site lines each run has."""
 
     def __init__(self, plan: Plan):
         self.plan = plan
@@ -18,6 +18,7 @@ class Count:
         self.failing_runs: Dict[int, int] = {}
         self.hanging_inputs: Dict[int, int] = {}
         self.marks: List[Mark] = []
+        self.near: Dict[str, int] = {"fail": 0, "pass": 0, "none": 0}
 
     def add(self, collection: str) -> None:
         for run in cbi_files.read_heads(collection):
@@ -26,6 +27,8 @@ class Count:
             self.failed += run.label == "fail"
             self.succeeded += run.label == "pass"
             self.neither += run.label == "none"
+            if self.plan.is_neighbour(self.plan.input_of(run.number)):
+                self.near[run.label] += 1
             self.other_status += run.label == "pass" and cbi_files.status_of(run.outcome) != 0
             if run.outcome == "cut turns":
                 self.hanging_inputs.setdefault(self.plan.input_of(run.number), run.number)
@@ -35,6 +38,10 @@ class Count:
 
     def runs(self) -> int:
         return len(self.marks)
+
+    def failing_own(self) -> List[int]:
+        """The failing inputs that are no neighbours."""
+        return [place for place in sorted(self.failing_inputs) if not self.plan.is_neighbour(place)]
 
 
 def counted(plan: Plan, kept: Kept) -> Count:

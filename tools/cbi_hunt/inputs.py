@@ -16,11 +16,12 @@ class Inputs:
 
     def __init__(self, names: List[str], paths: List[str], expected: Optional[List[str]], lines: Optional[str] = None, hidden: Sequence[str] = ()):
         self.names, self.paths, self.expected, self.lines, self.hidden = names, paths, expected, lines, list(hidden)
-        self.given = len(names)
+        self.given = self.own = len(names)
 
-    def add(self, names: List[str], paths: List[str]) -> None:
-        """Puts inputs that were made behind those that were given."""
+    def add(self, names: List[str], paths: List[str], own: bool = True) -> None:
+        """Puts inputs that were made behind those that were given. Neighbours of a failing one are no inputs of the hunt's own, and come last."""
         self.names, self.paths = self.names + names, self.paths + paths
+        self.own += len(names) if own else 0
 
     def digest(self) -> str:
         """What a kept hunt is compared by: names and bytes of all inputs, so that run numbers stay what they were."""

@@ -49,6 +49,7 @@ complete -c cbi-hunt -l hangs -x -a 'neither fail' -d 'what a run counts as that
 complete -c cbi-hunt -l status -x -a 'ignore fail' -d 'whether a status other than 0 has failed'
 complete -c cbi-hunt -l minimize -d 'makes the smallest failing input smaller'
 complete -c cbi-hunt -l mutate -x -d 'how many inputs more are made'
+complete -c cbi-hunt -l neighbours -x -d 'how many inputs are made near the smallest failing one'
 complete -c cbi-hunt -l rate -x -a '1 2 5 10 20 50 100 1000' -d 'one visit in so many is looked at'
 complete -c cbi-hunt -l runs -x -d 'how many runs'
 complete -c cbi-hunt -l seed -x -d 'which countdowns the runs have'
