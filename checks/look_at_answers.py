@@ -84,6 +84,13 @@ class Facts(Case):
         site = next(site for site in program.sites if site.names == ("while",))
         self.assertEqual(source.fact(site, "while is true").text(), "while is true")
 
+    def test_an_assignment_is_found_where_a_port_assigns_more(self):
+        """The port of a line gives `t` a value as well: what is given to `n` is the person's, and what is given to `t` isn't."""
+        ours, port = cbi_source.Source(["n = scanf(x);"]), cbi_source.Source(["n = (t = 1, cbi_scanf(t));"])
+        self.assertEqual([ours.same_word(1, port, [1], place) for place in (1, 4)], [1, None])
+        both = cbi_source.Source(["n += 2; n = 3;"])
+        self.assertEqual([both.same_word(1, cbi_source.Source(["t = 0; n += 2; n = 3;"]), [1], place) for place in (1, 5, 9)], [None, 1, 5])
+
     def test_long_conditions_are_clipped(self):
         self.assertEqual(cbi_source.clipped("x" * 61), "x" * 58 + "..")
         self.assertEqual(cbi_source.clipped("x" * 60), "x" * 60)

@@ -216,6 +216,7 @@ class Reached(Hunting):
         self.assertTrue(all(len(line) <= 160 for line in out.split("\n") if not line.startswith("the run again")), out)
         page = self.call("cbi-show", "--hunt", "kept", "--format", "html")[0]
         self.assertIn("<dt>Leads to</dt><dd><ul><li>line 20: stock[9] = 0;</li><li>line 21: return -1;</li></ul></dd>", page)
+        self.assertIn("4 of 4 failing, 0 of 14 others; leads to lines 20 and 21</span>", page)
 
     def test_lines_that_only_failing_runs_come_to_are_so_by_gcov(self):
         if not gcov_here():

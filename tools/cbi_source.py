@@ -208,6 +208,9 @@ class Source:
         if not ours and word.startswith(OF_PORT):
             ours = [at for at, token in enumerate(self.tokens) if token.line == line and token.text == word[len(OF_PORT):]]
         theirs = [at for at, token in enumerate(other.tokens) if token.line in lines and token.text == word]
+        if len(ours) != len(theirs) and word in ASSIGNMENTS:
+            # A port may assign more on a line than the person did: only what is given to the same variable is compared.
+            ours, theirs = ([at for at in found if text.word(at - 1) == other.word(place - 1)] for text, found in ((self, ours), (other, theirs)))
         return ours[theirs.index(place)] if len(ours) == len(theirs) and place in theirs else None
 
     def case_on(self, line: int) -> Optional[str]:

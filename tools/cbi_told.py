@@ -133,8 +133,13 @@ def counts_of_bug(bug: BugShown, view: View) -> str:
     others = f"no other {came}" if not found.d else "not in the one other that did" if (found.b, found.d) == (0, 1) else f"in {part_of(found.b, found.d, 'other')} that did"
     missing = f" {count_of(bug.live - found.c, 'failing run')} did not {came.replace('came', 'come').replace('looked', 'look')}." if found.c < bug.live else ""
     if later:
-        return f"Of the {count_of(bug.live, 'failing run')} that no bug above explains, true in {part_of(found.a, found.c)} that {came}, and {others}.{missing}{of_neighbours(near)}"
-    return f"True in {part_of(found.a, found.c, 'failing run')} that {came}, and {others}.{missing}{of_neighbours(near)}"
+        return f"Of the {count_of(bug.live, 'failing run')} that no bug above explains, true in {part_of(found.a, found.c)} that {came}, and {others}.{missing}{of_neighbours(near)}{of_a_part(bug)}"
+    return f"True in {part_of(found.a, found.c, 'failing run')} that {came}, and {others}.{missing}{of_neighbours(near)}{of_a_part(bug)}"
+
+
+def of_a_part(bug: BugShown) -> str:
+    """That a fact goes with failing and is no cause by itself, where it is true without a failure more often."""
+    return " It was true more often without a failure, so it is a part of the cause at most." if bug.lead.found.b > bug.lead.found.a and not bug.weak() else ""
 
 
 def of_neighbours(near: int) -> str:

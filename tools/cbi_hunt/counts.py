@@ -18,7 +18,7 @@ class Count:
         self.failing_runs: Dict[int, int] = {}
         self.hanging_inputs: Dict[int, int] = {}
         self.marks: List[Mark] = []
-        self.near: Dict[str, int] = {"fail": 0, "pass": 0, "none": 0}
+        self.near: Dict[str, int] = {"fail": 0, "pass": 0, "none": 0, "cut": 0}
 
     def add(self, collection: str) -> None:
         for run in cbi_files.read_heads(collection):
@@ -29,6 +29,7 @@ class Count:
             self.neither += run.label == "none"
             if self.plan.is_neighbour(self.plan.input_of(run.number)):
                 self.near[run.label] += 1
+                self.near["cut"] += run.outcome.startswith("cut")
             self.other_status += run.label == "pass" and cbi_files.status_of(run.outcome) != 0
             if run.outcome == "cut turns":
                 self.hanging_inputs.setdefault(self.plan.input_of(run.number), run.number)

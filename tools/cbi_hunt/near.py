@@ -168,6 +168,8 @@ def suggestion(chosen: argparse.Namespace, inputs: Inputs, failing: int) -> List
     """What may help where few inputs fail."""
     if chosen.neighbours or not 0 < failing < FEW:
         return []
+    more = ""
     if inputs.expected:
-        return [f"Only {count_of(failing, 'input')} {'fails' if failing == 1 else 'fail'}: with an oracle in place of expected outputs, --neighbours {SUGGESTED} makes and judges inputs near the smallest of them."]
-    return [f"Only {count_of(failing, 'input')} {'fails' if failing == 1 else 'fail'}: --neighbours {SUGGESTED} makes and judges inputs near the smallest of them."]
+        more = "with an oracle in place of expected outputs, "
+    few = f"Only {count_of(failing, 'input')} {'fails' if failing == 1 else 'fail'}"
+    return [f"{few}: {more}--neighbours {SUGGESTED} makes and judges inputs near the smallest of them."]

@@ -1,6 +1,7 @@
 """Which rate, and how many runs of an input: what is seen of a fact where one visit in so many is looked at. Not proved.
 
-At rate D a visit is looked at with probability 1/D, whatever the others are. So of a fact that an input comes to m times, K runs of it see nothing with (1 - 1/D)^(mK), and look at it mK/D times on average.
+At rate D a visit is looked at with probability 1/D, whatever the others are. So of a fact that an input comes to m times, K runs of it see nothing with (1 - 1/D)^(mK),
+and look at it mK/D times on average.
 """
 import itertools
 import math
@@ -47,7 +48,7 @@ def visits_in(collection: str) -> Optional[Visits]:
 
 
 def advised(visits: Visits) -> Tuple[int, int]:
-    """A rate, and how many runs of an input look at half of its sites often enough: the greatest rate at which one run visits the average site as often as one visit in so many is looked at."""
+    """A rate, and how many runs of an input look at half of its sites often enough. The rate is the greatest one that isn't above the visits that a run makes of the average site."""
     rate = next((rate for rate in RATES if visits.visits >= rate * visits.sites), RATES[-1])
     return rate, max(1, math.ceil(LOOKS * rate / visits.half))
 

@@ -27,9 +27,9 @@ MOST_HIDDEN = 3
 def summary(count: Count, inputs: Inputs) -> str:
     """How the runs went on the hunt's own inputs."""
     near = count.near
-    runs = count.runs() - sum(near.values())
+    runs = count.runs() - near["fail"] - near["pass"] - near["none"]
     neither = f", {count.neither - near['none']} neither" if count.neither > near["none"] else ""
-    cut = f" ({count.cut} cut)" if count.cut else ""
+    cut = f" ({count.cut - near['cut']} cut)" if count.cut > near["cut"] else ""
     return (f"{count_of(runs, 'run')} on {count_of(min(inputs.own, runs), 'input')}: "
             f"{count.failed - near['fail']} failed, {count.succeeded - near['pass']} succeeded{neither}{cut}")
 
