@@ -314,7 +314,8 @@ page: kept/page.html
         """Three of twelve inputs have an `a`. Of as many facts as are looked at chance alone makes some as strong, with twelve runs as with a thousand."""
         for runs in ("12", "1000"):
             out = self.hunt("--inputs", "in puts", "--expect", "due", "--runs", runs, "--rate", "2")
-            self.assertTrue(out.startswith("No fact is beyond chance.\nWhat may help:\n- More inputs that differ, also in little.\n- A smaller rate (--rate 1 looks at every visit).\n"), out)
+            self.assertTrue(out.startswith("No fact is beyond chance.\nWhat may help:\n- Only 3 inputs fail: "), out)
+            self.assertIn("\n- More inputs that differ, also in little.\n- A smaller rate (--rate 1 looks at every visit).\n- More runs (--runs): at --rate 2 ", out)
             self.assertIn("Perhaps by chance, upper.c:", out)
         self.assertRegex(" ".join(out.split()), r"chance alone would make 0\.\d+ look as strong, by inputs\.")
 
