@@ -159,7 +159,7 @@ class Sections(Case):
         self.assertIn("\nThe ranking of cbi rank has 2 rows (--all shows them, with what falls with each).\n", self.show(first + second))
         text = self.show(first + second, "--all")
         self.assertEqual(re.findall(r"^ +\d+\. .*$", text, re.MULTILINE), ["  1. line 2, main: if (a) is true", "  2. line 3, main: if (b) is true"])
-        told = "1 weak row: of the 4 facts that were looked at, chance alone would make one or more look as strong"
+        told = "1 weak row: of 4 facts tested, one or more would look this strong by chance"
         self.assertLess(text.index("  1. line 2"), text.index(told))
         self.assertLess(text.index(told), text.index("  2. line 3"))
         page = sound(self, self.show(first + second, "--format", "html"))
@@ -180,7 +180,7 @@ class Sections(Case):
         runs = [self.run_of(number, number == 1, False, number == 1) for number in range(1, 4)]
         text = self.show(runs).replace("\n", " ")
         self.assertTrue(text.startswith("No fact is beyond chance. What may help: - More inputs that differ, also in little.  Perhaps by chance, prog.c:3 in main: if (b) was true True in the one failing run "
-                                        "that looked there, and in none of the 2 others that did. Weak evidence: of the 4 facts that were looked at, chance alone would make 1.3 look as strong."), text)
+                                        "that looked there, and in none of the 2 others that did. Weak evidence: of 4 facts tested, about 1.3 would look this strong by chance."), text)
         text = self.show(runs, "--format", "html")
         self.assertIn("<h1><code>prog.c</code>: no fact is beyond chance</h1>", text)
         self.assertIn("<h3>Perhaps by chance, <code>if (b)</code> was true at prog.c:3 in <code>main</code></h3>", text)
@@ -207,11 +207,11 @@ class Sections(Case):
         runs = [self.run_of(number, True, True, True if number <= 8 else None, outcome="trapped 8" if number <= 7 else "ended 0" if number <= 9 else "cut turns") for number in range(1, 11)]
         runs += [self.run_of(number, False, False, True if number <= 12 else None) for number in range(11, 31)]
         text = self.show(runs)
-        ended = "by a null pointer that is used (trap 8, 7 runs), by other output (2) and by going back more often than --turns allows (1)\n"
+        ended = "by a null pointer dereference (trap 8, 7 runs), by wrong output (2) and by a hang (cut at --turns) (1)\n"
         self.assertIn(f"\nended {ended}".replace("ended by", "ended by:"), text)
         self.assertIn(f"     its failing runs ended {ended}", self.show(runs, "--all"))
         said = "line 3, main: 80 % of the failing runs, 10 % of the others"
-        self.assertIn(f"\nWhere failing runs go:\n     {said}\nLines that failing runs are seen at more often than others, beyond chance", text)
+        self.assertIn(f"\nWhere failing runs go:\n     {said}\nLines that failing runs reach more often than others, beyond chance", text)
         page = sound(self, self.show(runs, "--format", "html"))
         self.assertIn([2, "Where failing runs go"], page.headings)
         self.assertIn(said, page.text)
@@ -222,7 +222,7 @@ class Sections(Case):
         runs = [self.run_of(number, number <= 2, number % 2 == 0, number % 2 == 0 if number <= 6 else None) for number in range(1, 11)]
         text = self.show(runs, due=1)
         self.assertTrue(text.endswith("\n\nThe ranking of cbi rank has no row.\n"), text)
-        self.assertLess(text.index("Where failing runs go:\n     line 3, main: 100 % of the failing runs, 50 % of the others\nLines that failing runs are seen at more often than others; by chance alone some would be."),
+        self.assertLess(text.index("Where failing runs go:\n     line 3, main: 100 % of the failing runs, 50 % of the others\nLines that failing runs reach more often than others; by chance alone some would be."),
                         text.index("Perhaps by chance, prog.c:"))
         self.assertEqual(text.count("Where failing runs go"), 1)
         page = sound(self, self.show(runs, "--format", "html", due=1))
@@ -269,7 +269,7 @@ True in all 9 failing runs that came there, and in none of the 27 others that di
      10 |             c -= 32;
      11 |         putchar(c);
 
-ended by: other output (9 runs)
+ended by: wrong output (9 runs)
 failing inputs: kept/failing/02 abc (3 bytes), kept/failing/04 zza (3 bytes), kept/failing/08 caa (3 bytes) and 6 more
 smallest failing input, 02 abc (3 bytes): abc
 line 1 of its output: aBC
@@ -296,7 +296,7 @@ page: kept/page.html
         self.assertEqual(self.call("cbi-show", "--hunt", "kept")[0], out.split("page: ")[0])
         every = self.call("cbi-show", "--hunt", "kept", "--all")[0]
         self.assertIn("\n  1. line 6, main: c == 97 'a' after c = getchar()\n     fails 25 % of the time when reached, 100 % when this is true\n", every)
-        self.assertIn("     its failing runs ended by other output (9 runs)\n     on the inputs 02 abc, 04 zza, 08 caa and 6 more\n", every)
+        self.assertIn("     its failing runs ended by wrong output (9 runs)\n     on the inputs 02 abc, 04 zza, 08 caa and 6 more\n", every)
 
     def test_runs_are_no_more_than_inputs_where_each_visit_is_looked_at(self):
         self.more_inputs()
@@ -317,7 +317,7 @@ page: kept/page.html
             self.assertTrue(out.startswith("No fact is beyond chance.\nWhat may help:\n- Only 3 inputs fail: "), out)
             self.assertIn("\n- More inputs that differ, also in little.\n- A smaller rate (--rate 1 looks at every visit).\n- More runs (--runs): at --rate 2 ", out)
             self.assertIn("Perhaps by chance, upper.c:", out)
-        self.assertRegex(" ".join(out.split()), r"chance alone would make 0\.\d+ look as strong, by inputs\.")
+        self.assertRegex(" ".join(out.split()), r"about 0\.\d+ would look this strong by chance \(counted by inputs\)\.")
 
     def test_each_bug_has_its_own_inputs(self):
         """Nine inputs have an `a`, and nine others a `!`, of which the smallest has one byte."""
@@ -330,7 +330,7 @@ page: kept/page.html
         by_inputs = {re.search(r"^failing inputs: (.*)$", part, re.MULTILINE)[1]: part for part in (first, second)}
         self.assertEqual(set(by_inputs), {"in puts/02 abc (3 bytes), in puts/04 zza (3 bytes), in puts/08 caa (3 bytes) and 6 more",
                                           "in puts/40 ! (1 byte), in puts/41 ! (2 bytes), in puts/42 ! (3 bytes) and 6 more"})
-        for files, due in (("in puts/02", ["ended by: other output (9 runs)", "smallest failing input, 02 abc (3 bytes): abc\nits output ended with: aBC\n"]),
+        for files, due in (("in puts/02", ["ended by: wrong output (9 runs)", "smallest failing input, 02 abc (3 bytes): abc\nits output ended with: aBC\n"]),
                            ("in puts/40", ["ended by: a call of abort (trap 14, 9 runs)", "smallest failing input, 40 ! (1 byte): !\nits output: nothing\n"])):
             part = next(part for names, part in by_inputs.items() if names.startswith(files))
             for said in due:
@@ -399,7 +399,7 @@ page: kept/page.html
     def test_what_to_do_is_told_in_full_on_a_narrow_terminal(self):
         for words, due in ((["--turns", "0"], ["they are left out, and --hangs fail counts them as failed No run failed,", "- Where the bug shows in what the program writes, say what it should write: NAME.expected, --expect or --oracle. - Give",
                                                "- 12 runs were cut: allow more turns (--turns), or count them as failed (--hangs fail)."]),
-                           (["--oracle", "false"], ["All runs that count failed, so there is nothing that a failure could be told apart from. What may help:"])):
+                           (["--oracle", "false"], ["All runs that count failed, so there is nothing to compare them with. What may help:"])):
             done = subprocess.run(["cbi-hunt", "upper.c", "--inputs", "in puts", *words], cwd=self.room, env=dict(environment(), COLUMNS="50"), stdout=subprocess.PIPE, check=False)
             lines = done.stdout.decode().split("\n")
             self.assertEqual([line for line in lines if len(line) > 50 and not line.startswith("the run again: ")], [])
@@ -418,15 +418,15 @@ class Hangs(Hunting):
         words = ["cbi-hunt", "hang.c", "--inputs", "words", "--turns", "1000", "--rate", "1", "--jobs", "1"]
         out, _ = self.call(*words, due=1)
         self.assertIn("10 runs on 10 inputs: 0 failed, 8 succeeded, 2 neither (2 cut)\n", out)
-        self.assertIn("\nruns that were cut went back more often than --turns allows; they are left out, and --hangs fail counts them as failed\n", out)
+        self.assertIn("\nruns that were cut hang, or need more turns than --turns allows; they are left out (--hangs fail counts them as failed)\n", out)
         out, _ = self.call(*words, "--hangs", "fail", "--keep", "kept")
         self.assertTrue(out.startswith("The run never leaves the loop `while (c != 'x')` at hang.c:5 in main.\n"
-                                       "2 runs that went on without end were made again, and last seen at line 6, main: if (c == 'y') (2).\nNo fact is beyond chance.\n"), out)
+                                       "2 hanging runs were made again, and last seen at line 6, main: if (c == 'y') (2).\nNo fact is beyond chance.\n"), out)
         self.assertEqual(out.count("The run never leaves"), 1)
         page = sound(self, self.read("kept/page.html").decode())
         self.assertEqual(page.headings[0], [1, "The run never leaves the loop while (c != 'x') at hang.c:5 in main."])
         self.assertIn("\nPerhaps by chance, hang.c:4 in main: c < 120 'x' after c = getchar()\nTrue in both failing runs that came there, and in none of the 8 others that did. Weak evidence: ", out)
-        self.assertIn("\nended by: going back more often than --turns allows (2 runs)\n", out)
+        self.assertIn("\nended by: a hang (cut at --turns) (2 runs)\n", out)
         self.assertEqual(self.read("kept/runs").count(b" cut turns label fail "), 2)
         hang = json.loads(self.call("cbi-show", "--hunt", "kept", "--format", "sarif")[0])["runs"][0]["results"][0]
         self.assertEqual((hang["ruleId"], hang["level"], hang["locations"][0]["physicalLocation"]["region"]["startLine"]), ("hang", "error", 5))
@@ -440,7 +440,7 @@ class Hangs(Hunting):
         for number in range(30):
             self.write(f"words/{number:02}", "ax"[number % 3 > 0] if number % 2 else "zy"[number % 3 > 0])
         out, _ = self.call("cbi-hunt", "hang.c", "--inputs", "words", "--turns", "1000", "--jobs", "1", "--hangs", "fail", "--keep", "kept")
-        self.assertTrue(out.startswith("1 bug explains all 10 failing inputs (30 inputs).\n5 runs that went on without end were made again, and last seen at line "), out)
+        self.assertTrue(out.startswith("1 bug explains all 10 failing inputs (30 inputs).\n5 hanging runs were made again, and last seen at line "), out)
         self.assertIn("\n\nThe run never leaves the loop `while (c != 'x')` at hang.c:5 in main.\nhang.c:", out)
         page = sound(self, self.read("kept/page.html").decode())
         self.assertEqual(page.headings[0], [1, "The run never leaves the loop while (c != 'x') at hang.c:5 in main."])
@@ -456,4 +456,4 @@ class Hangs(Hunting):
             self.write(f"digits/{digit}", digit)
         self.write("digits/end", "")
         out, _ = self.call("cbi-hunt", "half.c", "--inputs", "digits", "--turns", "1000", "--rate", "1", "--jobs", "1", "--runs", "30", "--hangs", "fail", due=None)
-        self.assertIn("5 runs that went on without end were made again, and last seen at line 6, main: low = (low + high) / 2 (5).", out.replace("\n", " "))
+        self.assertIn("5 hanging runs were made again, and last seen at line 6, main: low = (low + high) / 2 (5).", out.replace("\n", " "))

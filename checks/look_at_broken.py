@@ -236,7 +236,7 @@ class Traps(Broken):
         found = self.broken(text, "abc defgh", words=("--args", "one"))
         self.assertEqual((found.outcome, found.inside, self.calls(found)), ("trapped 6", "strcpy", [("keep", line_of(text, "here")), ("main", line_of(text, "call"))]))
         self.assertEqual(found.before.line, line_of(text, "before"))
-        self.assertIn(f"prog.c:{line_of(text, 'here')} in keep, in strcpy: strcpy(room, word); /* here */", dict(cbi_broke.lines_of(found))["it stopped (an index or a pointer past the ends of its object) at"])
+        self.assertIn(f"prog.c:{line_of(text, 'here')} in keep, in strcpy: strcpy(room, word); /* here */", dict(cbi_broke.lines_of(found))["it stopped (an out-of-bounds access) at"])
 
     def test_what_was_done_just_before_is_told(self):
         """The null pointer comes of `find`, which returned it."""

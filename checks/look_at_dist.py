@@ -223,7 +223,7 @@ class Installs(Case):
 
     def test_without_a_release_it_says_what_to_do_and_leaves_nothing(self):
         out, err = self.call("./install", self.path("here"), due=2)
-        self.assertEqual((out, err), ("", "./install: there is no released executable in dist/ yet. ./install --build proves and builds the executable here, with the kit's rt; README.md says how long it takes\n"))
+        self.assertEqual((out, err), ("", "./install: there is no released executable in dist/ yet. With the kit's rt ./build FOLDER --unproved makes one in minutes, without proofs, and ./install --build proves it; README.md says how long each takes\n"))
         self.assertEqual(os.listdir(self.path("here")), [])
 
     def test_another_machine_is_told(self):

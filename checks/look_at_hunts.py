@@ -313,7 +313,7 @@ class Sample(Case):
         told.update(example={**example, "of_row": False}, hanging=[["line 6, main: if (c)", 2]])
         self.write("kept/told.json", json.dumps(told))
         out, _ = self.call("cbi-show", "--hunt", "kept", "--all")
-        self.assertTrue(out.startswith("2 runs that went on without end were made again, and last seen at line 6, main: if (c) (2).\n"), out)
+        self.assertTrue(out.startswith("2 hanging runs were made again, and last seen at line 6, main: if (c) (2).\n"), out)
         self.assertIn("\nsmallest failing input, line01 (3 bytes): a!\\n\n", out)
         self.assertIn("     fails 10 % of the time when reached, 100 % when this is true\n", out)
         for form in ("html", "sarif", "quickfix"):

@@ -144,7 +144,7 @@ class Smaller(Hunting):
 
     def test_it_asks_for_an_oracle_where_nothing_says_what_is_due(self):
         out, err = self.call("cbi-hunt", "upper.c", "--inputs", "in puts", "--expect", "due", "--rate", "1", "--minimize")
-        self.assertIn("cbi-hunt: --minimize asks for an oracle where runs end by other output", err)
+        self.assertIn("cbi-hunt: --minimize needs an oracle where runs fail by wrong output", err)
         self.assertIn("smallest failing input, 02 abc (3 bytes): abc\n", out)
 
 

@@ -156,7 +156,7 @@ class Pages(Hunting):
         self.assertEqual(page.headings[0], [1, "if (c > 'a' && c <= 'z') was false at upper.c:9 in main"])
         self.assertEqual([said for level, said in page.headings if level == 2][:3], ["Suspicious lines", "How runs ended", "The ranking of cbi rank"])
         self.assertIn([4, "c == 97 'a' after c = getchar()"], page.headings)
-        for said in ("1 bug explains all 9 failing inputs (36 inputs).", "True in all 9 failing runs that came there, and in none of the 27 others that did.", "other output (9 runs)", "Line 1 of its output", "aBC",
+        for said in ("1 bug explains all 9 failing inputs (36 inputs).", "True in all 9 failing runs that came there, and in none of the 27 others that did.", "wrong output (9 runs)", "Line 1 of its output", "aBC",
                      "Line 1 that was expected", "ABC", "cbi run --expect 'due/02 abc' --input 'in puts/02 abc'", "in puts/02 abc (3 bytes), in puts/04 zza (3 bytes), in puts/08 caa (3 bytes) and 6 more", "1.000line 9 of main"):
             self.assertIn(said, page.text)
         self.assertIn("fails 25 % of the time when reached, 100 % when this is true", page.folded)
@@ -243,7 +243,7 @@ class Pages(Hunting):
     def test_no_row_still_makes_a_page(self):
         page, _ = self.page("--inputs", "in puts", due=1)
         self.assertEqual(page.headings[0], [1, "upper.c: no fact stands out"])
-        self.assertIn("No run failed, so there is nothing that a failure could be told apart from.", page.text)
+        self.assertIn("No run failed, so there is nothing to compare.", page.text)
         self.assertIn("<li>Give inputs on which it fails.</li></ul>", self.read("page.html").decode())
         self.assertIn("12 runs on 12 inputs: 0 failed, 12 succeeded", page.text)
 
@@ -306,7 +306,7 @@ class Sarif(Hunting):
         place = first["locations"][0]["physicalLocation"]
         self.assertEqual(place, {"artifactLocation": {"uri": "upper.c", "uriBaseId": "%SRCROOT%"}, "region": {"startLine": 9, "snippet": {"text": "        if (c > 'a' && c <= 'z')"}}})
         self.assertEqual((first["level"], driver["rules"][first["ruleIndex"]]["id"], first["ruleId"], first["rank"]), ("error", "branches", "branches", 100))
-        self.assertTrue(first["message"]["text"].startswith("if (c > 'a' && c <= 'z') was false. True in all 9 failing runs that came there, and in none of the 27 others that did. Ended by: other output (9 runs). Failing inputs: "),
+        self.assertTrue(first["message"]["text"].startswith("if (c > 'a' && c <= 'z') was false. True in all 9 failing runs that came there, and in none of the 27 others that did. Ended by: wrong output (9 runs). Failing inputs: "),
                         first["message"])
         self.assertEqual((first["properties"]["strength"], first["properties"]["failingRuns"], first["properties"]["endings"]), (1000000, 9, {"ended": 9}))
         self.assertEqual(first["attachments"], [{"artifactLocation": {"uri": "kept/failing/02%20abc", "uriBaseId": "%SRCROOT%"}, "description": {"text": "the smallest failing input"}}])

@@ -127,24 +127,24 @@ class Ported(Hunting):
     def test_what_the_porter_refuses_is_told_with_its_line(self):
         self.write("check.c", CHECK.replace("    return c;", "    return undeclared_name;"))
         _, err = self.hunted(due=2)
-        self.assertRegex(err, r"^check\.c:7: ")
+        self.assertRegex(err, r"^check\.c:7:(12: error: 'undeclared_name' undeclared| )")
 
     def test_a_refusal_has_a_place_and_no_control_byte(self):
         """A text without `main` is refused at its last line, or at its first where it has none."""
-        for text, due in (("", "odd.c:1: no `main`"), ("int f(void)\n{\n    return 1;\n}\n", "odd.c:4: no `main`"), ("int main(void)\n{\n    \x1b return 0;\n}\n", "odd.c:3: the byte `\\033`")):
+        for text, due in (("", "odd.c:1: no `main`"), ("int f(void)\n{\n    return 1;\n}\n", "odd.c:4: no `main`"), ("int main(void)\n{\n    \x1b return 0;\n}\n", r"odd.c:3:5: error: stray '\33' in program" if shutil.which("gcc") else "odd.c:3: the byte `\\033`: ")):
             self.write("odd.c", text)
             _, err = self.call("cbi-hunt", "odd.c", "--inputs", "in puts", due=2)
-            self.assertTrue(err.startswith(due + ": "), err)
+            self.assertTrue(err.startswith(due), err)
             self.assertEqual(err.count("\n"), 1, err)
 
     def test_without_the_porter_a_text_is_refused_as_cbi_refuses_it(self):
         self.write("none/pycparser.py", "raise ImportError('not here')\n")
         self.write("bad.c", "int main(void)\n{\n    long n;\n}\n")
         _, err = self.call("env", f"PYTHONPATH={self.path('none')}", "cbi-hunt", "bad.c", "--inputs", "in puts", due=2)
-        self.assertTrue(err.startswith("bad.c:3: refusal 12 Syntax\n\n    2 | {\n    3 |     long n;\n\n"), err)
+        self.assertIn("\nbad.c:3: refusal 12 Syntax\n\n    2 | {\n    3 |     long n;\n\n", err)
         self.assertEqual(err.count("refusal"), 1, err)
         self.assertIn("In its place: `int` or `unsigned`", err)
-        self.assertIn("python3-pycparser", err)
+        self.assertRegex(err, "^cbi-hunt: no pycparser for ")
 
 
 class Lines(Case):

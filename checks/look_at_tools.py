@@ -19,6 +19,8 @@ from look_at_answers import Answer, Facts, Hangs, Numbers, Sections  # noqa: E40
 from look_at_broken import Loops, Marks, Memory, Outputs, Traps  # noqa: E402,F401
 from look_at_bugs import Bugs, Evidence, PortedFacts, Words  # noqa: E402,F401
 from look_at_farms import Farm  # noqa: E402,F401
+from look_at_given import Advice, Given, Hanging, Marked, Progress, Room, Wavering  # noqa: E402,F401
+from look_at_given import Traps as TrapWords  # noqa: E402,F401
 from look_at_hunts import Hunt, Sample  # noqa: E402,F401
 from look_at_inputs import Folders, Mutants, Oracles, Smaller  # noqa: E402,F401
 from look_at_lists import Listed, Retold, Without  # noqa: E402,F401
@@ -28,6 +30,7 @@ from look_at_rates import Rates  # noqa: E402,F401
 from look_at_reach import Flows, Reached, Reaches  # noqa: E402,F401
 from look_at_screens import Screens  # noqa: E402,F401
 from look_at_signals import Signals  # noqa: E402,F401
+from look_at_since import Since  # noqa: E402,F401
 from look_at_statuses import Statuses  # noqa: E402,F401
 from look_at_texts import Lines, Port, Ported  # noqa: E402,F401
 from look_at_ways import Ways  # noqa: E402,F401
@@ -156,8 +159,8 @@ class Explain(Case):
         self.call("cbi", "run", "--run", "3", "--report", "a report", "prog.cbi")
         out, _ = self.call("cbi-explain", "--program", "prog.cbi", "a report")
         identity = cbi_files.read_program(self.path("prog.cbi")).identity
-        self.assertEqual(out, f"Run 3 of the program {identity[:12]}..\nIt ended with status 0.\nIt counts as successful.\nIt was seen at 1 site. "
-                         "Of its regions 0 went by unlooked at and 0 were looked at, visit by visit, which were no visits.\n"
+        self.assertEqual(out, f"Run 3 of the program {identity[:12]}..\nIt ended with status 0.\nIt counts as successful.\nIt was observed at 1 site.\n"
+                         ""
                          "  line 2, main: `for is true` 7 times, `for is false` 1 time\n")
         given = self.read("a report")
         self.assertEqual(self.call("cbi-explain", "--program", "prog.cbi", given=given)[0], out)
@@ -189,7 +192,7 @@ class Explain(Case):
     def test_a_command_is_run_and_what_it_comes_to_explained(self):
         self.write("x.c", "int main(void) { int *p = NULL; putchar(getchar()); return *p; }\n")
         out, _ = self.call("bash", "-c", "printf q | cbi-explain -- cbi transform --mode plain x.c >prog.cbi; printf q >input; cbi-explain -- cbi run --input input prog.cbi", due=0)
-        self.assertRegex(out, r"^qRun 1 of the program [0-9a-f]{12}\.\.\nIt trapped: 8 NullUse, a null pointer is used\. ")
+        self.assertRegex(out, r"^qRun 1 of the program [0-9a-f]{12}\.\.\nIt trapped: 8 NullUse, null pointer dereference\. ")
         out, _ = self.call("cbi-explain", "--", "cbi", "run", "--input", "input", "--report", "kept report", "prog.cbi")
         self.assertIn("It trapped: 8 NullUse", out)
         self.assertIn(b"outcome trapped 8", self.read("kept report"))
@@ -252,9 +255,9 @@ BRANCH_ROWS = """\
      first failing run: 1
      1 | int main(void){int a=getchar();if(a);return 0;}
 
-Each row is about the runs that no row above it explains. A bar is the longer the more runs it is about: # is
-how often runs fail that come to the place, = what the predicate adds to that for sure (95 %), - what it may
-add, and . how often runs succeed in which it was true.
+Each row is about the runs that no row above it explains. Bar length: number of runs. # failure rate when the
+line is reached; = extra failure rate when the predicate is true (95 % lower bound); - what it may add beyond
+that; . success rate when it is true.
 """
 BRANCH_TEXT = """\
 1 bug explains 9 of the 10 failing runs; 1 is left over (20 runs).
@@ -266,8 +269,7 @@ True in 9 of the 10 failing runs that looked there, and in 1 of the 10 others th
 
 ended by: a call of abort (trap 14, 9 runs)
 
-1 weak fact of 1 other failing run: chance alone would make one as strong more often than once in 20 hunts
-(--all shows it).
+1 weak fact about 1 other failing run: by chance, more than 1 hunt in 20 has one this strong (--all shows it).
 
 ranked: 20 runs, of which 10 failed and 10 succeeded
 
@@ -311,7 +313,7 @@ class Show(Case):
         self.assertEqual(self.show("-", "--source", "prog.c", "--program", "prog.cbi", "--reports", "runs", given=self.read("ranking").replace(b"\n", b"\r\n")), BRANCH_TEXT + BRANCH_FOLDED)
         every = self.show("ranking", "--source", "prog.c", "--program", "prog.cbi", "--reports", "runs", "--all")
         self.assertTrue(every.endswith("\n\nThe ranking of cbi rank:\n\n" + BRANCH_ROWS), every)
-        self.assertIn("B. Perhaps by chance, prog.c:1 in main: if (a) was false\nOf the 1 failing run that no bug above explains, true in the one that looked there, and in 9 of the 10 others\nthat did. Weak evidence: of the 2 facts that were looked at, chance alone would make 1.8 look as strong.\n", every)
+        self.assertIn("B. Perhaps by chance, prog.c:1 in main: if (a) was false\nOf the 1 failing run that no bug above explains, true in the one that looked there, and in 9 of the 10 others\nthat did. Weak evidence: of 2 facts tested, about 1.8 would look this strong by chance.\n", every)
 
     def test_a_ranking_alone_is_shown_by_its_rows(self):
         self.write("cards", self.call("cbi", "cards", "prog.cbi", "runs")[0])

@@ -199,7 +199,7 @@ echo "$(wc -l <"$said") ok, 0 not" >>"$said"
         self.assertEqual(status, 0, err)
         self.assertTrue(out.startswith("1 bug explains all 12 failing inputs (100 inputs).\n\nexamples/lookup/lookup.c:41 in main: find(name) returned NULL\n"
                                        "True in all 12 failing runs that came there, and in none of the 87 others that did.\n"), out)
-        self.assertIn("\nended by: a null pointer that is used (trap 8, 12 runs)\n", out)
+        self.assertIn("\nended by: a null pointer dereference (trap 8, 12 runs)\n", out)
         self.assertIn("\nthe run again: printf 'd=6 d? d? d? c? d? d?\\n' >input; cbi transform --mode plain examples/lookup/lookup.c | ", out)
         self.assertTrue(out.endswith(f"page: {self.path('page.html')}\n"), out)
         self.assertRegex(err, r"^\./demo: there is no cbi yet, so rt builds it without its proofs and makes each call of a hunt of 100 runs, [^\n]* CPU minutes\.\n")

@@ -12,6 +12,7 @@ from typing import Iterator, List, Match, NamedTuple, Optional, Tuple
 
 import cbi_dialect
 import cbi_files
+import cbi_traps
 from cbi_files import FOUND, NOTHING, TRAPS, Fault, Program, Run, count_of, harmless
 
 EXAMPLES = """\
@@ -21,6 +22,7 @@ examples:
   cbi-explain --all prog.c                     all that the dialect leaves out, as far as it is seen
   cbi transform --mode plain prog.c 2>&1 >prog.cbi | cbi-explain prog.c
   cbi-explain report
+  cbi-explain trap 8                           what trap 8 means in C; without a number all traps
   cbi-explain --program prog.cbi report        with the lines that the run was seen at
 
 It ends with 0, with 1 where what it reads has nothing to explain, and with 2 where a file can't be read.
@@ -67,25 +69,6 @@ OPTIONS = {
     "--run": "a number from 1 to 4294967295", "--runs": "a number from 1 to 100000", "--policy": "all, failing or relabel", "--rate": "a number from 1 to 65536",
     "--count": "a number from 1 to 65536", "--seed": "a number from 0 to 18446744073709551615", "--stream": "a number from 0 to 18446744073709551615",
 }
-# What to look at behind a trap.
-AFTER_TRAPS = {
-    1: "Look at sums, products and negations of numbers that may be great; `unsigned` wraps in place of this.",
-    2: "Look at divisors that may be 0: counts of nothing, ends of input.",
-    3: "Look at shift counts that are calculated; shift an `unsigned`.",
-    4: "Look at variables that are declared without a value, at cells of malloc, and at functions that end without return.",
-    5: "Look at memory that is used with two types: a char that is read as an int, or a void * that came from elsewhere.",
-    6: "Look at loops that go one too far, and at arrays that are too short for what is read.",
-    7: "Look at pointers that are kept after free, and at addresses of local variables that are returned.",
-    8: "Look at calls whose result may be NULL: malloc, and searches that find nothing.",
-    9: "Copy the string into an array before it is changed.",
-    10: "Look at free that is called twice, or of a pointer that was moved or doesn't come from malloc.",
-    11: "Compare places within one array alone.",
-    12: "Look at recursion that doesn't end, and at large arrays in functions that call themselves.",
-    13: "The assertion says what was meant to hold.",
-    14: "The program gave up by itself: look for its calls of abort.",
-    99: "Program files that cbi transform writes never come to this.",
-}
-
 
 class Cause(NamedTuple):
     """A refusal: its name, or its kind for a fault of types, and the line, where there is one."""
@@ -101,8 +84,8 @@ def arguments(words: List[str]) -> Tuple[argparse.Namespace, List[str]]:
     """What is asked for, and the words behind `--`, which are to be run."""
     own, called = (words[:words.index("--")], words[words.index("--") + 1:]) if "--" in words else (words, [])
     parser = cbi_files.Words(
-        prog="cbi-explain", usage="%(prog)s [-h] [--version] [--program PROG.cbi] [--table] [--all] [FILE]\n       %(prog)s [--program PROG.cbi] -- COMMAND..",
-        description="Explains a refusal of cbi, from standard input, beside the text; or a report; or what a command of cbi comes to.",
+        prog="cbi-explain", usage="%(prog)s [-h] [--version] [--program PROG.cbi] [--table] [--all] [FILE]\n       %(prog)s trap [N]\n       %(prog)s [--program PROG.cbi] -- COMMAND..",
+        description="Explains a refusal of cbi, from standard input, beside the text; or a report; or a trap; or what a command of cbi comes to.",
         epilog=EXAMPLES + cbi_files.NOT_PROVED, formatter_class=argparse.RawDescriptionHelpFormatter)
     parser.add_argument("file", metavar="FILE", nargs="?", help="the C text that was refused, or a report")
     parser.add_argument("--program", metavar="PROG.cbi", help="the program of a report: says what its sites are")
@@ -217,9 +200,9 @@ def explain_outcome(outcome: str) -> str:
         return f"It ended with status {value}."
     if word == "trapped":
         name, meaning = TRAPS.get(int(value), ("", "a trap that this script doesn't know"))
-        return f"It trapped: {value} {name}, {meaning}. {AFTER_TRAPS.get(int(value), '')}"
+        return f"It trapped: {value} {name}, {meaning}. {cbi_traps.look_at(int(value))}"
     if value == "turns":
-        return "It was cut, since it went back more often than --turns allows: it may be a loop that doesn't end, or a run that needs more turns."
+        return "It was cut at --turns: it may be a hang (a loop that doesn't end), or a run that needs more turns."
     return "It was cut, since it wrote more than 16,777,216 bytes."
 
 
@@ -240,8 +223,10 @@ def explain_report(name: str, text: str, program: Optional[str], judged: bool = 
         yield "It counts as successful, since no --expect says what it should write."
     else:
         yield LABELS.get(run.label, "Its label isn't known.")
-    yield (f"It was seen at {count_of(len(run.sites), 'site')}. Of its regions {fast} went by unlooked at and {slow} were looked at, visit by visit, "
-           f"which were {count_of(tests, 'visit')}.")
+    if run.sites or fast or slow:
+        yield f"It was observed at {count_of(len(run.sites), 'site')}."
+    if fast or slow:
+        yield f"Sampling: {count_of(fast, 'region')} by the fast path, {slow} by the slow path with {count_of(tests, 'test')} of the countdown."
     if program:
         yield from explain_sites(run, cbi_files.read_program(program), report.program)
     elif run.sites:
@@ -328,7 +313,19 @@ def explain_all(name: str) -> Iterator[str]:
         yield f"    In its place: {entry.advice}."
 
 
+def of_traps(words: List[str]) -> Optional[Iterator[str]]:
+    """What `trap` and `trap N` ask for; none where the words ask for something else, as for a file of that name."""
+    if words[:1] != ["trap"] or len(words) > 2 or words[1:] and not re.fullmatch(r"-?\w+", words[1]):
+        return None
+    return cbi_traps.explained(words[1]) if words[1:] else None if os.path.exists("trap") else cbi_traps.listed()
+
+
 def main() -> int:
+    traps = of_traps(sys.argv[1:])
+    if traps is not None:
+        for line in traps:
+            print(line)
+        return FOUND
     chosen, called = arguments(sys.argv[1:])
     if chosen.table:
         print(cbi_dialect.table(), end="")

@@ -25,31 +25,31 @@ RANKING_COLUMNS = "rank,predicate,scheme,function,line,text,f,s,fobs,sobs,failur
 STUDY_LINE = re.compile(r"study runs (\d+) failed (\d+) ended (\d+) cut (\d+) fast (\d+) slow (\d+) tests (\d+)")
 
 TRAPS = {
-    1: ("Overflow", "a signed result is out of range"),
-    2: ("Divide", "a divisor is zero"),
-    3: ("Shift", "a shift isn't defined: its count is below 0 or above 31, or an int is shifted left that is negative or becomes too great"),
-    4: ("Undefined", "a value is used that nothing was stored to"),
-    5: ("WrongKind", "a cell is read as another type than the one that was stored there"),
-    6: ("Bounds", "a pointer or an index goes past the ends of its object"),
-    7: ("Dead", "an object is used after free, or after its function returned"),
-    8: ("NullUse", "a null pointer is used"),
-    9: ("ReadOnly", "a string constant is written to"),
-    10: ("BadFree", "free is given what isn't the start of a live object of malloc"),
-    11: ("Unrelated", "pointers into two objects are compared or subtracted"),
-    12: ("StackOverflow", "more than 512 calls are active, or there is no room for a function's variables"),
-    13: ("Assertion", "an assert is false"),
+    1: ("Overflow", "signed integer overflow"),
+    2: ("Divide", "division by zero"),
+    3: ("Shift", "undefined shift: the count is below 0 or above 31, or an int is shifted left that is negative or becomes too large"),
+    4: ("Undefined", "use of an uninitialised value"),
+    5: ("WrongKind", "read as the wrong type: a cell holds a value of another type"),
+    6: ("Bounds", "out of bounds: an index or a pointer outside its object"),
+    7: ("Dead", "use after free, or of a local variable after its function returned"),
+    8: ("NullUse", "null pointer dereference"),
+    9: ("ReadOnly", "write to a string constant"),
+    10: ("BadFree", "invalid free: not the start of a live block of malloc, or freed twice"),
+    11: ("Unrelated", "comparison or difference of pointers into two objects"),
+    12: ("StackOverflow", "stack overflow: more than 512 active calls, or no room for a function's variables"),
+    13: ("Assertion", "assertion failed"),
     14: ("Abort", "abort was called"),
     99: ("Internal", "the program file isn't one that cbi compiled"),
 }
 
 # How a run ended, as `ended by ..` goes on.
 ENDINGS = {
-    "trapped 1": "a signed result out of range", "trapped 2": "a division by zero", "trapped 3": "a shift that isn't defined",
-    "trapped 4": "a value that nothing was stored to", "trapped 5": "a cell that is read as another type",
-    "trapped 6": "an index or a pointer past the ends of its object", "trapped 7": "an object that is used after free, or after its function returned",
-    "trapped 8": "a null pointer that is used", "trapped 9": "a write to a string constant", "trapped 10": "a free of what malloc didn't give",
-    "trapped 11": "pointers into two objects, compared or subtracted", "trapped 12": "too many calls within one another", "trapped 13": "an assert that is false",
-    "trapped 14": "a call of abort", "trapped 99": "a damaged program file", "ended": "other output", "cut turns": "going back more often than --turns allows", "cut output": "writing too much",
+    "trapped 1": "a signed integer overflow", "trapped 2": "a division by zero", "trapped 3": "an undefined shift",
+    "trapped 4": "use of an uninitialised value", "trapped 5": "a read as the wrong type",
+    "trapped 6": "an out-of-bounds access", "trapped 7": "use after free or return",
+    "trapped 8": "a null pointer dereference", "trapped 9": "a write to a string constant", "trapped 10": "an invalid free",
+    "trapped 11": "comparing pointers into two objects", "trapped 12": "a stack overflow", "trapped 13": "a failed assertion",
+    "trapped 14": "a call of abort", "trapped 99": "a damaged program file", "ended": "wrong output", "cut turns": "a hang (cut at --turns)", "cut output": "too much output",
 }
 
 

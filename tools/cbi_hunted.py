@@ -51,9 +51,22 @@ class Sample(NamedTuple):
     even: bool
 
 
+class Since(NamedTuple):
+    """How two versions did on the same inputs: how many fail in the new one alone, in both, and in the old one alone, of how many; a few names of those that fail in both;
+    and the lines that the new version has and the old one hasn't, file by file."""
+    old: str
+    alone: int
+    both: int
+    mended: int
+    inputs: int
+    names: List[str]
+    changed: Dict[str, List[int]]
+
+
 class Hunted(NamedTuple):
     """How a hunt was made. `names` are those of the failing inputs by their places, of which there are `inputs`, and `files` how these can be opened; `notes` sum the hunt up. `folder` is
-    where it was made: paths are relative to it. `examples` has a failing run for each bug, or one alone where there is no bug, and `helps` what may help where facts are weak. Behind the first `own` inputs stand neighbours of a failing one; it is 0 where there are none."""
+    where it was made: paths are relative to it. `examples` has a failing run for each bug, or one alone where there is no bug, and `helps` what may help where facts are weak; a `warning` is told first.
+    Behind the first `own` inputs stand neighbours of a failing one; it is 0 where there are none."""
     command: str
     version: str
     date: str
@@ -77,6 +90,8 @@ class Hunted(NamedTuple):
     files: Dict[int, File] = {}
     helps: List[str] = []
     by_status: bool = False
+    warning: str = ""
+    since: Optional[Since] = None
     own: int = 0
 
     def example_of(self, bug: int) -> Optional[Example]:
@@ -135,7 +150,7 @@ def read_hunted(path: str) -> Hunted:
         names = {int(place): str(name) for place, name in plain.pop("names")}
         hanging = [Hanging(*one) if len(one) > 2 else Hanging("", 0, "", str(one[0]), int(one[1])) for one in plain.pop("hanging")]
         files = {int(place): File(str(name), int(size)) for place, name, size in plain.pop("files", [])}
-        sample = plain.pop("sample", None)
-        return Hunted(names=names, hanging=hanging, examples=examples, sample=sample and Sample(*sample), files=files, **plain)
+        sample, since = plain.pop("sample", None), plain.pop("since", None)
+        return Hunted(since=since and Since(*since), names=names, hanging=hanging, examples=examples, sample=sample and Sample(*sample), files=files, **plain)
     except (ValueError, KeyError, TypeError, UnicodeError):
         raise Fault(f"{path}: it hasn't what cbi-hunt leaves there")

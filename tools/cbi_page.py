@@ -21,10 +21,10 @@ from cbi_where import Spot
 # As much is shown as a page of so many bytes has room for: all of the source, or the lines that stand near a row; and so many of what falls with a row.
 MOST_BYTES = 60000
 ROOM = ((None, 5), (12, 5), (5, 5), (2, 3), (1, 1), (0, 0))
-BANDS = (("context", "how often runs fail that come to the place"),
-         ("sure", "what the fact adds to that for sure (95 %)"),
+BANDS = (("context", "failure rate when the line is reached"),
+         ("sure", "extra failure rate when the fact is true (95 % lower bound)"),
          ("unsure", "what it may add beyond that"),
-         ("successful", "how often runs succeed in which it was true"))
+         ("successful", "success rate when it is true"))
 # The words of docs/METHOD.md that the page has, as they stand there.
 WORDS = (("site", "a place of a program at which runs are observed"),
          ("predicate", "a fact at a site that is true or not"),
@@ -74,7 +74,7 @@ def bar(bands: Bands) -> str:
 
 def keys() -> str:
     """What the bands of a bar are, in a line."""
-    return '<p class="quiet">In the bars: ' + "; ".join(f'<span class="key {name}"></span>{escaped(meaning)}' for name, meaning in BANDS) + ". A bar is the longer the more runs it is about.</p>"
+    return '<p class="quiet">In the bars: ' + "; ".join(f'<span class="key {name}"></span>{escaped(meaning)}' for name, meaning in BANDS) + ". Bar length: number of runs.</p>"
 
 
 def near_items(shown: Shown, view: View, rows: Iterable[int], here: Set[Spot]) -> Iterator[str]:

@@ -3,6 +3,7 @@
 A run's number says everything about it: its input, and the seed's stream for its bank. So a batch is the same
 wherever and whenever it is made, which is what lets a hunt go on where it stopped, and lets hosts share it.
 """
+import errno
 import json
 import os
 import platform
@@ -23,6 +24,8 @@ ORACLE_UNKNOWN = 125
 OF_STATUS = "CBI_STATUS"
 # How an oracle that a shell reads is called: its text stands behind these words, and then the shell's name for itself.
 SHELL = ["sh", "-c"]
+# How want of room is told, which errors of the system say it, and what is written to see it.
+NO_SPACE, NO_ROOM, PROBE = "no space left in", (errno.ENOSPC, errno.EDQUOT), bytes(1 << 16)
 
 
 class Plan(NamedTuple):
@@ -76,9 +79,24 @@ def call(words: List[str], out: Union[IO[bytes], int]) -> None:
 
 def call_to(path: str, words: List[str]) -> None:
     """As `call`, with the output in a file that is there whole or not at all."""
-    with open(path + ".part", "wb") as out:
-        call(words, out)
+    try:
+        with open(path + ".part", "wb") as out:
+            call(words, out)
+    except Fault as fault:
+        folder = os.path.dirname(os.path.abspath(path))
+        raise Fault(f"{NO_SPACE} {folder}") if "write fault" in str(fault) and is_full(folder) else fault
     os.replace(path + ".part", path)
+
+
+def is_full(folder: str) -> bool:
+    """Whether a file of some size can't be written there for want of room."""
+    try:
+        with tempfile.TemporaryFile(dir=folder) as file:
+            file.write(PROBE)
+            file.flush()
+    except OSError as error:
+        return error.errno in NO_ROOM
+    return False
 
 
 # Oracles

@@ -27,7 +27,7 @@ RULES = {
                 "Look at whether the value is checked before it is used, and at why it was returned."),
     "pairs": ("Two values", "Runs fail more often where a variable's new value stood in this relation to another variable or to a constant.",
               "Look at whether the two may stand like this at all, and at the bounds that the code relies on."),
-    "hang": ("A run without end", "Runs that went back more often than they may were last seen here.", "Look at what is to end the loop."),
+    "hang": ("A hang", "Runs that hang were last seen here.", "Look at what is to end the loop."),
     "reach": ("A line that failing runs come to", "Failing runs come to this line more often than others.", "Look at what leads there."),
 }
 
@@ -94,7 +94,9 @@ def level_of_bug(bug: BugShown) -> str:
 def result_of_bug(bug: BugShown, view: View) -> Dict[str, Any]:
     title, about = cbi_told.title_of(bug, view), dict(cbi_told.about(bug, view))
     parts = [title.endless, f"{title.doubt}{title.said.told.fact.past()}.", cbi_told.counts_of_bug(bug, view), cbi_told.doubt(bug, view)]
-    parts += [f"{cbi_told.capital(what)}: {'; '.join(about[what])}." for what in ("perhaps the same bug", "ended by", "failing inputs") if what in about]
+    parts += [f"{cbi_told.capital(what)}: {'; '.join(told)}." for what, told in about.items() if what in ("perhaps the same bug", "ended by", "failing inputs") or what.startswith("changed since ")]
+    if view.hunted and view.hunted.since:
+        parts.insert(0, f"Fails in the new version alone, not in {view.hunted.since.old}.")
     found = bug.lead.found
     one = result(view, scheme_of(bug.lead, view), level_of_bug(bug), found.strength / 10000, " ".join(part for part in parts if part), bug.lead.told.spot, bug.lead.told.function)
     one["partialFingerprints"] = fingerprint_of(bug.lead, one["ruleId"], view)
@@ -127,7 +129,7 @@ def loops_of(view: View) -> List[Tuple[str, Call]]:
     found = [(cbi_told.endless_of(example), (example.broke.loop or example.broke.calls[0]) if example.broke else None) for example in (hunted.examples if hunted else [])
              if cbi_told.endless_of(example)]
     loops = {(call.file, call.line): (said, call) for said, call in found if said and call}
-    seen = [(f"A run went on without end, and was last seen at {one.statement} ({one.times} of those that were looked at).", Call(one.file, one.line, one.function, one.statement))
+    seen = [(f"A run hangs, and was last seen at {one.statement} ({one.times} of those that were looked at).", Call(one.file, one.line, one.function, one.statement))
             for one in (hunted.hanging if hunted else []) if one.line]
     return list(loops.values()) or seen
 
@@ -196,6 +198,11 @@ def sarif_of(view: View) -> Iterator[str]:
     run: Dict[str, Any] = {"tool": {"driver": {"name": "cbi", "version": VERSION, "rules": rules}}, "columnKind": "utf16CodeUnits"}
     if bases:
         run["originalUriBaseIds"] = bases
+    first = [said for said in (view.hunted.warning if view.hunted else "", cbi_told.since_line(view)) if said]
+    if first:
+        run["properties"] = {"notes": first}
+    if view.hunted and view.hunted.since:
+        run["properties"]["since"] = view.hunted.since._asdict()
     run["results"] = results_of(view)
     yield json.dumps({"$schema": "https://json.schemastore.org/sarif-2.1.0.json", "version": "2.1.0", "runs": [run]}, indent=2)
 

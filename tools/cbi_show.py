@@ -133,9 +133,17 @@ def formatted(view: cbi_rows.View, form: str, every: bool = False, to_file: bool
 
 
 def write(lines: Iterator[str], path: str) -> None:
+    """Writes a file, which is there whole or not at all; what is no plain file, as a pipe, takes it as it comes."""
     text = "".join(line + "\n" for line in lines)
-    with open(path, "w", encoding="utf-8", errors="backslashreplace", newline="\n") as file:
-        file.write(text)
+    target = path if os.path.exists(path) and not os.path.isfile(path) or os.path.islink(path) else path + ".part"
+    try:
+        with open(target, "w", encoding="utf-8", errors="backslashreplace", newline="\n") as file:
+            file.write(text)
+        if target != path:
+            os.replace(target, path)
+    finally:
+        if target != path and os.path.exists(target):
+            os.remove(target)
 
 
 def lines_of(chosen: argparse.Namespace) -> Tuple[Iterator[str], int]:

@@ -168,7 +168,14 @@ def text_of(view: View, width: int = 10000, every: bool = False) -> Iterator[str
         yield line if line.startswith("the run again: ") else clip(line, width)
 
 
+def first_of(view: View, width: int) -> Iterator[str]:
+    """What is told before all else: a warning, and how two versions did."""
+    first = [line for said in (view.hunted.warning if view.hunted else "", cbi_told.since_line(view)) if said for line in wrapped(said, width)]
+    yield from [*first, ""] if first else []
+
+
 def whole_text(view: View, width: int, every: bool) -> Iterator[str]:
+    yield from first_of(view, width)
     totals = view.hunted.notes if view.hunted else [cbi_told.totals_line(view.totals)] if view.totals else []
     notes = [line for said in totals for line in prose(said, width)]
     if view.answer and not view.answer.told_apart():
@@ -209,8 +216,8 @@ def ranking(view: View, width: int, every: bool) -> Iterator[str]:
     yield from legend(view, width)
 
 
-LEGEND = ("Each row is about the runs that no row above it explains. A bar is the longer the more runs it is about: # is how often runs fail that come to the place, "
-          "= what the predicate adds to that for sure (95 %), - what it may add, and . how often runs succeed in which it was true.")
+LEGEND = ("Each row is about the runs that no row above it explains. Bar length: number of runs. # failure rate when the line is reached; "
+          "= extra failure rate when the predicate is true (95 % lower bound); - what it may add beyond that; . success rate when it is true.")
 
 
 def legend(view: View, width: int) -> Iterator[str]:

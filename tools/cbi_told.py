@@ -14,13 +14,14 @@ from cbi_where import Spot, Where
 AROUND = 2        # lines of source before and behind the one that is told
 MOST_ONLY = 6     # lines behind it that run only where its fact is true
 MOST_NAMES = 3
-NO_ROWS = "No predicate passes the test: the runs don't say where the bug is. More inputs may, or a smaller rate."
+NEAR = 10         # lines around a fact in which changes are told
+NO_ROWS = "No predicate passes the test: the runs don't say where the bug is. More inputs may help, or a smaller --rate."
 NO_FACT = "No fact is beyond chance."
 HELPS = ["More inputs that differ, also in little."]
 ONLY_HERE = "<- runs only where this is true"
 PLACES = "Where failing runs go"
-PLACES_SAID = "Lines that failing runs are seen at more often than others, beyond chance (Fisher's exact test, corrected for how many lines were looked at)."
-PLACES_WEAK = "Lines that failing runs are seen at more often than others; by chance alone some would be."
+PLACES_SAID = "Lines that failing runs reach more often than others, beyond chance (Fisher's exact test, corrected for the number of lines tested)."
+PLACES_WEAK = "Lines that failing runs reach more often than others; some would by chance."
 LINES = "Suspicious lines"
 LINES_SAID = ("Each line by its best fact, one for each three around. Strength is the square of the correlation between the fact and failing: "
               "1 where it was true in all failing runs and in no other.")
@@ -151,10 +152,10 @@ def expected_of(number: float) -> str:
 
 
 def doubt(bug: BugShown, view: View) -> Optional[str]:
-    """That chance alone may have made it look so strong."""
+    """That it may look so strong by chance."""
     if not bug.weak() or view.answer is None:
         return None
-    return f"Weak evidence: of the {view.answer.observed} facts that were looked at, chance alone would make {expected_of(bug.expected)} look as strong{', by inputs' if view.answer.several() else ''}."
+    return f"Weak evidence: of {view.answer.observed:,} facts tested, about {expected_of(bug.expected)} would look this strong by chance{' (counted by inputs)' if view.answer.several() else ''}."
 
 
 def same_as(bug: BugShown, view: View) -> Optional[str]:
@@ -227,6 +228,9 @@ def about(bug: BugShown, view: View) -> Iterator[Tuple[str, List[str]]]:
         yield "perhaps the same bug", [same]
     if bug.endings:
         yield "ended by", [ended_by(bug.endings)]
+    changed = changed_near(bug.lead.told.spot, view)
+    if changed and view.hunted and view.hunted.since:
+        yield f"changed since {view.hunted.since.old}", [changed]
     if bug.way:
         yield "way there", [way_step(said, view) for said in bug.way]
     led = led_to(bug, view)
@@ -256,7 +260,7 @@ def left_over(view: View) -> Optional[str]:
         return None
     runs = sum(len(bug.runs) for bug in folded)
     facts = "1 weak fact" if len(folded) == 1 else f"{len(folded)} weak facts"
-    return f"{facts} of {count_of(runs, 'other failing run')}: chance alone would make one as strong more often than once in 20 hunts"
+    return f"{facts} about {count_of(runs, 'other failing run')}: by chance, more than 1 hunt in 20 has one this strong"
 
 
 def left_out(view: View) -> Optional[str]:
@@ -272,6 +276,30 @@ def line_of(said: Stated, view: View) -> str:
     return f"{view.where.named(said.told.spot)}, {said.told.function}: {said.told.fact.past()} ({found.a} of {totals[0]} failing, {found.b} of {count_of(totals[1], 'other')}){leads}"
 
 
+# Two versions
+
+def since_line(view: View) -> Optional[str]:
+    """How the old and the new version did on the same inputs."""
+    since = view.hunted.since if view.hunted else None
+    if since is None:
+        return None
+    names = f" ({', '.join(map(short_name, since.names))}{f' and {since.both - len(since.names)} more' if since.both > len(since.names) else ''})" if since.names else ""
+    both = f", {since.both} in both versions and set aside{names}" if since.both else ", none in both versions"
+    mended = f", {since.mended} in the old one alone (mended)" if since.mended else ""
+    return f"Since {since.old}: of {count_of(since.inputs, 'input')} {since.alone or 'none'} {'fails' if since.alone == 1 else 'fail'} in the new version alone{both}{mended}."
+
+
+def changed_near(spot: Spot, view: View) -> Optional[str]:
+    """The lines near this one that the old version hasn't."""
+    since = view.hunted.since if view.hunted else None
+    lines = [line for line in (since.changed.get(spot.file, []) if since else []) if abs(line - spot.line) <= NEAR]
+    if since is None or not lines:
+        return None
+    spans = [(low, high) for low, high in zip(*([line for line in lines if line + step not in lines] for step in (-1, 1)))]
+    said = ", ".join(str(low) if low == high else f"{low} to {high}" for low, high in spans)
+    return f"{'line' if len(lines) == 1 else 'lines'} {said}" + (" (this one)" if lines == [spot.line] else "")
+
+
 # How runs ended
 
 def row_title(shown: Shown) -> str:
@@ -280,7 +308,7 @@ def row_title(shown: Shown) -> str:
 
 
 def nothing_said(view: View) -> List[str]:
-    """What is told where nothing can be told apart: how runs ended, and what may help."""
+    """What is told where nothing can be told apart: what may help, and how runs ended."""
     advice = view.hunted.advice if view.hunted else ""
     return [*(advice.split("\n") if advice else [NO_ROWS]), *ended(view)]
 
@@ -308,7 +336,7 @@ def trap_of(outcome: str) -> str:
 
 
 def ended_by(endings: Dict[str, int]) -> str:
-    """`a null pointer that is used (trap 8, 161 runs) and by other output (3)`."""
+    """`a null pointer dereference (trap 8, 161 runs) and by wrong output (3)`."""
     parts: List[str] = []
     for outcome, count in sorted(endings.items(), key=lambda item: (-item[1], item[0])):
         trap = f"trap {outcome[8:]}, " if outcome.startswith("trapped ") else ""
@@ -429,7 +457,7 @@ def hanging_line(view: View) -> Optional[str]:
         return None
     looked = sum(one.times for one in view.hunted.hanging)
     where = ", ".join(f"{hanging_place(one, view)}{one.statement} ({one.times})" for one in view.hunted.hanging)
-    return f"{count_of(looked, 'run')} that went on without end {'was' if looked == 1 else 'were'} made again, and last seen at {where}."
+    return f"{count_of(looked, 'hanging run')} {'was' if looked == 1 else 'were'} made again, and last seen at {where}."
 
 
 def hanging_place(one: Hanging, view: View) -> str:
@@ -444,4 +472,4 @@ def weak_line(view: View) -> str:
     """The rule by which rows are folded, told."""
     tried = view.seen.observed if view.seen else 0
     rows = "1 weak row" if len(view.weak) == 1 else f"{len(view.weak)} weak rows"
-    return f"{rows}: of the {tried} facts that were looked at, chance alone would make one or more look as strong"
+    return f"{rows}: of {tried:,} facts tested, one or more would look this strong by chance"

@@ -1,18 +1,28 @@
 """How the runs of a hunt went, and the line of progress that says so. Not proved."""
 import sys
 import time
-from typing import Dict, List
+from typing import Callable, Dict, List, Optional, Set
 
 import cbi_files
 from cbi_hunt.collecting import Mark
 from cbi_hunt.kept import Kept
 from cbi_runs import Plan
 
-class Count:
-    """How many runs ended how, and of these those of neighbours; which inputs failed, and how many site lines each run has."""
+MINUTE = 60.0  # seconds between two lines of progress in a file
 
-    def __init__(self, plan: Plan):
-        self.plan = plan
+# What a run counts as: by the place of its input, its outcome and its label.
+Relabel = Callable[[int, str, str], str]
+
+
+class Count:
+    """How many runs ended how, which inputs failed, and how many site lines each run has; `near` has those of neighbours by label; `relabel` may have runs count as something else than their reports say."""
+
+    def __init__(self, plan: Plan, relabel: Optional[Relabel] = None):
+        self.plan, self.relabel = plan, relabel
+        # Of runs that something judged, by the places of their inputs: the labels in their reports.
+        self.labels: Dict[int, Set[str]] = {}
+        self.aside: Set[int] = set()
+        self.succeeded_inputs: Set[int] = set()
         self.failed = self.succeeded = self.neither = self.cut = self.other_status = 0
         self.failing_inputs: Dict[int, str] = {}
         self.failing_runs: Dict[int, int] = {}
@@ -21,7 +31,13 @@ class Count:
         self.near: Dict[str, int] = {"fail": 0, "pass": 0, "none": 0, "cut": 0}
 
     def add(self, collection: str) -> None:
-        for run in cbi_files.read_heads(collection):
+        for head in cbi_files.read_heads(collection):
+            place = self.plan.input_of(head.number)
+            run = head._replace(label=self.relabel(place, head.outcome, head.label)) if self.relabel else head
+            if head.label == "fail" and run.label == "none":
+                self.aside.add(place)
+            if run.outcome.startswith("ended") and not (self.plan.status and cbi_files.status_of(run.outcome)):
+                self.labels.setdefault(place, set()).add(head.label)
             self.marks.append(Mark(run.number, run.sites, run.label == "fail"))
             self.cut += run.outcome.startswith("cut")
             self.failed += run.label == "fail"
@@ -31,11 +47,13 @@ class Count:
                 self.near[run.label] += 1
                 self.near["cut"] += run.outcome.startswith("cut")
             self.other_status += run.label == "pass" and cbi_files.status_of(run.outcome) != 0
+            if run.label == "pass":
+                self.succeeded_inputs.add(place)
             if run.outcome == "cut turns":
-                self.hanging_inputs.setdefault(self.plan.input_of(run.number), run.number)
+                self.hanging_inputs.setdefault(place, run.number)
             if run.label == "fail":
-                self.failing_inputs.setdefault(self.plan.input_of(run.number), run.outcome)
-                self.failing_runs.setdefault(self.plan.input_of(run.number), run.number)
+                self.failing_inputs.setdefault(place, run.outcome)
+                self.failing_runs.setdefault(place, run.number)
 
     def runs(self) -> int:
         return len(self.marks)
@@ -45,20 +63,20 @@ class Count:
         return [place for place in sorted(self.failing_inputs) if not self.plan.is_neighbour(place)]
 
 
-def counted(plan: Plan, kept: Kept) -> Count:
+def counted(plan: Plan, kept: Kept, relabel: Optional[Relabel] = None) -> Count:
     """How all runs went that are there."""
-    count = Count(plan)
+    count = Count(plan, relabel)
     for batch in kept.made():
         count.add(kept.batch_path(batch))
     return count
 
 
 class Told:
-    """A line on a terminal that changes; where err is none, nothing is written."""
+    """A line on a terminal that changes. Where err is a file or a pipe, a line of its own comes there after a minute, and then each minute."""
 
     def __init__(self) -> None:
         self.wanted = sys.stderr.isatty()
-        self.shown = 0.0
+        self.shown, self.written = 0.0, time.monotonic()
 
     def show(self, line: str) -> None:
         """Shows a line in place of the one before, ten times a second at most."""
@@ -66,6 +84,9 @@ class Told:
             self.shown = time.monotonic()
             sys.stderr.write(f"\r{line}\x1b[K")
             sys.stderr.flush()
+        if not self.wanted and time.monotonic() - self.written >= MINUTE:
+            self.written = time.monotonic()
+            print(f"cbi-hunt: {line}", file=sys.stderr, flush=True)
 
     def clear(self) -> None:
         if self.wanted:

@@ -9,33 +9,30 @@ from typing import List, Optional, Tuple
 import cbi_files
 from cbi_files import FOUND, INTERRUPTED, NOTHING, Fault
 from cbi_hunt.collecting import collect, sample_of
-from cbi_hunt.counts import Count, Progress, counted
-from cbi_hunt.farm import make_on_farm
-from cbi_hunt.here import make_here
+from cbi_hunt.flaky import flaky_note
+from cbi_hunt.given import check_given
 from cbi_hunt.inputs import Inputs, inputs_of
-from cbi_hunt.kept import Kept, folder_of, missing_batches
+from cbi_hunt.kept import Kept, folder_of
 from cbi_hunt.looks import TOOLS, Hunt, newline_note
+from cbi_hunt.making import make_runs, processors
 from cbi_hunt.mutants import add_mutants
 from cbi_hunt.near import add_neighbours, refuse
 from cbi_hunt.oracles import oracle_of
+from cbi_hunt.room import with_room
 from cbi_hunt.showing import show
 from cbi_hunt.signals import heed, heed_now, interrupted
+from cbi_hunt.since import Before, make_old, old_words, set_aside
 from cbi_hunt.texts import text_of, transform
 from cbi_hunt.told import keep_failing, notes
 from cbi_hunt.words import arguments
 from cbi_runs import Plan
 
-LEAST_BATCH, MOST_BATCH = 25, 10000
 # The rate at which each visit is looked at.
 EVERY = 1
 
 
-def processors() -> int:
-    return len(os.sched_getaffinity(0)) if hasattr(os, "sched_getaffinity") else os.cpu_count() or 1
-
-
-def plan_of(chosen: argparse.Namespace, kept: Kept, inputs: Inputs, cbi: str) -> Tuple[Plan, List[str]]:
-    """How runs are made, and what is told of a port, and of inputs that were made."""
+def plan_of(chosen: argparse.Namespace, kept: Kept, inputs: Inputs, cbi: str) -> Tuple[Plan, List[str], Optional[Before]]:
+    """How runs are made, what is told of a port and of inputs that were made, and how the old version did, where there is one."""
     told = text_of(chosen, cbi, kept, inputs)
     program, parts = kept.path("program"), []
     if chosen.parts > 1:
@@ -49,28 +46,14 @@ def plan_of(chosen: argparse.Namespace, kept: Kept, inputs: Inputs, cbi: str) ->
         told.append(add_mutants(chosen, plan, kept, inputs, chosen.jobs or processors()))
     if chosen.neighbours:
         told.append(add_neighbours(chosen, plan, kept, inputs, chosen.jobs or processors()))
+    before, outputs = make_old(chosen, plan, kept.folder, inputs) if chosen.since else (None, None)
+    inputs.expected = outputs or inputs.expected
     plan = plan._replace(own=inputs.own, names=inputs.names, inputs=[os.path.abspath(path) for path in inputs.paths],
                          expected=inputs.expected and [os.path.abspath(path) for path in inputs.expected])
     kept.settle({"program": cbi_files.read_program(program).identity, "rate": plan.rate, "seed": plan.seed, "turns": plan.turns, "parts": chosen.parts,
-                 "oracle": chosen.oracle or chosen.oracle_shell, "inputs": inputs.digest(), "hangs": chosen.hangs, "status": chosen.status})
-    return plan, told
-
-
-def make_runs(chosen: argparse.Namespace, plan: Plan, kept: Kept, runs: int) -> Tuple[Count, bool]:
-    """Makes the runs that aren't there yet; answers how they went, and whether all were made."""
-    made, count = kept.made(), counted(plan, kept)
-    jobs = chosen.jobs or processors()
-    size = max(LEAST_BATCH, min(MOST_BATCH, runs // (8 * jobs)))
-    batches = missing_batches(made, runs, size)
-    progress = Progress(max(runs, count.runs()), count)
-    if not batches:
-        return count, True
-    try:
-        whole = make_on_farm(chosen, plan, kept, batches, progress) if chosen.farm else make_here(plan, kept, batches, jobs, progress)
-    finally:
-        progress.clear()
-        kept.clean()
-    return (count if whole else counted(plan, kept)), whole
+                 "oracle": chosen.oracle or chosen.oracle_shell, "inputs": inputs.digest(), "hangs": chosen.hangs, "status": chosen.status,
+                 "since": cbi_files.read_program(kept.path("since", "program")).identity if before else None})
+    return plan, told, before
 
 
 def runs_of(chosen: argparse.Namespace, plan: Plan) -> Tuple[int, List[str]]:
@@ -88,21 +71,23 @@ def hunt(chosen: argparse.Namespace, cbi: str, folder: str) -> int:
     inputs = inputs_of(chosen, folder)
     if chosen.neighbours:
         refuse(inputs)
-    plan, told = plan_of(chosen, kept, inputs, cbi)
+    plan, told, before = plan_of(chosen, kept, inputs, cbi)
     heed_now()
     runs, capped = runs_of(chosen, plan)
     told += capped
-    count, whole = make_runs(chosen, plan, kept, runs)
+    count, whole = make_runs(chosen, plan, kept, runs, before.label if before else None)
     heed_now()
     if not count.runs():
         print("No run was made.")
         return INTERRUPTED
     sample = sample_of(count.marks, chosen.seed)
     collect(plan, kept, kept.made(), sample.runs if sample else None)
-    this = Hunt(chosen, plan, kept, inputs, count, sample.told if sample else None)
+    if before:
+        set_aside(kept.path("runs"), plan, before)
+    this = Hunt(chosen, plan, kept, inputs, count, sample.told if sample else None, before)
     keep_failing(this)
     newline = newline_note(this)
-    found = show(this, list(notes(this, whole, told, newline)), newline)
+    found = show(this, list(notes(this, whole, told, newline)), newline, flaky_note(this))
     return INTERRUPTED if not whole else FOUND if found else NOTHING
 
 
@@ -117,24 +102,13 @@ def executable(name: str) -> str:
     raise Fault(f"{name} isn't on the path: ./build FOLDER leaves it there, or name it by --cbi")
 
 
-def check_page(path: Optional[str]) -> None:
-    """A page that can't be written is told before the runs are made."""
-    if path is None:
-        return
-    folder = os.path.dirname(path) or "."
-    if os.path.isdir(path) or not os.path.isdir(folder) or not os.access(path if os.path.exists(path) else folder, os.W_OK):
-        why = "it is a folder" if os.path.isdir(path) else "there is no such folder" if not os.path.isdir(folder) else "it can't be written there"
-        raise Fault(f"--html {path}: {why}")
-
-
 def main() -> int:
     chosen = arguments(sys.argv[1:])
     heed(interrupted)
-    for path in (*chosen.texts, chosen.inputs, chosen.expect):
-        if path and not os.path.exists(path):
-            raise Fault(f"{path}: there is no such file or folder")
-    check_page(chosen.html)
+    check_given(chosen)
+    if chosen.since:
+        old_words(chosen)
     cbi = executable(chosen.cbi)
     chosen.command = " ".join(shlex.quote(word) for word in ["cbi-hunt", *sys.argv[1:]])
     with folder_of(chosen) as folder:
-        return hunt(chosen, cbi, folder)
+        return with_room(chosen, folder, lambda: hunt(chosen, cbi, folder))

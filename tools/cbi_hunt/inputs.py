@@ -1,6 +1,7 @@
 """The inputs of a hunt, and what the program should write for each. Not proved."""
 import argparse
 import hashlib
+import itertools
 import os
 from typing import Dict, List, Optional, Sequence, Tuple
 
@@ -10,18 +11,38 @@ from cbi_files import Fault, count_of
 # What AFL++ leaves in a folder of its own: of the first three the files are inputs, and the rest are no inputs of anyone.
 OF_FUZZERS = ("queue", "crashes", "hangs", ".state", ".synced", ".cur_input")
 
+MOST_BYTES = 16777216  # of an input
+
+
 class Inputs:
     """The inputs of a hunt: their names, their files, and the files of what is expected, or none. `lines` names the file whose lines they are, or `folder` the folder that they are in."""
     folder: Optional[str] = None
+    large: Sequence[str] = ()
 
     def __init__(self, names: List[str], paths: List[str], expected: Optional[List[str]], lines: Optional[str] = None, hidden: Sequence[str] = ()):
         self.names, self.paths, self.expected, self.lines, self.hidden = names, paths, expected, lines, list(hidden)
         self.given = self.own = len(names)
+        self.places: List[int] = []
 
     def add(self, names: List[str], paths: List[str], own: bool = True) -> None:
         """Puts inputs that were made behind those that were given. Neighbours of a failing one are no inputs of the hunt's own, and come last."""
         self.names, self.paths = self.names + names, self.paths + paths
         self.own += len(names) if own else 0
+
+    def leave_out_large(self) -> None:
+        """Leaves out those that are larger than `cbi` takes; their names stay as `large`."""
+        fits = [os.path.getsize(path) <= MOST_BYTES for path in self.paths]
+        self.large = [name for name, fit in zip(self.names, fits) if not fit]
+        if self.large and not any(fits):
+            raise Fault(f"all inputs are larger than {MOST_BYTES:,} bytes, the most that cbi takes")
+        self.names, self.paths = list(itertools.compress(self.names, fits)), list(itertools.compress(self.paths, fits))
+        self.expected = self.expected and list(itertools.compress(self.expected, fits))
+        self.places = list(itertools.compress(range(len(fits)), fits))
+        self.given = self.own = len(self.names)
+
+    def line_of(self, place: int) -> int:
+        """The number of the line that an input is, where inputs are lines."""
+        return (self.places[place] if self.places else place) + 1
 
     def digest(self) -> str:
         """What a kept hunt is compared by: names and bytes of all inputs, so that run numbers stay what they were."""
@@ -115,5 +136,7 @@ def inputs_of(chosen: argparse.Namespace, folder: str) -> Inputs:
     if os.path.isdir(chosen.inputs):
         inputs = inputs_of_folder(chosen.inputs, chosen.expect)
         inputs.folder = chosen.inputs
-        return inputs
-    return inputs_of_lines(chosen.inputs, chosen.expect, folder)
+    else:
+        inputs = inputs_of_lines(chosen.inputs, chosen.expect, folder)
+    inputs.leave_out_large()
+    return inputs

@@ -14,7 +14,8 @@ from cbi_hunt.signals import heed
 from cbi_runs import Batch
 
 # How it is told that what a hunt was begun with isn't what it is to go on with, where the values themselves say nothing.
-OTHER = {"program": "another program, or with other schemes", "parts": "another number of parts", "inputs": "other inputs or expected outputs", "oracle": "another oracle, or none"}
+OTHER = {"program": "another program, or with other schemes", "parts": "another number of parts", "inputs": "other inputs or expected outputs", "oracle": "another oracle, or none",
+         "since": "another old version, or none"}
 
 
 class Kept:
@@ -68,7 +69,7 @@ class Kept:
             os.replace(path + ".part", path)
             return
         with open(path, encoding="utf-8") as file:
-            begun = {"parts": 1, "hangs": "neither", "status": "ignore", **json.load(file)}
+            begun = {"parts": 1, "hangs": "neither", "status": "ignore", "since": None, **json.load(file)}
         for key, value in settings.items():
             if begun.get(key) != value:
                 other = OTHER.get(key, f"another {key} ({begun.get(key)}, and not {value})")

@@ -1,4 +1,4 @@
-"""Looks again at failing runs: the smallest input, what it wrote beside what was due, and how the run is made again. Not proved."""
+"""Looks again at failing runs: the smallest input, what it wrote beside what is expected, and how the run is made again. Not proved."""
 import argparse
 import dataclasses
 import os
@@ -17,6 +17,7 @@ from cbi_hunt.again import Repeater, for_predicate, program_for
 from cbi_hunt.counts import Count, Told
 from cbi_hunt.inputs import Inputs
 from cbi_hunt.kept import Kept
+from cbi_hunt.since import Before
 from cbi_hunt.smaller import Smaller, Wanted
 from cbi_hunt.words import TURNS
 from cbi_hunted import Example, File, Hanging, Sample
@@ -40,9 +41,10 @@ class Hunt:
     inputs: Inputs
     count: Count
     sample: Optional[Sample] = None
+    before: Optional[Before] = None
 
 
-# What was written beside what was due
+# What was written beside what is expected
 
 def first_difference(wrote: bytes, due: bytes) -> Tuple[int, bytes, bytes]:
     """The first line that differs, with both of them; line 0 where none does."""
@@ -89,12 +91,14 @@ def expected_for(hunt: Hunt, name: str, made: bool) -> Tuple[str, str]:
     if inputs.expected is None or made:
         return "", ""
     place = inputs.names.index(name)
+    if chosen.changed == "fail":
+        return "", f" --expect {quoted(os.path.join(chosen.keep, 'since', 'outputs', str(place)))}" if chosen.keep else ""
     if inputs.lines is None:
         return "", f" --expect {quoted(inputs.expected[place])}"
     if chosen.keep:
         return "", f" --expect {quoted(os.path.join(chosen.keep, 'expected', name))}"
     target = f"expected.{name}"
-    return f"sed -n {place + 1}p {quoted(chosen.expect)} >{target}; ", f" --expect {target}"
+    return f"sed -n {inputs.line_of(place)}p {quoted(chosen.expect)} >{target}; ", f" --expect {target}"
 
 
 def command_for(hunt: Hunt, name: str, path: str, data: bytes, made: bool) -> str:
@@ -118,7 +122,7 @@ def command_for(hunt: Hunt, name: str, path: str, data: bytes, made: bool) -> st
         return f"{compiled}{quoted(path)} -"
     if len(data) <= MOST_PRINTED or made or hunt.inputs.lines is None or hunt.inputs.names.index(name) >= hunt.inputs.given:
         return f"{printed(data)} >input; {compiled}input -"
-    return f"sed -n {hunt.inputs.names.index(name) + 1}p {quoted(hunt.inputs.lines)} >input; {compiled}input -"
+    return f"sed -n {hunt.inputs.line_of(hunt.inputs.names.index(name))}p {quoted(hunt.inputs.lines)} >input; {compiled}input -"
 
 
 # Failing runs
@@ -131,7 +135,7 @@ def file_of(hunt: Hunt, place: int) -> Optional[File]:
         return File(os.path.join(chosen.keep, "failing", name), size)
     if place >= inputs.given:
         return None
-    return File(f"{inputs.lines}:{place + 1}" if inputs.lines else inputs.paths[place], size)
+    return File(f"{inputs.lines}:{inputs.line_of(place)}" if inputs.lines else inputs.paths[place], size)
 
 
 def examples_of(hunt: Hunt, answer: Optional[Answer], program: Program) -> List[Example]:
@@ -175,11 +179,12 @@ def example_of(hunt: Hunt, runs: List[int], bug: Optional[BugShown], program: Pr
 def made_smaller(hunt: Hunt, bug: BugShown, program: Program, data: bytes, ended: str) -> Tuple[Optional[bytes], int]:
     """The input made smaller, with how many runs that took; none where nothing can be made smaller."""
     outcome, status = ending_of(ended), status_of(ended) if hunt.plan.status else 0
-    if outcome == "ended" and not hunt.plan.oracle and not status:
-        print("cbi-hunt: --minimize asks for an oracle where runs end by other output: nothing says what the program should write on a smaller input", file=sys.stderr)
+    old, changed = (hunt.kept.path("since", "plain"), hunt.before.changed) if hunt.before else (None, False)
+    if outcome == "ended" and not hunt.plan.oracle and not status and not changed:
+        print("cbi-hunt: --minimize needs an oracle where runs fail by wrong output: nothing says what the program should write on a smaller input", file=sys.stderr)
         return None, 0
     single, counters = for_predicate(hunt.chosen, hunt.plan.cbi, hunt.kept, program, bug.lead.found.predicate)
-    smaller = Smaller(hunt.plan, hunt.kept.folder, Wanted(single, counters, outcome, status), Told())
+    smaller = Smaller(hunt.plan, hunt.kept.folder, Wanted(single, counters, outcome, status, old, changed), Told())
     fewer = smaller.of(data)
     os.remove(single)
     return (fewer, smaller.steps) if fewer is not None and len(fewer) < len(data) else (None, 0)

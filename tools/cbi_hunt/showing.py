@@ -10,8 +10,10 @@ import cbi_rows
 import cbi_show
 import cbi_where
 import cbi_wording
+from cbi_files import Fault
 from cbi_hunt.broke import broke_of
 from cbi_hunt.looks import Hunt, examples_of, file_of, hanging_places
+from cbi_hunt.since import since_of
 from cbi_hunt.told import advice, helps
 from cbi_hunted import Hunted, write_hunted
 from cbi_runs import call_to
@@ -24,14 +26,15 @@ def date_of() -> str:
     return when.strftime("%Y-%m-%d")
 
 
-def facts_of(hunt: Hunt, program: cbi_files.Program, notes: List[str], said: str) -> Hunted:
+def facts_of(hunt: Hunt, program: cbi_files.Program, notes: List[str], said: str, warning: Optional[str]) -> Hunted:
     """How the hunt was made."""
     chosen = hunt.chosen
     names = {place: hunt.inputs.names[place] for place in hunt.count.failing_own()}
     files = {place: file for place, file in ((place, file_of(hunt, place)) for place in names) if file}
     return Hunted(chosen.command, cbi_files.VERSION, date_of(), chosen.text, hashlib.sha256(cbi_files.read_bytes(hunt.kept.path("source.c"))).hexdigest(), program.identity,
                   chosen.seed, chosen.rate, hunt.count.runs(), chosen.turns, chosen.policy, chosen.hangs == "fail", len(hunt.inputs.names), names, notes, said, [],
-                  sample=hunt.sample, folder=os.getcwd(), files=files, helps=helps(hunt), by_status=hunt.plan.status,
+                  sample=hunt.sample, folder=os.getcwd(), files=files, helps=helps(hunt), by_status=hunt.plan.status, warning=warning or "",
+                  since=since_of(chosen, hunt.before, hunt.count, hunt.inputs.names) if hunt.before else None,
                   own=hunt.inputs.own if hunt.inputs.own < len(hunt.inputs.names) else 0)
 
 
@@ -54,7 +57,17 @@ def where_of(hunt: Hunt, source: List[str]) -> cbi_where.Where:
     return cbi_where.ported(hunt.chosen.text, path) if os.path.exists(path) else cbi_where.one_file(hunt.chosen.text, source)
 
 
-def show(hunt: Hunt, notes: List[str], newline: Optional[str]) -> bool:
+def pages_lost(view: cbi_rows.View, pages: List[str]) -> str:
+    """Writes the pages; answers what can't be written, which doesn't keep the text from being shown."""
+    for page in pages:
+        try:
+            cbi_show.write(cbi_show.formatted(view, "html"), page)
+        except OSError as error:
+            return f"{page}: {(error.strerror or '').lower()}; the page isn't written, and all of it stands in the text"
+    return ""
+
+
+def show(hunt: Hunt, notes: List[str], newline: Optional[str], warning: Optional[str] = None) -> bool:
     """Ranks and shows; answers whether something is shown that may be the bug."""
     kept = hunt.kept
     ranking = rank(hunt)
@@ -62,7 +75,7 @@ def show(hunt: Hunt, notes: List[str], newline: Optional[str]) -> bool:
     cards = cbi_files.read_cards(kept.path("cards")) if ranking.rows else {}
     pair = cbi_files.read_pairs(kept.path("pairs")) if ranking.rows else None
     where = where_of(hunt, source)
-    hunted = facts_of(hunt, program, notes, "" if hunt.count.failed and hunt.count.succeeded else advice(hunt, newline))
+    hunted = facts_of(hunt, program, notes, "" if hunt.count.failed and hunt.count.succeeded else advice(hunt, newline), warning)
     view = cbi_rows.view_of(ranking, cbi_rows.Given(where, source, program, cards, kept.path("runs"), pair, hunted))
     examples = examples_of(hunt, view.answer, program)
     shown = {bug.number for bug in view.answer.leading()} if view.answer else set()
@@ -72,11 +85,12 @@ def show(hunt: Hunt, notes: List[str], newline: Optional[str]) -> bool:
     view = view._replace(hunted=hunted)
     # The pages come first, since whoever reads the text may close the pipe behind its first lines.
     pages = [page for page in (hunt.chosen.html, os.path.join(hunt.chosen.keep, "page.html") if hunt.chosen.keep else None) if page]
-    for page in pages:
-        cbi_show.write(cbi_show.formatted(view, "html"), page)
+    lost = pages_lost(view, pages)
     for line in cbi_show.formatted(view, "text", hunt.chosen.all):
         print(line)
-    if pages:
+    if pages and not lost:
         print(f"page: {pages[0]}")
     sys.stdout.flush()
+    if lost:
+        raise Fault(lost)
     return view.found()

@@ -2,8 +2,9 @@
 import os
 from typing import Callable, Dict, List, NamedTuple, Optional, Sequence, Tuple
 
+import cbi_files
 from cbi_files import count_of, status_of
-from cbi_hunt.again import Repeater
+from cbi_hunt.again import Again, Repeater
 from cbi_hunt.counts import Told
 from cbi_runs import Plan, judged
 from cbi_seen import ending_of
@@ -12,11 +13,14 @@ MOST_STEPS = 3000
 
 
 class Wanted(NamedTuple):
-    """How a run is to fail: by which end, and with which counters of the one site of its program, if any; where its status is what fails, with that status."""
+    """How a run is to fail: by which end, and with which counters of the one site of its program, if any; where its status is what fails, with that status. `old` is the program of
+    the old version, which is not to fail, where there is one; `changed` where an output other than its own has failed."""
     program: str
     counters: Tuple[int, ...]
     outcome: str
     status: int = 0
+    old: Optional[str] = None
+    changed: bool = False
 
 
 class Enough(Exception):
@@ -49,7 +53,7 @@ class Smaller:
 
     def __init__(self, plan: Plan, folder: str, wanted: Wanted, told: Told):
         self.plan, self.wanted, self.told = plan, wanted, told
-        self.repeater = Repeater(plan, folder, "smaller")
+        self.repeater, self.before = Repeater(plan, folder, "smaller"), Repeater(plan, folder, "smaller.old")
         self.path = os.path.join(folder, "smaller.input")
         self.known: Dict[bytes, bool] = {}
         self.steps, self.best = 0, b""
@@ -74,8 +78,20 @@ class Smaller:
         if ending_of(run.outcome) != self.wanted.outcome or self.wanted.counters and not any(counters[which] for which in self.wanted.counters):
             return False
         if self.wanted.status:
-            return status_of(run.outcome) == self.wanted.status
-        return self.wanted.outcome != "ended" or judged(self.plan, self.path, run.output, run.outcome) == "fail"
+            return status_of(run.outcome) == self.wanted.status and self.spared(run)
+        judged_wrong = self.wanted.outcome != "ended" or self.wanted.changed or judged(self.plan, self.path, run.output, run.outcome) == "fail"
+        return judged_wrong and self.spared(run)
+
+    def spared(self, run: Again) -> bool:
+        """Whether the old version, where there is one, doesn't fail on the same input."""
+        if self.wanted.old is None:
+            return True
+        old = self.before.run(self.wanted.old, self.path)
+        if old.outcome.startswith("trapped ") or self.plan.hangs and old.outcome == "cut turns" or self.plan.status and status_of(old.outcome):
+            return False
+        if self.wanted.changed and self.wanted.outcome == "ended":
+            return old.outcome.startswith("ended") and cbi_files.read_bytes(old.output) != cbi_files.read_bytes(run.output)
+        return not (self.plan.oracle and old.outcome.startswith("ended") and judged(self.plan, self.path, old.output, old.outcome) == "fail")
 
     def of(self, data: bytes) -> Optional[bytes]:
         """A smaller input; none where this one itself doesn't fail alike."""
@@ -89,6 +105,7 @@ class Smaller:
         finally:
             self.told.clear()
             self.repeater.close()
+            self.before.close()
             if os.path.exists(self.path):
                 os.remove(self.path)
         return self.best

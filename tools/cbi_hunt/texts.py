@@ -1,6 +1,7 @@
 """The text of a hunt: as it is given, or ported where the dialect doesn't take it or where there are several files. Not proved."""
 import argparse
 import os
+import re
 import shlex
 import shutil
 import subprocess
@@ -9,15 +10,16 @@ from typing import List, Optional, Union
 
 import cbi_files
 from cbi_files import Fault, Refused, count_of
-from cbi_hunt.counts import Told
+from cbi_hunt.given import gcc_says
 from cbi_hunt.inputs import Inputs
 from cbi_hunt.kept import Kept
 from cbi_runs import call_to
 
 TOOLS = os.path.dirname(os.path.dirname(os.path.realpath(__file__)))
-MOST_CHECKED = 300     # inputs that a ported text is compared on with what gcc makes of the files
-MOST_DIFFERENCES = 3
 DEEP = 20000           # how deep a text of C may nest for the porter
+PIECES = re.compile(r"/\*.*?\*/|//[^\n]*|\"(?:\\.|[^\"\\\n])*\"", re.DOTALL)
+WITH_ARGUMENTS = re.compile(r"\bmain\s*\(\s*(?:const\s+)?(?:signed\s+)?int\b[^();]*,")
+NO_ARGUMENTS = "main takes arguments and is given none: --args 'WORD WORD', or --args first-line for those of the input's first line"
 
 
 def transform(chosen: argparse.Namespace, cbi: str, text: str, target: str, part: Optional[int] = None) -> str:
@@ -65,6 +67,25 @@ def text_of(chosen: argparse.Namespace, cbi: str, kept: Kept, inputs: Inputs) ->
     return ported_text(chosen, cbi, kept, inputs, why)
 
 
+def cure() -> str:
+    """How this interpreter gets pycparser."""
+    return "apt install python3-pycparser" if sys.prefix == "/usr" else f"{sys.executable} -m pip install pycparser"
+
+
+def lacking(chosen: argparse.Namespace, why: Optional[str], missing: Exception) -> str:
+    """What to do where the porter lacks something, first; and then what of the text asks for the porter."""
+    no_parser = isinstance(missing, ImportError) or "pycparser" in str(missing)
+    first = f"cbi-hunt: no pycparser for {sys.executable}: {cure()}" if no_parser else f"cbi-hunt: {missing}"
+    asking = "Several files, options of the preprocessor, --args, --memory and --stderr ask for the porter, which needs it."
+    return f"{first}\n" + (asking if why is None else f"The porter, which translates what the dialect lacks, needs it. Without it this is refused:\n{refused(chosen.text, why)}")
+
+
+def takes_arguments(chosen: argparse.Namespace) -> bool:
+    """Whether `main` has parameters and is given no arguments."""
+    texts = (PIECES.sub(lambda piece: " " if piece[0][0] == "/" else '""', cbi_files.decoded(cbi_files.read_bytes(path))) for path in chosen.texts)
+    return chosen.args is None and any(WITH_ARGUMENTS.search(text) for text in texts)
+
+
 def map_beside(text: str, kept: Kept) -> List[str]:
     """Takes the map of lines that cbi-port left beside a text, so that rows name the lines of the files that it was ported from."""
     import cbi_port
@@ -89,12 +110,9 @@ def ported_text(chosen: argparse.Namespace, cbi: str, kept: Kept, inputs: Inputs
     try:
         ported = cbi_port.port(chosen.texts, chosen.cpp, words_of(chosen), chosen.stderr, chosen.memory)
     except cbi_port.Refused as problems:
-        raise Refused(str(problems))
+        raise Refused(gcc_says(chosen.texts, chosen.cpp) or str(problems))
     except (cbi_port.Missing, ImportError) as missing:
-        lacking = "no pycparser: Debian's package python3-pycparser has it" if isinstance(missing, ImportError) else missing
-        if why is None:
-            raise Fault(f"several files, options of the preprocessor, --args, --memory and --stderr ask for the porter: {lacking}")
-        raise Refused(refused(chosen.text, why) + f"\nThe porter, which may bring it to the dialect, can't be used: {lacking}.")
+        raise Refused(gcc_says(chosen.texts, chosen.cpp) or lacking(chosen, why, missing))
     finally:
         sys.setrecursionlimit(limit)
     chosen.ported = True
@@ -107,32 +125,13 @@ def ported_text(chosen: argparse.Namespace, cbi: str, kept: Kept, inputs: Inputs
     except Fault as fault:
         raise Fault(f"{chosen.text} was ported, and the text isn't taken: {str(fault).split(': ', 1)[1]} (cbi-port writes it)")
     told = [f"ported: {ported.summary()}"]
+    if takes_arguments(chosen):
+        told.append(NO_ARGUMENTS)
     if chosen.check:
+        from cbi_hunt.beside_gcc import compared
         checked, differences = compared(chosen, cbi, ported, inputs)
         told[0] += f"; {checked}"
         told += differences
     for liberty in ported.liberties:
         print(f"cbi-hunt: {liberty}", file=sys.stderr)
     return told
-
-
-def compared(chosen: argparse.Namespace, cbi: str, ported: "object", inputs: Inputs) -> "tuple[str, List[str]]":
-    """How the ported text does beside gcc's build of the files, on the inputs; and the differences that nothing explains."""
-    import cbi_port
-    from cbi_port import check
-    chance = [(name, cbi_files.read_bytes(path)) for name, path in list(zip(inputs.names, inputs.paths))[:MOST_CHECKED]]
-    told = Told()
-    told.show(f"comparing {count_of(len(chance), 'output')} with gcc's")
-    try:
-        found = check.compare(chosen.texts, chosen.cpp, ported, chance, cbi, words_of(chosen), chosen.turns)  # type: ignore[arg-type]
-    except cbi_port.Missing as missing:
-        return f"not compared with gcc's: {missing}", []
-    finally:
-        told.clear()
-    odd = [difference for difference in found.differences if not difference.explained]
-    lines = [f"  {difference.name}: {difference.what}" for difference in odd[:MOST_DIFFERENCES]]
-    if odd:
-        lines.insert(0, f"{count_of(len(odd), 'output')} {'differs' if len(odd) == 1 else 'differ'} from gcc's and nothing says why: what is hunted may be of the port.")
-    if len(inputs.names) > len(chance):
-        return f"{found.summary()} (of {len(inputs.names)} inputs the first {len(chance)} were looked at)", lines
-    return found.summary(), lines

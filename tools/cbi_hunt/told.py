@@ -7,7 +7,7 @@ from typing import Iterator, List, Optional
 from cbi_files import count_of, harmless
 from cbi_hunt.collecting import MOST_MARKS, MOST_RUNS
 from cbi_hunt.counts import Count
-from cbi_hunt.inputs import Inputs
+from cbi_hunt.inputs import MOST_BYTES, Inputs
 from cbi_hunt.looks import Hunt, oracle_note
 from cbi_hunt.near import suggestion
 from cbi_hunt.rates import more_runs, rate_line
@@ -15,11 +15,11 @@ from cbi_hunted import Sample
 from cbi_told import short_name
 
 NO_FAILURE = """\
-No run failed, so there is nothing that a failure could be told apart from. What may help:
+No run failed, so there is nothing to compare. What may help:
 - Where the bug shows in what the program writes, say what it should write: NAME.expected, --expect or --oracle.
 - Give inputs on which it fails.{cut}"""
 ONLY_FAILURES = """\
-All runs that count failed, so there is nothing that a failure could be told apart from. What may help:{more}
+All runs that count failed, so there is nothing to compare them with. What may help:{more}
 - Give inputs on which the program does as it should.{beside}"""
 MOST_HIDDEN = 3
 
@@ -56,7 +56,7 @@ def cut_line(count: Count, chosen: argparse.Namespace) -> Optional[str]:
     """Says that runs which were cut are left out, and the word that takes them in."""
     if not count.hanging_inputs or chosen.hangs == "fail":
         return None
-    return "runs that were cut went back more often than --turns allows; they are left out, and --hangs fail counts them as failed"
+    return "runs that were cut hang, or need more turns than --turns allows; they are left out (--hangs fail counts them as failed)"
 
 
 def hidden_line(inputs: Inputs) -> Optional[str]:
@@ -64,6 +64,14 @@ def hidden_line(inputs: Inputs) -> Optional[str]:
         return None
     rest = f" and {len(inputs.hidden) - MOST_HIDDEN} more" if len(inputs.hidden) > MOST_HIDDEN else ""
     return harmless(f"not taken, since hidden: {', '.join(inputs.hidden[:MOST_HIDDEN])}{rest}")
+
+
+def large_line(inputs: Inputs) -> Optional[str]:
+    """Names the inputs that are left out, since `cbi` takes none that large."""
+    if not inputs.large:
+        return None
+    rest = f" and {len(inputs.large) - MOST_HIDDEN} more" if len(inputs.large) > MOST_HIDDEN else ""
+    return harmless(f"left out, since larger than {MOST_BYTES:,} bytes: {', '.join(inputs.large[:MOST_HIDDEN])}{rest}")
 
 
 def sample_line(sample: Optional[Sample], chosen: argparse.Namespace) -> Optional[str]:
@@ -83,7 +91,7 @@ def sample_line(sample: Optional[Sample], chosen: argparse.Namespace) -> Optiona
 def notes(hunt: Hunt, whole: bool, told: List[str], newline: Optional[str]) -> Iterator[str]:
     """The lines that sum up a hunt. Where no run succeeded, what is told of the last newline is among the advice."""
     yield summary(hunt.count, hunt.inputs) + ("" if whole else "; interrupted, so this is what there is")
-    for line in (failing_line(hunt), *map(harmless, told), hidden_line(hunt.inputs), cut_line(hunt.count, hunt.chosen), newline if hunt.count.succeeded else None,
+    for line in (failing_line(hunt), *map(harmless, told), hidden_line(hunt.inputs), large_line(hunt.inputs), cut_line(hunt.count, hunt.chosen), newline if hunt.count.succeeded else None,
                  sample_line(hunt.sample, hunt.chosen), rate_line(hunt)):
         if line:
             yield line
@@ -115,7 +123,9 @@ def advice(hunt: Hunt, newline: Optional[str]) -> str:
     if not count.failed:
         cut = f"\n- {count_of(count.cut, 'run was', 'runs were')} cut: allow more turns (--turns), or count them as failed (--hangs fail)." if count.cut else ""
         status = f"\n- {count_of(count.other_status, 'run')} ended with an exit status other than 0: count such runs as failed (--status fail)." if count.other_status else ""
-        return NO_FAILURE.format(cut=cut + status + beside(inputs, "queue", "crashes", "inputs that AFL++ saw crash"))
+        changed = "\n- Count outputs that are other ones than the old version's as failing (--changed fail)." if hunt.before and not hunt.before.changed and not inputs.expected and not hunt.plan.oracle else ""
+        failure = NO_FAILURE.replace("No run failed,", "No input fails in the new version alone,") if hunt.before else NO_FAILURE
+        return failure.format(cut=cut + status + changed + beside(inputs, "queue", "crashes", "inputs that AFL++ saw crash"))
     more: List[str] = []
     if inputs.has_carriage_returns():
         more.append("The expected outputs have carriage returns, and the program writes none: take them out (tr -d '\\r').")

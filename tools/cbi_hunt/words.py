@@ -26,6 +26,12 @@ status:
   A run that ends with a status other than 0 is judged by its output, as any other. With --status fail it has failed,
   whatever it wrote, and no oracle is asked. Each run keeps its status (`outcome ended 3` in its report).
 
+two versions:
+  --since OLD.c has the old version run on the same inputs, judged alike. What fails in PROG.c alone is hunted; inputs on which
+  both fail are set aside and told, and those on which the old one alone failed are counted as mended. OLD may be a folder,
+  as a worktree of git: each file is the one there with the same path, or else with the same name, and so are folders of -I.
+  With --changed fail an output other than the old version's has failed, where no --expect or --oracle says what is right.
+
 where it broke:
   The smallest failing input is run again. Of a trap the line and the calls that were active are told, of a wrong output
   its first wrong byte and the statement that wrote it, of a run without end the loop that it never leaves, and of a
@@ -41,6 +47,8 @@ examples:
   cbi-hunt prog.c --inputs tests --oracle-shell 'sort "$1" | cmp -s - "$2"' --minimize
   cbi-hunt prog.c --inputs tests --oracle-shell 'test $CBI_STATUS = 0 || grep -q ERROR "$2"'
   cbi-hunt prog.c --inputs tests --status fail
+  cbi-hunt prog.c --inputs tests --since prog.old.c
+  cbi-hunt src/main.c src/list.c --inputs tests --since ../release-1 --changed fail -- -I include
   cbi-hunt prog.c --inputs tests --hangs fail --turns 10000 --mutate 100
   cbi-hunt prog.c --inputs tests --oracle-shell './works <"$1" | cmp -s - "$2"' --neighbours 200
   cbi-hunt prog.c --inputs tests --rate 20 --runs 50000 --keep hunt --farm hosts
@@ -86,6 +94,8 @@ def arguments(words: List[str]) -> argparse.Namespace:
     parser.add_argument("--oracle-timeout", metavar="SECONDS", type=number_between(1, 86400), default=10, help="how long the oracle may take for a run (10)")
     parser.add_argument("--hangs", choices=["neither", "fail"], default="neither", help="what a run counts as that goes back too often (neither)")
     parser.add_argument("--status", choices=["ignore", "fail"], default="ignore", help="whether a run that ends with a status other than 0 has failed (ignore: its output decides)")
+    parser.add_argument("--since", metavar="OLD", help="the old version, a file or a folder: what fails in the new one alone is hunted")
+    parser.add_argument("--changed", choices=["ignore", "fail"], default="ignore", help="whether an output other than the old version's has failed, where nothing else judges (ignore)")
     parser.add_argument("--minimize", action="store_true", help="makes the smallest failing input smaller, by lines and then by bytes, as long as it fails alike")
     parser.add_argument("--mutate", metavar="N", type=number_between(1, 1000000), help="makes N inputs more from those given, each of which sees something new")
     parser.add_argument("--neighbours", metavar="N", type=number_between(1, 100000), help="makes N inputs near the smallest failing one, for where few inputs fail: it is made smaller, and then changed by lines, tokens and bytes")
@@ -103,5 +113,7 @@ def arguments(words: List[str]) -> argparse.Namespace:
     parser.add_argument("--parts", metavar="N", type=number_between(1, 65536), default=1, help="shares the sites out over N programs, so that each run looks at a part of them (1)")
     parser.add_argument("--cbi", metavar="PATH", default="cbi", help="the executable (cbi, from the path)")
     chosen = parser.parse_args(own)
+    if chosen.changed == "fail" and (not chosen.since or chosen.expect or chosen.oracle or chosen.oracle_shell):
+        parser.error("--changed fail asks for --since, and for no --expect or --oracle")
     chosen.text, chosen.cpp, chosen.ported = chosen.texts[0], [*for_preprocessor(chosen), *cpp], False
     return chosen

@@ -17,12 +17,12 @@ _cbi_value() {
     --schemes) value='branches returns pairs branches,returns branches,pairs returns,pairs branches,returns,pairs' ;;
     --policy) value='all failing relabel' ;;
     --hangs) value='neither fail' ;;
-    --status) value='ignore fail' ;;
+    --status | --changed) value='ignore fail' ;;
     --format) value='text html sarif quickfix' ;;
     --memory) value='auto cells bytes' ;;
     --rate) value='1 2 5 10 20 50 100 1000' ;;
     --part | --parts | --turns | --run | --runs | --first | --count | --seed | --stream | --jobs | --oracle | --oracle-shell | --oracle-timeout | --mutate | --neighbours | --args | -D | -U) value=' ' ;;
-    --bank | --input | --expect | --report | --program | --whole | --inputs | --keep | --hunt | --html | --farm | --cbi | --source | --lines | --cards | --pairs | --reports | --output | --sites | --tool | -I | -include | -o) ;;
+    --bank | --input | --expect | --report | --program | --whole | --inputs | --keep | --hunt | --html | --farm | --cbi | --source | --lines | --cards | --pairs | --reports | --output | --sites | --tool | --since | -I | -include | -o) ;;
     *) return 1 ;;
     esac
 }
@@ -59,7 +59,7 @@ _cbi() {
 }
 
 _cbi_hunt() {
-    _cbi_options '--inputs -I -D -U -include --memory --stderr --args --no-check --expect --oracle --oracle-shell --oracle-timeout --hangs --status --minimize --mutate --neighbours --rate --runs --seed --turns --schemes --jobs --policy --keep --all --html --farm --parts --cbi --version --help'
+    _cbi_options '--inputs -I -D -U -include --memory --stderr --args --no-check --expect --oracle --oracle-shell --oracle-timeout --hangs --status --since --changed --minimize --mutate --neighbours --rate --runs --seed --turns --schemes --jobs --policy --keep --all --html --farm --parts --cbi --version --help'
 }
 
 _cbi_show() {

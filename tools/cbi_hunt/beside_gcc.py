@@ -1,0 +1,114 @@
+"""Compares a ported text with gcc's build of the files on the inputs of a hunt: each is run once natively. Not proved.
+
+Runs of the text come first. Where one is cut at its turns gcc's may hang as well, so it is given a time by how long the others took, and is ended then.
+"""
+import argparse
+import shutil
+import subprocess
+import tempfile
+import time
+from typing import List, NamedTuple, Optional, Sequence, Tuple
+
+import cbi_files
+import cbi_port
+from cbi_files import count_of
+from cbi_hunt.counts import Told
+from cbi_hunt.inputs import Inputs
+from cbi_port import check
+
+MOST_CHECKED = 300     # inputs that are compared
+MOST_DIFFERENCES = 3
+LEAST_PATIENCE, TIMES = 1.0, 20   # seconds, and times the longest run that ended
+BOTH_HANG = "hang in both builds"
+
+Chance = Tuple[str, bytes]
+
+
+class Native(NamedTuple):
+    """gcc's builds: the plain one, and the one with sanitizers, where there is one."""
+    plain: str
+    strict: Optional[str]
+
+
+class Comparison:
+    """The runs of both builds, input by input."""
+
+    def __init__(self, chosen: argparse.Namespace, native: Native, program: str, cbi: str, folder: str):
+        self.chosen, self.native, self.program, self.cbi, self.folder = chosen, native, program, cbi, folder
+        self.longest, self.equal = 0.0, 0
+        self.differences: List[check.Difference] = []
+
+    def arguments(self, data: bytes) -> Tuple[List[str], bytes]:
+        from cbi_hunt.texts import words_of
+        return check.words_of(words_of(self.chosen), data)
+
+    def compare(self, chances: Sequence[Chance]) -> check.Checked:
+        """Those that were cut come last, when it is known how long a run takes."""
+        later = []
+        for name, data in chances:
+            got = check.run_ported(self.cbi, self.program, data, self.folder, self.chosen.turns)
+            if got.stopped == "cut at its turns":
+                later.append((name, data, got))
+            else:
+                self.one(name, data, got)
+        for name, data, got in later:
+            if self.hangs(data):
+                self.differences.append(check.Difference(name, "", BOTH_HANG))
+            else:
+                self.one(name, data, got)
+        return check.Checked(self.equal, len(chances), self.differences)
+
+    def one(self, name: str, data: bytes, got: check.Ran) -> None:
+        words, rest = self.arguments(data)
+        begun = time.monotonic()
+        due = check.run_native(self.native.plain, words, rest)
+        if not due.stopped:
+            self.longest = max(self.longest, time.monotonic() - begun)
+        if (due.output, due.status, due.stopped, got.stopped) == (got.output, got.status, "", ""):
+            self.equal += 1
+        else:
+            self.differences.append(check.told(name, due, got, self.native.strict, words, rest))
+
+    def hangs(self, data: bytes) -> bool:
+        """Whether gcc's build doesn't end either, in a time that is long beside that of the runs that ended."""
+        words, rest = self.arguments(data)
+        try:
+            subprocess.run([self.native.plain, *words], input=rest, stdout=subprocess.DEVNULL, stderr=subprocess.DEVNULL, check=False, timeout=max(LEAST_PATIENCE, TIMES * self.longest))
+        except subprocess.TimeoutExpired:
+            return True
+        return False
+
+
+def compare(chosen: argparse.Namespace, cbi: str, ported: cbi_port.Ported, chances: Sequence[Chance]) -> check.Checked:
+    """Missing where gcc isn't there, or doesn't take the files."""
+    if shutil.which("gcc") is None:
+        raise cbi_port.Missing("no gcc: Debian's package gcc has it")
+    with tempfile.TemporaryDirectory(prefix="cbi-hunt-") as folder:
+        plain = check.compiled(chosen.texts, chosen.cpp, folder, "plain", ["-O0"])
+        if plain is None:
+            raise cbi_port.Missing("gcc doesn't take the files")
+        strict = check.compiled(chosen.texts, chosen.cpp, folder, "strict", ["-O0", "-fsanitize=address,undefined", "-fno-sanitize-recover=all"])
+        program, refused = check.transformed(cbi, ported, folder)
+        if program is None:
+            raise cbi_port.Missing(f"the text isn't taken: {refused}")
+        return Comparison(chosen, Native(plain, strict), program, cbi, folder).compare(chances)
+
+
+def compared(chosen: argparse.Namespace, cbi: str, ported: cbi_port.Ported, inputs: Inputs) -> Tuple[str, List[str]]:
+    """How the ported text does beside gcc's build of the files, on the inputs; and the differences that nothing explains."""
+    chances = [(name, cbi_files.read_bytes(path)) for name, path in list(zip(inputs.names, inputs.paths))[:MOST_CHECKED]]
+    told = Told()
+    told.show(f"comparing {count_of(len(chances), 'output')} with gcc's")
+    try:
+        found = compare(chosen, cbi, ported, chances)
+    except cbi_port.Missing as missing:
+        return f"not compared with gcc's: {missing}", []
+    finally:
+        told.clear()
+    odd = [difference for difference in found.differences if not difference.explained]
+    lines = [f"  {difference.name}: {difference.what}" for difference in odd[:MOST_DIFFERENCES]]
+    if odd:
+        lines.insert(0, f"{count_of(len(odd), 'output')} {'differs' if len(odd) == 1 else 'differ'} from gcc's and nothing says why: what is hunted may be of the port.")
+    if len(inputs.names) > len(chances):
+        return f"{found.summary()} (of {len(inputs.names)} inputs the first {len(chances)} were looked at)", lines
+    return found.summary(), lines
