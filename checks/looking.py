@@ -16,6 +16,7 @@ sys.dont_write_bytecode = True
 TOP = os.path.dirname(os.path.dirname(os.path.abspath(__file__)))
 TOOLS = os.path.join(TOP, "tools")
 EXAMPLES = os.path.join(TOP, "examples")
+SCRIPTS = ("cbi-hunt", "cbi-show", "cbi-explain", "cbi-port")
 # The executable, which look_at_tools is called with.
 CBI = ""
 
