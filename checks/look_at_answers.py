@@ -195,6 +195,15 @@ class Sections(Case):
             text = self.show([self.run_of(number, number <= runs, number <= runs, None) for number in range(1, 2 * runs + 1)])
             self.assertEqual((text.startswith("No fact is beyond chance."), "Perhaps by chance" in text), (doubted, doubted))
 
+    def test_a_fact_that_is_true_more_often_without_a_failure_says_so(self):
+        """`a` is true in all 20 failing runs, and in 21 or in 20 of 40 others: of 15,576 draws of 41 one has all failing ones."""
+        self.transform(TWO, "full", "branches")
+        for others, said in ((21, True), (20, False)):
+            text = self.show([self.run_of(number, number <= 20, number <= 20 + others, None) for number in range(1, 61)]).replace("\n", " ")
+            self.assertIn(f"True in all 20 failing runs that looked there, and in {others} of the 40 others that did.", text)
+            self.assertEqual("It was true more often without a failure, so it is a part of the cause at most." in text, said)
+            self.assertNotIn("Perhaps by chance", text)
+
     def test_one_other_run_is_told_as_one(self):
         self.transform(TWO, "full", "branches")
         text = self.show([self.run_of(number, number <= 9, number <= 9, None) for number in range(1, 11)])
