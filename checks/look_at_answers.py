@@ -231,7 +231,7 @@ class Sections(Case):
         runs = [self.run_of(number, number <= 2, number % 2 == 0, number % 2 == 0 if number <= 6 else None) for number in range(1, 11)]
         text = self.show(runs, due=1)
         self.assertTrue(text.endswith("\n\nThe ranking of cbi rank has no row.\n"), text)
-        self.assertLess(text.index("Where failing runs go:\n     line 3, main: 100 % of the failing runs, 50 % of the others\nLines that failing runs reach more often than others; by chance alone some would be."),
+        self.assertLess(text.index("Where failing runs go:\n     line 3, main: 100 % of the failing runs, 50 % of the others\nLines that failing runs reach more often than others; some would by chance."),
                         text.index("Perhaps by chance, prog.c:"))
         self.assertEqual(text.count("Where failing runs go"), 1)
         page = sound(self, self.show(runs, "--format", "html", due=1))
@@ -406,7 +406,7 @@ page: kept/page.html
         self.assertEqual(said.decode().replace("\r\n", "\n").split("\x1b[K")[-1].split("\n"), lines)
 
     def test_what_to_do_is_told_in_full_on_a_narrow_terminal(self):
-        for words, due in ((["--turns", "0"], ["they are left out, and --hangs fail counts them as failed No run failed,", "- Where the bug shows in what the program writes, say what it should write: NAME.expected, --expect or --oracle. - Give",
+        for words, due in ((["--turns", "0"], ["they are left out (--hangs fail counts them as failed) No run failed,", "- Where the bug shows in what the program writes, say what it should write: NAME.expected, --expect or --oracle. - Give",
                                                "- 12 runs were cut: allow more turns (--turns), or count them as failed (--hangs fail)."]),
                            (["--oracle", "false"], ["All runs that count failed, so there is nothing to compare them with. What may help:"])):
             done = subprocess.run(["cbi-hunt", "upper.c", "--inputs", "in puts", *words], cwd=self.room, env=dict(environment(), COLUMNS="50"), stdout=subprocess.PIPE, check=False)

@@ -39,10 +39,11 @@ class Given(Case):
         self.write("wide.c", PLAIN.encode("utf-16"))
         self.write("wide_without_a_mark.c", PLAIN.encode("utf-16-be"))
         self.write("bytes.c", bytes(range(256)))
+        self.write("control.c", bytes(range(1, 32)) * 9)
         shutil.copy(looking.CBI, self.path("program"))
         os.symlink("loop.c", self.path("loop.c"))
         for name, said in (("wide.c", "wide.c is UTF-16: convert it to UTF-8 (iconv -f UTF-16 -t UTF-8)"), ("wide_without_a_mark.c", "wide_without_a_mark.c is UTF-16: convert it to UTF-8 (iconv -f UTF-16 -t UTF-8)"),
-                           ("bytes.c", "bytes.c is a binary file: name a C text"), ("program", "program is an executable: name the C files that it was built from"),
+                           ("bytes.c", "bytes.c is a binary file: name a C text"), ("control.c", "control.c is a binary file: name a C text"), ("program", "program is an executable: name the C files that it was built from"),
                            ("in", "in is a folder: name the C files in it"), ("none.c", "none.c: there is no such file or folder"), ("fine.c/x.c", "fine.c/x.c: not a directory"),
                            ("loop.c", "loop.c: too many levels of symbolic links")):
             self.assertEqual(self.refused(name), f"cbi-hunt: {said}\n")
@@ -55,7 +56,7 @@ class Given(Case):
         self.assertEqual(self.refused("shut/x.c"), "cbi-hunt: shut/x.c: permission denied\n")
 
     def test_texts_that_are_taken_are_not_refused_for_their_bytes(self):
-        for data in (PLAIN.encode(), b"\xef\xbb\xbf" + PLAIN.encode(), PLAIN.replace("\n", "\r\n").encode(), "/* \xe4 */".encode("latin-1") + PLAIN.encode(), b"", b"\x0cint x;\x1a"):
+        for data in (PLAIN.encode(), b"\xef\xbb\xbf" + PLAIN.encode(), PLAIN.replace("\n", "\r\n").encode(), "/* \xe4 */".encode("latin-1") + PLAIN.encode(), b"", b"\x0cint x;\x1a", b"/* \x07 \x1b[2J */\nint x;\nint main(void) { return x; }\n"):
             given.check_text(self.write("text.c", data))
 
     def test_what_is_no_c_is_told_by_gcc(self):
@@ -184,16 +185,24 @@ class Room(Hunting):
 
 
 class Progress(Case):
-    def test_where_err_is_a_file_a_line_comes_each_minute(self):
+    def told(self, **given):
+        """What comes to err, which is a file, of lines at these seconds."""
         err = io.StringIO()
-        with contextlib.redirect_stderr(err):
-            with unittest.mock.patch.object(counts.time, "monotonic", return_value=0.0):
-                told = counts.Told()
-            for seconds in (59, 61, 100, 122):
-                with unittest.mock.patch.object(counts.time, "monotonic", return_value=float(seconds)):
-                    told.show(f"{seconds} s")
+        kept = {name: value for name, value in os.environ.items() if name != "CBI_PROGRESS"}
+        with contextlib.redirect_stderr(err), unittest.mock.patch.dict(os.environ, {**kept, **given}, clear=True), unittest.mock.patch.object(counts.time, "monotonic") as clock:
+            clock.return_value = 0.0
+            told = counts.Told()
+            for seconds in (9, 59, 61, 100, 122):
+                clock.return_value = float(seconds)
+                told.show(f"{seconds} s")
             told.clear()
-        self.assertEqual(err.getvalue(), "cbi-hunt: 61 s\ncbi-hunt: 122 s\n")
+        return err.getvalue().splitlines()
+
+    def test_where_err_is_a_file_a_line_comes_each_minute(self):
+        self.assertEqual(self.told(), ["cbi-hunt: 61 s", "cbi-hunt: 122 s"])
+        self.assertEqual(self.told(CBI_PROGRESS="many"), ["cbi-hunt: 61 s", "cbi-hunt: 122 s"])
+        self.assertEqual(self.told(CBI_PROGRESS="50"), ["cbi-hunt: 59 s", "cbi-hunt: 122 s"])
+        self.assertEqual(self.told(CBI_PROGRESS="0"), [])
 
 
 class Marked(Hunting):

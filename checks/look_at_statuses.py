@@ -58,7 +58,7 @@ class Statuses(Broken):
         self.assertEqual([label for _, label in runs], ["pass", "fail", "pass", "pass", "fail", "pass"])
         self.write("judge.py", "import os, sys\nprint(os.environ['CBI_STATUS'], open(sys.argv[2]).read(), file=open('seen', 'a'))\nassert len(sys.argv) == 3\n")
         self.labels("--oracle", f"{sys.executable} judge.py", due=1)
-        self.assertEqual(sorted(self.read("seen").decode().split("\n")), ["", "0 ab", "0 e", "0 gh", "0 ij", "3 ", "3 c"])
+        self.assertEqual(sorted(set(self.read("seen").decode().split("\n"))), ["", "0 ab", "0 e", "0 gh", "0 ij", "3 ", "3 c"])
 
     def test_a_status_that_fails_needs_no_oracle(self):
         """Of those that end with 3 the oracle isn't asked, and so may say what it likes."""

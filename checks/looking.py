@@ -24,7 +24,7 @@ CBI = ""
 def environment():
     """The environment of a call: the executable and the scripts are on the path."""
     path = os.pathsep.join([os.path.dirname(CBI), TOOLS, os.environ["PATH"]])
-    return dict(os.environ, PATH=path, LC_ALL="C.UTF-8", PYTHONDONTWRITEBYTECODE="1")
+    return dict(os.environ, PATH=path, LC_ALL="C.UTF-8", PYTHONDONTWRITEBYTECODE="1", CBI_PROGRESS="0")
 
 
 def call(*words, given=b"", folder=None, **more):

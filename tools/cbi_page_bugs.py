@@ -126,7 +126,7 @@ def excerpt(bug: BugShown, view: View) -> Iterator[str]:
 def answer(view: View) -> Iterator[str]:
     """The head of the page: the first bug; or where no fact is beyond chance that this is so, and what may help."""
     yield '<header class="card" id="answer">'
-    warning, since = view.hunted.warning if view.hunted else "", cbi_told.since_line(view)
+    yield from (f"<p>{escaped(said)}</p>" for said in (view.hunted.warning if view.hunted else "", cbi_told.since_line(view)) if said)
     told, first, endless = view.answer, view.first(), cbi_told.endless_first(view)
     if told is None:
         yield f"<h1>{escaped(cbi_told.row_title(first))}</h1>" if first else f"<h1>{code(view.where.main)}: no fact stands out</h1><p>{cbi_told.NO_ROWS}</p>"
@@ -145,7 +145,6 @@ def answer(view: View) -> Iterator[str]:
         yield f"<p>{cbi_told.NO_FACT}</p>" if endless else f"<h1>{code(view.where.main)}: no fact is beyond chance" + (f"; failing runs go to {escaped(view.where.named(places[0].spot))} in {code(places[0].function)}" if places else "") + "</h1>"
         yield from advised(["What may help:", *(f"- {one}" for one in cbi_told.helps(view))])
         yield from hanging(view)
-    yield "".join(f"<p>{escaped(said)}</p>" for said in (warning, since) if said)
     yield from listed(list(cbi_told.alone(view)))
     yield "</header>"
 

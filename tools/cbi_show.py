@@ -133,9 +133,10 @@ def formatted(view: cbi_rows.View, form: str, every: bool = False, to_file: bool
 
 
 def write(lines: Iterator[str], path: str) -> None:
-    """Writes a file, which is there whole or not at all; what is no plain file, as a pipe, takes it as it comes."""
+    """Writes a file, which is there whole or not at all; what is no plain file, as a pipe, and what stands where no other may, takes it as it comes."""
     text = "".join(line + "\n" for line in lines)
-    target = path if os.path.exists(path) and not os.path.isfile(path) or os.path.islink(path) else path + ".part"
+    direct = os.path.islink(path) or os.path.exists(path) and not (os.path.isfile(path) and os.access(os.path.dirname(path) or ".", os.W_OK))
+    target = path if direct else path + ".part"
     try:
         with open(target, "w", encoding="utf-8", errors="backslashreplace", newline="\n") as file:
             file.write(text)

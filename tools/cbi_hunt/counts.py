@@ -1,4 +1,5 @@
 """How the runs of a hunt went, and the line of progress that says so. Not proved."""
+import os
 import sys
 import time
 from typing import Callable, Dict, List, Optional, Set
@@ -8,7 +9,8 @@ from cbi_hunt.collecting import Mark
 from cbi_hunt.kept import Kept
 from cbi_runs import Plan
 
-MINUTE = 60.0  # seconds between two lines of progress in a file
+# Seconds between two lines of progress in a file, unless the environment says others; 0 is none.
+MINUTE, OF_PROGRESS = 60, "CBI_PROGRESS"
 
 # What a run counts as: by the place of its input, its outcome and its label.
 Relabel = Callable[[int, str, str], str]
@@ -76,6 +78,8 @@ class Told:
 
     def __init__(self) -> None:
         self.wanted = sys.stderr.isatty()
+        said = os.environ.get(OF_PROGRESS, "")
+        self.apart = int(said) if said.isdigit() and said.isascii() else MINUTE
         self.shown, self.written = 0.0, time.monotonic()
 
     def show(self, line: str) -> None:
@@ -84,7 +88,7 @@ class Told:
             self.shown = time.monotonic()
             sys.stderr.write(f"\r{line}\x1b[K")
             sys.stderr.flush()
-        if not self.wanted and time.monotonic() - self.written >= MINUTE:
+        if not self.wanted and self.apart and time.monotonic() - self.written >= self.apart:
             self.written = time.monotonic()
             print(f"cbi-hunt: {line}", file=sys.stderr, flush=True)
 

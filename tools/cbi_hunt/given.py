@@ -9,8 +9,9 @@ from cbi_files import Fault
 
 LOOKED = 4096                       # bytes of a text
 ELF = b"\x7fELF"
-# What no C text has but in a string: control bytes other than tab, newline, vertical tab, form feed, carriage return, escape and ^Z.
-BINARY = bytes(byte for byte in range(32) if byte not in (9, 10, 11, 12, 13, 26, 27))
+# Control bytes that a C text hardly has: all but tab, newline, vertical tab, form feed, carriage return, ^Z and escape. One in so many bytes, or a NUL, is no text.
+CONTROL = bytes(byte for byte in range(32) if byte not in (9, 10, 11, 12, 13, 26, 27))
+MOST_CONTROL = 10
 WIDE = (codecs.BOM_UTF16_LE, codecs.BOM_UTF16_BE)
 MOST_TOLD = 5                       # lines of gcc
 
@@ -43,7 +44,7 @@ def check_text(path: str) -> None:
         raise Fault(f"{path} is an executable: name the C files that it was built from")
     if wide(data):
         raise Fault(f"{path} is UTF-16: convert it to UTF-8 (iconv -f UTF-16 -t UTF-8)")
-    if any(byte in data for byte in BINARY):
+    if b"\0" in data or MOST_CONTROL * sum(byte in CONTROL for byte in data) > len(data):
         raise Fault(f"{path} is a binary file: name a C text")
 
 
