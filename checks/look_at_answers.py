@@ -84,6 +84,13 @@ class Facts(Case):
         site = next(site for site in program.sites if site.names == ("while",))
         self.assertEqual(source.fact(site, "while is true").text(), "while is true")
 
+    def test_an_assignment_is_found_where_a_port_assigns_more(self):
+        """The port of a line gives `t` a value as well: what is given to `n` is the person's, and what is given to `t` isn't."""
+        ours, port = cbi_source.Source(["n = scanf(x);"]), cbi_source.Source(["n = (t = 1, cbi_scanf(t));"])
+        self.assertEqual([ours.same_word(1, port, [1], place) for place in (1, 4)], [1, None])
+        both = cbi_source.Source(["n += 2; n = 3;"])
+        self.assertEqual([both.same_word(1, cbi_source.Source(["t = 0; n += 2; n = 3;"]), [1], place) for place in (1, 5, 9)], [None, 1, 5])
+
     def test_long_conditions_are_clipped(self):
         self.assertEqual(cbi_source.clipped("x" * 61), "x" * 58 + "..")
         self.assertEqual(cbi_source.clipped("x" * 60), "x" * 60)
@@ -187,6 +194,15 @@ class Sections(Case):
         for runs, doubted in ((4, False), (3, True)):
             text = self.show([self.run_of(number, number <= runs, number <= runs, None) for number in range(1, 2 * runs + 1)])
             self.assertEqual((text.startswith("No fact is beyond chance."), "Perhaps by chance" in text), (doubted, doubted))
+
+    def test_a_fact_that_is_true_more_often_without_a_failure_says_so(self):
+        """`a` is true in all 20 failing runs, and in 21 or in 20 of 40 others: of 15,576 draws of 41 one has all failing ones."""
+        self.transform(TWO, "full", "branches")
+        for others, said in ((21, True), (20, False)):
+            text = self.show([self.run_of(number, number <= 20, number <= 20 + others, None) for number in range(1, 61)]).replace("\n", " ")
+            self.assertIn(f"True in all 20 failing runs that looked there, and in {others} of the 40 others that did.", text)
+            self.assertEqual("It was true more often without a failure, so it is a part of the cause at most." in text, said)
+            self.assertNotIn("Perhaps by chance", text)
 
     def test_one_other_run_is_told_as_one(self):
         self.transform(TWO, "full", "branches")
@@ -307,7 +323,8 @@ page: kept/page.html
         """Three of twelve inputs have an `a`. Of as many facts as are looked at chance alone makes some as strong, with twelve runs as with a thousand."""
         for runs in ("12", "1000"):
             out = self.hunt("--inputs", "in puts", "--expect", "due", "--runs", runs, "--rate", "2")
-            self.assertTrue(out.startswith("No fact is beyond chance.\nWhat may help:\n- More inputs that differ, also in little.\n- A smaller rate (--rate 1 looks at every visit).\n"), out)
+            self.assertTrue(out.startswith("No fact is beyond chance.\nWhat may help:\n- Only 3 inputs fail: "), out)
+            self.assertIn("\n- More inputs that differ, also in little.\n- A smaller rate (--rate 1 looks at every visit).\n- More runs (--runs): at --rate 2 ", out)
             self.assertIn("Perhaps by chance, upper.c:", out)
         self.assertRegex(" ".join(out.split()), r"about 0\.\d+ would look this strong by chance \(counted by inputs\)\.")
 

@@ -13,6 +13,7 @@ import cbi_answer  # noqa: E402
 import cbi_bugs  # noqa: E402
 import cbi_evidence  # noqa: E402
 import cbi_files  # noqa: E402
+import cbi_rows  # noqa: E402
 import cbi_seen  # noqa: E402
 import cbi_told  # noqa: E402
 import cbi_where  # noqa: E402
@@ -175,6 +176,26 @@ class Evidence(Case):
         self.assertEqual(looks.behind([0, 2], "failing"), [(1, 1, 1, 2), (1, 0, 1, 2)])
         self.assertEqual(looks.behind([0, 0], "relabel"), [(1, 1, 1, 2), (0, 2, 0, 3)])
 
+    def test_a_pair_counts_inputs(self):
+        """Of the failing input run 7 knows that line 3 isn't false; of the second one run 5 has both facts; of the third two runs know that line 2 isn't true. No run of the failing one knows both of `true` and `true`."""
+        table = table_of(TWO, self.SEVERAL)
+        looks = cbi_evidence.Looks(self.collection(self.SEVERAL), {predicate: cbi_evidence.event_of(table, predicate) for predicate in (0, 2, 3)}, 3)
+        self.assertEqual(looks.both(0, 3), (0, 1, 1, 2))
+        self.assertEqual(looks.both(0, 2), (0, 0, 0, 2))
+
+    def test_more_runs_of_an_input_make_no_pair_surer(self):
+        """Ten runs of one failing input and ten of another: by runs one draw of 184756 has it so, by inputs one of two, and two pairs were counted, so one by chance."""
+        runs = [run_of(number, number % 2, s0=YES if number % 2 else NO, s1=YES) for number in range(1, 21)]
+        where = cbi_where.one_file("a.c", ["", "if (a);", "if (b);"])
+        row = cbi_files.Row(1, 1, "branches", "main", 2, "if is false", 1, 9, 10, 10, 0, 0, 0, 1)
+        pair = cbi_files.Pair(2, cbi_files.Side(0, "main", 2, "if is true"), cbi_files.Side(2, "main", 3, "if is true"), 10, 0, 10, 10, 1000000)
+        wording = cbi_wording.Wording(None, TWO, where)
+        for inputs, due in ((2, (1, 0, 1, 1)), (None, None), (20, None)):
+            seen = cbi_seen.seen_in(self.collection(runs), TWO, cbi_seen.Asked([], where, inputs, pair=(0, 2)))
+            self.assertEqual(seen.both, due)
+            shown = cbi_rows.pair_of(pair, cbi_files.Ranking([row], None), wording, seen.both)
+            self.assertEqual(shown is None, inputs == 2)
+
     def seen(self, runs, inputs, rows=()):
         where = cbi_where.one_file("a.c", ["", "if (a);", "if (b);"])
         return cbi_seen.seen_in(self.collection(runs), TWO, cbi_seen.Asked(list(rows), where, inputs))
@@ -232,7 +253,7 @@ int main(void) { return f(1, 2); }
 """
 
     def test_lines_that_run_only_where_a_condition_is_true(self):
-        """By hand: lines 4 and 5; where it is false line 6 on, of which the else-if itself is the first."""
+        """By hand: lines 4 and 5; where it is false line 6 on, of which the else-if itself is the first. What stands behind a `return` runs only where its condition is false."""
         self.transform(self.TEXT, "full", "branches")
         program = cbi_files.read_program(self.path("prog.cbi"))
         lines = self.TEXT.split("\n")
@@ -243,7 +264,7 @@ int main(void) { return f(1, 2); }
                 only = wording.only_at(site, text)
                 if only:
                     found[site.line, site.names[0], text.split(" ")[-1]] = list(only)
-        self.assertEqual(found, {(3, "if", "true"): [4, 5], (3, "if", "false"): [6, 7, 8, 9], (6, "if", "true"): [7], (6, "if", "false"): [9], (10, "while", "true"): [12]})
+        self.assertEqual(found, {(3, "if", "true"): [4, 5], (3, "if", "false"): [6, 7, 8, 9], (6, "if", "true"): [7], (6, "if", "false"): [9], (10, "while", "true"): [12], (13, "if", "false"): [14, 15, 16]})
 
 
 # The third function of a table adds one too many.

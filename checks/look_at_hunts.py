@@ -16,6 +16,9 @@ from cbi_hunt.kept import missing_batches  # noqa: E402
 from cbi_hunted import Sample as Told  # noqa: E402
 from cbi_runs import Batch  # noqa: E402
 
+FEW = "Only 1 input fails: --neighbours 200 makes and judges inputs near the smallest of them."
+FEW_EXPECTED = "Only 1 input fails: with an oracle in place of expected outputs, --neighbours 200 makes and judges inputs near the smallest of them."
+
 
 class Hunt(Hunting):
     def report_by_hand(self, run, name, program, rate=5):
@@ -154,14 +157,15 @@ class Hunt(Hunting):
         """The program does the same with both inputs, and one is called wrong. At rate 1 each visit is looked at, and each run on an input is the same."""
         for name, text in (("few/1", "b"), ("few/2", "c"), ("wanted/1", "X"), ("wanted/2", "C"), ("not_b.py", "import sys\nsys.exit(open(sys.argv[1]).read() == 'b')\n")):
             self.write(name, text)
-        for words, due in ((["--oracle", "python3 not_b.py"], ["More inputs that differ, also in little (--mutate N makes them)."]),
-                           (["--expect", "wanted"], ["More inputs that differ, also in little."]),
+        for words, due in ((["--oracle", "python3 not_b.py"], [FEW, "More inputs that differ, also in little (--mutate N makes them)."]),
+                           (["--expect", "wanted"], [FEW_EXPECTED, "More inputs that differ, also in little."]),
                            (["--expect", "wanted", "--rate", "1000", "--schemes", "returns"],
-                            ["More inputs that differ, also in little.", "A smaller rate (--rate 1 looks at every visit).", "More runs (--runs), of which each has other countdowns.",
+                            [FEW_EXPECTED, "More inputs that differ, also in little.", "A smaller rate (--rate 1 looks at every visit).",
+                             "More runs (--runs): at --rate 1000 a fact that occurs once in an input is seen by 1 run of it with 0.1 %, and by 2995 with 95 % (--runs 5990).",
                              "All kinds of sites: leave --schemes out."])):
             out = self.hunt("--inputs", "few", *words, due=1)
             self.assertTrue(out.startswith("No fact is beyond chance.\nWhat may help:\n- "), out)
-            self.assertEqual([line[2:] for line in out.split("\n") if line.startswith("- ")], due)
+            self.assertEqual([line.replace("\n  ", " ") for line in re.findall(r"^- (.*(?:\n  .*)*)$", out, re.MULTILINE)], due)
             self.assertIn("\nsmallest failing input, 1 (1 byte): b\n", out)
 
     def test_crashes_fail_by_themselves(self):

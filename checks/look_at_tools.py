@@ -14,7 +14,7 @@ import unittest
 
 sys.dont_write_bytecode = True
 import looking  # noqa: E402
-from looking import EXAMPLES, HOUSE, TOOLS, TOP, Case, environment, sources  # noqa: E402
+from looking import EXAMPLES, HOUSE, SCRIPTS, TOOLS, TOP, Case, environment, sources  # noqa: E402
 from look_at_answers import Answer, Facts, Hangs, Numbers, Sections  # noqa: E402,F401: their cases are among those that are looked at
 from look_at_broken import Loops, Marks, Memory, Outputs, Traps  # noqa: E402,F401
 from look_at_bugs import Bugs, Evidence, PortedFacts, Words  # noqa: E402,F401
@@ -24,7 +24,11 @@ from look_at_given import Traps as TrapWords  # noqa: E402,F401
 from look_at_hunts import Hunt, Sample  # noqa: E402,F401
 from look_at_inputs import Folders, Mutants, Oracles, Smaller  # noqa: E402,F401
 from look_at_lists import Listed, Retold, Without  # noqa: E402,F401
+from look_at_manual import Manual  # noqa: E402,F401
+from look_at_neighbours import Changes, Neighbours  # noqa: E402,F401
 from look_at_pages import Pages, Sarif, Style, sound  # noqa: E402,F401
+from look_at_rates import Rates  # noqa: E402,F401
+from look_at_reach import Flows, Reached, Reaches  # noqa: E402,F401
 from look_at_screens import Screens  # noqa: E402,F401
 from look_at_signals import Signals  # noqa: E402,F401
 from look_at_since import Since  # noqa: E402,F401
@@ -38,7 +42,6 @@ import cbi_files  # noqa: E402
 import cbi_rows  # noqa: E402
 import cbi_source  # noqa: E402
 
-SCRIPTS = ("cbi-hunt", "cbi-show", "cbi-explain", "cbi-port")
 HEADER = "rank,predicate,scheme,function,line,text,f,s,fobs,sobs,failure,context,increase,importance\n"
 
 
@@ -421,65 +424,6 @@ class Show(Case):
         self.assertEqual(lines[7], "site 7, line 5, main: what `getchar` returns, beside 0; predicates 42 to 47, `getchar < 0` to `getchar != 0`")
         self.assertEqual(self.show("--sites", "prog.cbi", "8", "12"), "site 8, line 6, main: whether the condition of `while` is true; predicates 48 to 49, `while is true` to `while is false`\n"
                          "site 12, line 7, main: the new value of `y` beside the constant `0`; predicates 68 to 73, `y < 0` to `y != 0`\n")
-
-
-class Manual(Case):
-    def options_of(self, text):
-        return set(re.findall(r"--[a-z]+(?:-[a-z]+)*", text))
-
-    def test_the_page_is_sound(self):
-        if not shutil.which("mandoc"):
-            self.skipTest("there is no mandoc here")
-        self.assertEqual(self.call("mandoc", "-Tlint", "-Wstyle", os.path.join(TOP, "docs", "cbi.1")), ("", ""))
-
-    def test_the_page_has_each_command_and_option(self):
-        with open(os.path.join(TOP, "docs", "cbi.1"), encoding="utf-8") as file:
-            page = file.read()
-        with open(os.path.join(TOP, "docs", "COMMANDS.md"), encoding="utf-8") as file:
-            commands = file.read().split("\n## ")[0]
-        for option in self.options_of(commands) - {"--name"}:
-            self.assertRegex(page, rf"\bFl Fl {option[2:]}\b")
-        for command in re.findall(r"^\| `([a-z]+) ", commands, re.MULTILINE):
-            self.assertIn(f"\n.It Ic {command} ", page)
-        for script in SCRIPTS:
-            self.assertIn(script, page)
-
-    def test_completions_offer_each_option(self):
-        completions = os.path.join(TOOLS, "completions")
-        for script in SCRIPTS:
-            options = set(re.findall(r"^  (?:-h, )?(--[a-z-]+)", self.call(script, "--help")[0], re.MULTILINE)) | {"--help"}
-            for name in ("cbi.bash", "_cbi"):
-                with open(os.path.join(completions, name), encoding="utf-8") as file:
-                    self.assertEqual(options - self.options_of(file.read()), set(), f"{script} in {name}")
-            with open(os.path.join(completions, "cbi.fish"), encoding="utf-8") as file:
-                offered = {"--" + name for named, name in re.findall(r"^ *complete -c (\S+) .*?-l ([a-z-]+)", file.read(), re.MULTILINE) if named in (script, "$script")}
-            self.assertEqual(options - offered, set(), f"{script} in cbi.fish")
-
-    def completed(self, *words):
-        """What bash offers behind these words."""
-        asked = " ".join(f"'{word}'" for word in words)
-        script = (f". '{TOOLS}/completions/cbi.bash'; COMP_WORDS=({asked}); COMP_CWORD={len(words) - 1}; "
-                  f"named=$(complete -p {words[0]} | sed 's/.*-F \\([^ ]*\\) .*/\\1/'); $named; printf '%s\\n' \"${{COMPREPLY[@]}}\"")
-        return set(self.call("bash", "-c", script)[0].split())
-
-    def test_bash_offers_what_fits(self):
-        self.assertEqual(self.completed("cbi", ""), {"transform", "run", "bank", "collect", "runs", "rank", "pairs", "cards", "session", "widen", "study"})
-        self.assertEqual(self.completed("cbi", "transform", "--mode", ""), {"plain", "full", "sampled"})
-        self.assertEqual(self.completed("cbi", "rank", "--p"), {"--policy"})
-        self.assertEqual(self.completed("cbi", "session", "--p"), {"--program", "--policy"})
-        self.assertEqual(self.completed("cbi", "widen", "--"), {"--whole", "--part"})
-        self.assertEqual(self.completed("cbi", "runs", "--"), {"--inputs", "--expect", "--rate", "--seed", "--first", "--turns"})
-        self.assertEqual(self.completed("cbi-show", "--format", "s"), {"sarif"})
-        self.assertEqual(self.completed("cbi-port", "--memory", ""), {"auto", "cells", "bytes"})
-        if shutil.which("zsh"):
-            self.call("zsh", "-n", os.path.join(TOOLS, "completions", "_cbi"))
-
-    def test_fish_offers_what_fits(self):
-        if not shutil.which("fish"):
-            self.skipTest("there is no fish here")
-        for line, due in (("cbi ru", {"run", "runs"}), ("cbi runs --f", {"--first"}), ("cbi transform --mode ", {"plain", "full", "sampled"}), ("cbi-hunt --hangs ", {"neither", "fail"}), ("cbi-show --format s", {"sarif"}), ("cbi-port --memory b", {"bytes"})):
-            out, _ = self.call("fish", "--no-config", "-c", f"source {TOOLS}/completions/cbi.fish; complete -C '{line}'")
-            self.assertEqual({found.split("\t")[0] for found in out.split("\n") if found}, due, line)
 
 
 class Result(unittest.TextTestResult):

@@ -18,6 +18,7 @@ TOP = os.path.dirname(os.path.dirname(os.path.abspath(__file__)))
 TOOLS = os.path.join(TOP, "tools")
 HOUSE = os.path.join(TOP, "house")
 EXAMPLES = os.path.join(TOP, "examples")
+SCRIPTS = ("cbi-hunt", "cbi-show", "cbi-explain", "cbi-port")
 # The executable, which look_at_tools is called with.
 CBI = ""
 

@@ -2,11 +2,14 @@
 
 Each is joined with its line of the source, in the words that stand there; what only the code has that a port added is left out, and counted.
 """
-from typing import Dict, Iterable, List, NamedTuple, Optional, Tuple
+import heapq
+from typing import Dict, Iterable, Iterator, List, NamedTuple, Optional, Tuple
 
-from cbi_bugs import Bug, Found, Table, strength_of
+from cbi_bugs import KINDS, Bug, Found, Order, Table, order_of, strength_of
 from cbi_evidence import DOUBT
 from cbi_seen import Seen
+from cbi_source import Fact, clipped
+from cbi_where import Spot
 from cbi_wording import Told, Wording
 
 MOST_ALSO = 3      # further places of a bug
@@ -17,9 +20,10 @@ APART = 3          # lines of a function of which one is shown
 
 
 class Stated(NamedTuple):
-    """A predicate with its counts, in words."""
+    """A predicate with its counts, in words; of a branch the statements without a site that it leads to."""
     found: Found
     told: Told
+    leads: Tuple[Spot, ...] = ()
 
 
 class BugShown(NamedTuple):
@@ -131,10 +135,42 @@ def bug_shown(bug: Bug, expected: float, seen: Seen, wording: Wording, whole: bo
     lead = stated(bug.leader, wording)
     if lead is None:
         return None
+    lead = with_leads(lead, wording)
     also = apart([lead, *in_words(bug.also, wording)], MOST_ALSO + 1)[1:]
     site = wording.site(bug.leader.predicate)
     only = [line for line in wording.only_at(site, bug.leader.text) if line != lead.told.spot.line] if site else []
     return BugShown(0, lead, bug.live, bug.runs, expected, also, way_to(bug, lead, also, seen, wording, whole), only, seen.endings_of(bug.runs))
+
+
+# Statements without a site
+
+def with_leads(said: Stated, wording: Wording) -> Stated:
+    return said._replace(leads=tuple(one.spot for one in wording.reach().led().get(said.found.predicate, [])))
+
+
+def suspicious(seen: Seen, wording: Wording) -> Iterator[Stated]:
+    """The lines that go with failing, the strongest first: those with a site by their best fact; and behind each that is as strong those without one, by the branch that leads to them."""
+    failing, successful = seen.bugs.failing, seen.bugs.successful
+
+    def order(said: Stated) -> Order:
+        found = said.found
+        return order_of((found.a, found.b, found.c, found.d), failing, successful, KINDS[seen.table.sites[found.predicate].scheme], found.predicate)
+
+    own = (with_leads(said, wording) for said in in_words(seen.lines.lines, wording))
+    return heapq.merge(own, sorted(reached(seen, wording), key=order), key=order)
+
+
+def reached(seen: Seen, wording: Wording) -> Iterator[Stated]:
+    """Of each branch the first statement that it leads to and that is further away than what is told with it."""
+    for predicate, led in wording.reach().led().items():
+        site, counts = seen.table.sites[predicate], seen.table.counts_of(predicate)
+        strength = strength_of(counts[0], counts[1], seen.bugs.failing, seen.bugs.successful)
+        told = wording.told(site, wording.numbered[predicate][1]) if strength and site.number not in seen.table.left_out else None
+        far = [one for one in led if told and (one.spot.file != told.spot.file or abs(one.spot.line - told.spot.line) > APART)]
+        if told and far:
+            at = f" at {wording.where.named(told.spot)}" if told.fact.code else ""
+            fact = Fact(clipped((wording.where.text(far[0].spot) or "").strip()), f"runs only where {told.fact.past()}{at}")
+            yield Stated(Found(predicate, site.function, site.line, *counts, strength, wording.numbered[predicate][1]), Told(fact, far[0].spot, far[0].function))
 
 
 def left_out_of(table: Table) -> int:
@@ -146,5 +182,5 @@ def answer_of(seen: Seen, wording: Wording) -> Answer:
     whole = sum(seen.inputs) == seen.totals.failing + seen.totals.successful
     shown = [bug_shown(bug, expected, seen, wording, whole) for bug, expected in zip(seen.bugs.bugs, seen.bug_chances)]
     bugs = [bug._replace(number=number) for number, bug in enumerate((bug for bug in shown if bug), 1)]
-    lines = apart(in_words(seen.lines.lines, wording), MOST_LINES)
+    lines = apart(suspicious(seen, wording), MOST_LINES)
     return Answer(bugs, lines, seen.bugs.failing, seen.bugs.successful, seen.inputs, seen.observed, left_out_of(seen.table))

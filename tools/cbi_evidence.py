@@ -94,6 +94,18 @@ class Looks:
                 sets[0 if run.failed else 1].add(run.input)
         return Evidence(*map(len, sets))
 
+    def both(self, left: Hashable, right: Hashable) -> Evidence:
+        """By inputs, that two events were so in one run, among the inputs of which a run says whether they were: both, or one that was looked for and wasn't so."""
+        pair = self.bits[left] | self.bits[right]
+        sets: List[Set[int]] = [set(), set(), set(), set()]
+        for run in self.runs:
+            true = run.true & pair == pair
+            if true or run.seen & ~run.true & pair:
+                sets[2 if run.failed else 3].add(run.input)
+            if true:
+                sets[0 if run.failed else 1].add(run.input)
+        return Evidence(*map(len, sets))
+
     def without(self, taken: Set[int]) -> List[Looked]:
         return [run for run in self.runs if run.run not in taken]
 

@@ -65,7 +65,8 @@ class Since(NamedTuple):
 
 class Hunted(NamedTuple):
     """How a hunt was made. `names` are those of the failing inputs by their places, of which there are `inputs`, and `files` how these can be opened; `notes` sum the hunt up. `folder` is
-    where it was made: paths are relative to it. `examples` has a failing run for each bug, or one alone where there is no bug, and `helps` what may help where facts are weak; a `warning` is told first."""
+    where it was made: paths are relative to it. `examples` has a failing run for each bug, or one alone where there is no bug, and `helps` what may help where facts are weak; a `warning` is told first.
+    Behind the first `own` inputs stand neighbours of a failing one; it is 0 where there are none."""
     command: str
     version: str
     date: str
@@ -91,6 +92,7 @@ class Hunted(NamedTuple):
     by_status: bool = False
     warning: str = ""
     since: Optional[Since] = None
+    own: int = 0
 
     def example_of(self, bug: int) -> Optional[Example]:
         """The failing run of a bug, by its number."""
@@ -98,6 +100,10 @@ class Hunted(NamedTuple):
 
     def place_of(self, run: int) -> int:
         return (run - 1) % self.inputs
+
+    def neighbours_of(self, runs: List[int]) -> int:
+        """On how many neighbours these runs are."""
+        return sum(place >= self.own for place in set(map(self.place_of, runs))) if self.own else 0
 
     def weighed(self, failing: int, successful: int) -> Tuple[int, int]:
         """As many ranked runs as numbers that stand to each other as these do among all runs. Under `relabel` failing runs come to count as successful ones, so

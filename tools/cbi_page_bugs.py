@@ -7,6 +7,7 @@ from typing import Iterator, List, Set, Tuple
 import cbi_told
 from cbi_answer import BugShown, Stated
 from cbi_highlight import escaped, highlighted
+from cbi_reach import named_lines
 from cbi_rows import View
 from cbi_source import Fact
 from cbi_told import capital
@@ -196,4 +197,5 @@ def suspicious(view: View, here: Set[Spot]) -> Iterator[str]:
 def suspicion(said: Stated, view: View) -> str:
     found, told = said.found, view.answer
     of = f" of {told.failing} failing, {found.b} of {told.successful} others" if told else ""
+    of += f"; leads to {escaped(named_lines(said.leads, view.where))}" if said.leads else ""
     return f'{fact(said.told.fact, True)} <span class="quiet">{found.a}{of}</span>'

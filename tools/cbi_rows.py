@@ -9,7 +9,7 @@ import re
 from typing import Dict, Iterable, List, NamedTuple, Optional, Set
 
 from cbi_answer import Answer, answer_of
-from cbi_evidence import by_chance
+from cbi_evidence import Evidence
 from cbi_files import Card, Fault, Pair, Program, Ranking, Row
 from cbi_hunted import Hunted, Sample
 from cbi_seen import Asked, Seen, Totals, Truth, seen_in
@@ -241,17 +241,18 @@ def totals_of(ranking: Ranking, seen: Optional[Seen]) -> Optional[Totals]:
     return None
 
 
-def pair_of(pair: Optional[Pair], ranking: Ranking, wording: Wording) -> Optional[PairShown]:
+def pair_of(pair: Optional[Pair], ranking: Ranking, wording: Wording, inputs: Optional[Evidence]) -> Optional[PairShown]:
     """The best pair, where it says clearly more than the first row, and more than chance alone would make one of so many pairs say.
 
-    One of the first row with another fact that leaves none of its runs out says no more than the row itself.
+    One of the first row with another fact that leaves none of its runs out says no more than the row itself. Where inputs have several runs it is they that count for chance.
     """
     if pair is None or not ranking.rows or pair.importance < ranking.rows[0].importance + PAIR_ABOVE:
         return None
     first = ranking.rows[0]
     if first.predicate in (pair.left.predicate, pair.right.predicate) and (pair.failing, pair.successful) == (first.f, first.s):
         return None
-    if pair.tried * by_chance(pair.failing, pair.successful, pair.known_failing, pair.known_successful) >= 1:
+    evidence = inputs or Evidence(pair.failing, pair.successful, pair.known_failing, pair.known_successful)
+    if pair.tried * evidence.by_chance() >= 1:
         return None
     facts = []
     for side in (pair.left, pair.right):
@@ -278,7 +279,7 @@ def view_of(ranking: Ranking, given: Given) -> View:
     rows = {row.predicate: row for row in ranking.rows}
     wording, parts = Wording(given.source, given.program, given.where), bodies(given.source) if given.source else None
     asked = Asked(ranking.rows, given.where, given.hunted.inputs if given.hunted else None, given.hunted.policy if given.hunted else "all", wording.left_out(),
-                  bool(given.hunted and given.hunted.by_status))
+                  bool(given.hunted and given.hunted.by_status), (given.pair.left.predicate, given.pair.right.predicate) if given.pair else ())
     seen = seen_in(given.collection, given.program, asked) if given.collection and given.program else None
     most = max((row.f + row.s for row in ranking.rows), default=0)
     shown = [shown_of(row, most, given, wording, seen, rows) for row in ranking.rows]
@@ -290,7 +291,7 @@ def view_of(ranking: Ranking, given: Given) -> View:
     if not leading and weak:
         leading, weak = weak[:1], weak[1:]
     return View(given.where, totals_of(ranking, seen), answer_of(seen, wording) if seen else None, grouped(leading), apart, zero, weak, added, bool(given.cards), seen,
-                pair_of(given.pair, ranking, wording), given.hunted)
+                pair_of(given.pair, ranking, wording, seen.both if seen else None), given.hunted)
 
 
 def shown_of(row: Row, most: int, given: Given, wording: Wording, seen: Optional[Seen], rows: Dict[int, Row]) -> Shown:

@@ -29,7 +29,7 @@ NO_SPACE, NO_ROOM, PROBE = "no space left in", (errno.ENOSPC, errno.EDQUOT), byt
 
 
 class Plan(NamedTuple):
-    """What a run is made with, whatever its number."""
+    """What a run is made with, whatever its number. Of the inputs so many are the hunt's own, and behind them stand neighbours of a failing one; 0 where all are."""
     cbi: str
     program: str
     rate: int
@@ -43,6 +43,10 @@ class Plan(NamedTuple):
     patience: int = 10
     hangs: bool = False
     status: bool = False
+    own: int = 0
+
+    def is_neighbour(self, place: int) -> bool:
+        return 0 < self.own <= place
 
     def input_of(self, run: int) -> int:
         """The place of a run's input: the inputs in turn, again and again."""

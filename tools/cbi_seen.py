@@ -46,7 +46,8 @@ class Place(NamedTuple):
 
 
 class Seen(NamedTuple):
-    """`observed` is how many facts were looked at; `chances` has for each row, and `bug_chances` for each bug, how many of these chance alone would make look as strong."""
+    """`observed` is how many facts were looked at; `chances` has for each row, and `bug_chances` for each bug, how many of these chance alone would make look as strong. `both` is the evidence of
+    the pair that is asked of, by inputs, where these have several runs."""
     totals: Totals
     endings: Dict[Tuple[str, str], int]
     truths: Dict[int, Truth]
@@ -57,6 +58,7 @@ class Seen(NamedTuple):
     lines: Lines
     chances: Dict[int, float]
     bug_chances: List[float]
+    both: Optional[Evidence]
     outcomes: Dict[int, str]
     inputs: Tuple[int, int]
 
@@ -69,14 +71,15 @@ class Seen(NamedTuple):
 
 
 class Asked(NamedTuple):
-    """What is asked of a collection: the rows, whose the lines are, how many inputs the runs are of, where that is known, what is done with the runs of a row, which sites aren't looked at, and whether an exit
-    status other than 0 fails."""
+    """What is asked of a collection: the rows, whose the lines are, how many inputs the runs are of, where that is known, what is done with the runs of a row, which sites aren't looked at, whether an exit
+    status other than 0 fails, and the two predicates of a pair."""
     rows: List[Row]
     where: Where
     inputs: Optional[int] = None
     policy: str = "all"
     left_out: FrozenSet[int] = frozenset()
     by_status: bool = False
+    pair: Tuple[int, ...] = ()
 
 
 def ending_of(outcome: str, by_status: bool = False) -> str:
@@ -129,13 +132,14 @@ def seen_in(collection: str, program: Program, asked: Asked) -> Seen:
     places = often(reading)
     looks: Optional[Looks] = None
     if asked.inputs and reading.several():
-        events: Dict[Hashable, Event] = {predicate: event_of(table, predicate) for predicate in rows + [bug.leader.predicate for bug in bugs.bugs]}
+        events: Dict[Hashable, Event] = {predicate: event_of(table, predicate) for predicate in [*rows, *(bug.leader.predicate for bug in bugs.bugs), *asked.pair]}
         events.update({place: event_at(reading.sites_at(place)) for place in places[:MOST_LOOKED]})
         looks = Looks(collection, events, asked.inputs)
     truths = {predicate: truth_of(table, predicate, runs, reading.outcomes) for predicate, runs in table.runs_with(rows).items()}
     chances = [reading.observed * one.by_chance() for one in looks.behind(list(rows), asked.policy)] if looks else [expected_by_chance(row, reading.observed) for row in asked.rows]
     return Seen(reading.totals, dict(reading.endings), truths, told_places(places, reading, looks), reading.observed, table, bugs, lines,
-                dict(zip(rows, chances)), [reading.observed * one.by_chance() for one in evidence_of(bugs, looks)], reading.outcomes,
+                dict(zip(rows, chances)), [reading.observed * one.by_chance() for one in evidence_of(bugs, looks)],
+                looks.both(*asked.pair) if looks and asked.pair else None, reading.outcomes,
                 (len(reading.inputs[0]), len(reading.inputs[1])))
 
 

@@ -130,23 +130,6 @@ class Source:
             place = self.partner[place] + 1 if self.word(place) in OPENING and place in self.partner else place + 1
         return place + 1
 
-    def block_of(self, place: int, truth: str) -> range:
-        """The lines of the statement that a condition guards, which runs only where it has this truth; those of the condition itself aren't among them."""
-        word, close = self.word(place), self.partner.get(place + 1, -1)
-        if word not in ("if", "while", "for") or close < 0 or word != "if" and truth != "true":
-            return range(0)
-        first, behind = close + 1, self.end_of_statement(close + 1)
-        if truth == "false":
-            if self.word(behind) != "else":
-                return range(0)
-            first, behind = behind + 1, self.end_of_statement(behind + 1)
-        last = behind - 1
-        if self.word(first) == "{":
-            first, last = first + 1, last - 1
-        if first > last or last >= len(self.tokens):
-            return range(0)
-        return range(max(self.tokens[first].line, self.tokens[close].line + 1), self.tokens[last].line + 1)
-
     def called_by_pointer(self, place: int) -> str:
         """The call of a function of the port that stands for one by a pointer, as it was: `cbi_call_1(table[k], a)` is `table[k](a)`."""
         close = self.partner.get(place + 1, place)
@@ -225,6 +208,9 @@ class Source:
         if not ours and word.startswith(OF_PORT):
             ours = [at for at, token in enumerate(self.tokens) if token.line == line and token.text == word[len(OF_PORT):]]
         theirs = [at for at, token in enumerate(other.tokens) if token.line in lines and token.text == word]
+        if len(ours) != len(theirs) and word in ASSIGNMENTS:
+            # A port may assign more on a line than the person did: only what is given to the same variable is compared.
+            ours, theirs = ([at for at in found if text.word(at - 1) == other.word(place - 1)] for text, found in ((self, ours), (other, theirs)))
         return ours[theirs.index(place)] if len(ours) == len(theirs) and place in theirs else None
 
     def case_on(self, line: int) -> Optional[str]:

@@ -6,6 +6,7 @@ import cbi_broke
 from cbi_answer import BugShown, Stated
 from cbi_files import count_of, ending_said, share, visible
 from cbi_hunted import Example, File, Hanging
+from cbi_reach import MOST_NAMED, named_lines
 from cbi_rows import PAIR_ABOVE, Near, PairShown, Shown, View
 from cbi_seen import MOST_PLACES, Place, Totals
 from cbi_where import Spot, Where
@@ -59,11 +60,31 @@ def headline(view: View) -> str:
     strong = answer.strong()
     runs = [run for bug in strong for run in bug.runs]
     explained, failing = (len(set(map(hunted.place_of, runs))), answer.inputs[0]) if hunted and not view.sample() else (len(runs), answer.failing)
+    if hunted and hunted.own and not view.sample():
+        return f"{bugs_said(view)} {explained_with_neighbours(view, runs)}."
     left = f"; {failing - explained} {'is' if failing - explained == 1 else 'are'} left over" if explained < failing else ""
     every = answer.failing + answer.successful
     of = f"{every} ranked runs" if view.sample() else f"{every} runs" + (f" on {sum(answer.inputs)} inputs" if answer.several() else "") if hunted is None or answer.several() else f"{every} inputs"
-    bugs = count_of(len(strong), "bug") + (", perhaps fewer," if any(same_as(bug, view) for bug in strong) else "")
-    return f"{bugs} {'explains' if len(strong) == 1 else 'explain'} {part_of(explained, failing, 'failing ' + unit(view))}{left} ({of})."
+    return f"{bugs_said(view)} {part_of(explained, failing, 'failing ' + unit(view))}{left} ({of})."
+
+
+def bugs_said(view: View) -> str:
+    """`1 bug explains`, `2 bugs, perhaps fewer, explain`."""
+    strong = view.answer.strong() if view.answer else []
+    fewer = ", perhaps fewer," if any(same_as(bug, view) for bug in strong) else ""
+    return f"{count_of(len(strong), 'bug')}{fewer} {'explains' if len(strong) == 1 else 'explain'}"
+
+
+def explained_with_neighbours(view: View, runs: List[int]) -> str:
+    """Of the hunt's own failing inputs, and of failing neighbours, how many these runs are on."""
+    answer, hunted = view.answer, view.hunted
+    if answer is None or hunted is None:
+        return ""
+    near, own = hunted.neighbours_of(runs), len(hunted.names)
+    explained, neighbours = len(set(map(hunted.place_of, runs))) - near, answer.inputs[0] - own
+    of = f"{count_of(hunted.own, 'input')}, {count_of(hunted.inputs - hunted.own, 'neighbour')}"
+    beside = f" and {part_of(near, neighbours, 'failing neighbour')}" if neighbours else ""
+    return f"{part_of(explained, own, 'failing input')}{beside} ({of})"
 
 
 def letter(bug: BugShown, view: View) -> str:
@@ -108,12 +129,22 @@ def endless_first(view: View) -> Optional[str]:
 def counts_of_bug(bug: BugShown, view: View) -> str:
     """In how many failing and other runs its fact was true, of how many that looked there."""
     found, came = bug.lead.found, "came there" if view.hunted and view.hunted.rate == 1 else "looked there"
+    near = view.hunted.neighbours_of(bug.runs) if view.hunted else 0
     later = view.answer is not None and bug.live < view.answer.failing
     others = f"no other {came}" if not found.d else "not in the one other that did" if (found.b, found.d) == (0, 1) else f"in {part_of(found.b, found.d, 'other')} that did"
     missing = f" {count_of(bug.live - found.c, 'failing run')} did not {came.replace('came', 'come').replace('looked', 'look')}." if found.c < bug.live else ""
     if later:
-        return f"Of the {count_of(bug.live, 'failing run')} that no bug above explains, true in {part_of(found.a, found.c)} that {came}, and {others}.{missing}"
-    return f"True in {part_of(found.a, found.c, 'failing run')} that {came}, and {others}.{missing}"
+        return f"Of the {count_of(bug.live, 'failing run')} that no bug above explains, true in {part_of(found.a, found.c)} that {came}, and {others}.{missing}{of_neighbours(near)}{of_a_part(bug)}"
+    return f"True in {part_of(found.a, found.c, 'failing run')} that {came}, and {others}.{missing}{of_neighbours(near)}{of_a_part(bug)}"
+
+
+def of_a_part(bug: BugShown) -> str:
+    """That a fact goes with failing and is no cause by itself, where it is true without a failure more often."""
+    return " It was true more often without a failure, so it is a part of the cause at most." if bug.lead.found.b > bug.lead.found.a and not bug.weak() else ""
+
+
+def of_neighbours(near: int) -> str:
+    return f" Of these failing runs {near} {'is' if near == 1 else 'are'} on neighbours of an input." if near else ""
 
 
 def expected_of(number: float) -> str:
@@ -173,6 +204,13 @@ def excerpt(bug: BugShown, view: View, around: int = AROUND) -> List[Line]:
     return [Line(number, lines[number - 1], number == spot.line, number in bug.only) for number in range(max(1, spot.line - around), min(last, until) + 1)]
 
 
+def led_to(bug: BugShown, view: View) -> List[str]:
+    """The statements without a fact of their own that its branch leads to and that don't stand in its excerpt."""
+    shown = {line.number for line in excerpt(bug, view)}
+    far = [spot for spot in bug.lead.leads if spot.file != bug.lead.told.spot.file or spot.line not in shown]
+    return [f"{view.where.named(spot)}: {(view.where.text(spot) or '').strip()}" for spot in far[:MOST_NAMED]]
+
+
 def files_of(bug: BugShown, view: View) -> List[File]:
     return view.hunted.files_of(bug.runs) if view.hunted else []
 
@@ -195,6 +233,9 @@ def about(bug: BugShown, view: View) -> Iterator[Tuple[str, List[str]]]:
         yield f"changed since {view.hunted.since.old}", [changed]
     if bug.way:
         yield "way there", [way_step(said, view) for said in bug.way]
+    led = led_to(bug, view)
+    if led:
+        yield "leads to", led
     if bug.also:
         yield "also", [brief(said, view) for said in bug.also]
     files = files_of(bug, view)
@@ -231,7 +272,8 @@ def left_out(view: View) -> Optional[str]:
 def line_of(said: Stated, view: View) -> str:
     answer, found = view.answer, said.found
     totals = (answer.failing, answer.successful) if answer else (0, 0)
-    return f"{view.where.named(said.told.spot)}, {said.told.function}: {said.told.fact.past()} ({found.a} of {totals[0]} failing, {found.b} of {count_of(totals[1], 'other')})"
+    leads = f"; leads to {named_lines(said.leads, view.where)}" if said.leads else ""
+    return f"{view.where.named(said.told.spot)}, {said.told.function}: {said.told.fact.past()} ({found.a} of {totals[0]} failing, {found.b} of {count_of(totals[1], 'other')}){leads}"
 
 
 # Two versions

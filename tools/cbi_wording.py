@@ -3,6 +3,7 @@ import re
 from typing import Dict, FrozenSet, List, NamedTuple, Optional, Tuple
 
 from cbi_files import Program, Site
+from cbi_reach import Reach
 from cbi_source import CALL, Fact, Source, plain_fact
 from cbi_where import Spot, Where
 
@@ -27,6 +28,7 @@ class Wording:
         self.numbered = program.numbered() if program else {}
         self.program = program
         self.calls: Dict[str, List[int]] = {}
+        self.reached: Optional[Reach] = None
 
     def site(self, predicate: int) -> Optional[Site]:
         return self.numbered[predicate][0] if predicate in self.numbered else None
@@ -64,12 +66,14 @@ class Wording:
                 return Fact(case, f"is {text.split(' ')[-1]}")
         return found[0].fact_at(found[1], site, text, self.source)
 
-    def only_at(self, site: Site, text: str) -> range:
+    def only_at(self, site: Site, text: str) -> List[int]:
         """The lines of the file of the site that run only where this is true."""
-        found = self.located(site)
-        if found is None or site.scheme != "branches" or found[0] is self.source and self.files:
-            return range(0)
-        return found[0].block_of(found[1], text.split(" ")[-1])
+        return self.reach().only(site, text.endswith("true"))
+
+    def reach(self) -> Reach:
+        if self.reached is None:
+            self.reached = Reach(self.source, self.program, self.where)
+        return self.reached
 
     # What a port added
 

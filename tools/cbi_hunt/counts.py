@@ -17,7 +17,7 @@ Relabel = Callable[[int, str, str], str]
 
 
 class Count:
-    """How many runs ended how, which inputs failed, and how many site lines each run has; `relabel` may have runs count as something else than their reports say."""
+    """How many runs ended how, which inputs failed, and how many site lines each run has; `near` has those of neighbours by label; `relabel` may have runs count as something else than their reports say."""
 
     def __init__(self, plan: Plan, relabel: Optional[Relabel] = None):
         self.plan, self.relabel = plan, relabel
@@ -30,6 +30,7 @@ class Count:
         self.failing_runs: Dict[int, int] = {}
         self.hanging_inputs: Dict[int, int] = {}
         self.marks: List[Mark] = []
+        self.near: Dict[str, int] = {"fail": 0, "pass": 0, "none": 0, "cut": 0}
 
     def add(self, collection: str) -> None:
         for head in cbi_files.read_heads(collection):
@@ -44,6 +45,9 @@ class Count:
             self.failed += run.label == "fail"
             self.succeeded += run.label == "pass"
             self.neither += run.label == "none"
+            if self.plan.is_neighbour(self.plan.input_of(run.number)):
+                self.near[run.label] += 1
+                self.near["cut"] += run.outcome.startswith("cut")
             self.other_status += run.label == "pass" and cbi_files.status_of(run.outcome) != 0
             if run.label == "pass":
                 self.succeeded_inputs.add(place)
@@ -55,6 +59,10 @@ class Count:
 
     def runs(self) -> int:
         return len(self.marks)
+
+    def failing_own(self) -> List[int]:
+        """The failing inputs that are no neighbours."""
+        return [place for place in sorted(self.failing_inputs) if not self.plan.is_neighbour(place)]
 
 
 def counted(plan: Plan, kept: Kept, relabel: Optional[Relabel] = None) -> Count:

@@ -16,6 +16,7 @@ from cbi_hunt.kept import Kept, folder_of
 from cbi_hunt.looks import TOOLS, Hunt, newline_note
 from cbi_hunt.making import make_runs, processors
 from cbi_hunt.mutants import add_mutants
+from cbi_hunt.near import add_neighbours, refuse
 from cbi_hunt.oracles import oracle_of
 from cbi_hunt.room import with_room
 from cbi_hunt.showing import show
@@ -43,9 +44,11 @@ def plan_of(chosen: argparse.Namespace, kept: Kept, inputs: Inputs, cbi: str) ->
                 chosen.status == "fail")
     if chosen.mutate:
         told.append(add_mutants(chosen, plan, kept, inputs, chosen.jobs or processors()))
+    if chosen.neighbours:
+        told.append(add_neighbours(chosen, plan, kept, inputs, chosen.jobs or processors()))
     before, outputs = make_old(chosen, plan, kept.folder, inputs) if chosen.since else (None, None)
     inputs.expected = outputs or inputs.expected
-    plan = plan._replace(names=inputs.names, inputs=[os.path.abspath(path) for path in inputs.paths],
+    plan = plan._replace(own=inputs.own, names=inputs.names, inputs=[os.path.abspath(path) for path in inputs.paths],
                          expected=inputs.expected and [os.path.abspath(path) for path in inputs.expected])
     kept.settle({"program": cbi_files.read_program(program).identity, "rate": plan.rate, "seed": plan.seed, "turns": plan.turns, "parts": chosen.parts,
                  "oracle": chosen.oracle or chosen.oracle_shell, "inputs": inputs.digest(), "hangs": chosen.hangs, "status": chosen.status,
@@ -66,6 +69,8 @@ def runs_of(chosen: argparse.Namespace, plan: Plan) -> Tuple[int, List[str]]:
 def hunt(chosen: argparse.Namespace, cbi: str, folder: str) -> int:
     kept = Kept(folder)
     inputs = inputs_of(chosen, folder)
+    if chosen.neighbours:
+        refuse(inputs)
     plan, told, before = plan_of(chosen, kept, inputs, cbi)
     heed_now()
     runs, capped = runs_of(chosen, plan)

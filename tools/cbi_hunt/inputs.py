@@ -21,12 +21,13 @@ class Inputs:
 
     def __init__(self, names: List[str], paths: List[str], expected: Optional[List[str]], lines: Optional[str] = None, hidden: Sequence[str] = ()):
         self.names, self.paths, self.expected, self.lines, self.hidden = names, paths, expected, lines, list(hidden)
-        self.given = len(names)
+        self.given = self.own = len(names)
         self.places: List[int] = []
 
-    def add(self, names: List[str], paths: List[str]) -> None:
-        """Puts inputs that were made behind those that were given."""
+    def add(self, names: List[str], paths: List[str], own: bool = True) -> None:
+        """Puts inputs that were made behind those that were given. Neighbours of a failing one are no inputs of the hunt's own, and come last."""
         self.names, self.paths = self.names + names, self.paths + paths
+        self.own += len(names) if own else 0
 
     def leave_out_large(self) -> None:
         """Leaves out those that are larger than `cbi` takes; their names stay as `large`."""
@@ -37,7 +38,7 @@ class Inputs:
         self.names, self.paths = list(itertools.compress(self.names, fits)), list(itertools.compress(self.paths, fits))
         self.expected = self.expected and list(itertools.compress(self.expected, fits))
         self.places = list(itertools.compress(range(len(fits)), fits))
-        self.given = len(self.names)
+        self.given = self.own = len(self.names)
 
     def line_of(self, place: int) -> int:
         """The number of the line that an input is, where inputs are lines."""

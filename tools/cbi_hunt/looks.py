@@ -108,7 +108,9 @@ def command_for(hunt: Hunt, name: str, path: str, data: bytes, made: bool) -> st
     before, expect = expected_for(hunt, name, made)
     run = f"{script('cbi-explain')} -- {cbi} run" + (f" --turns {chosen.turns}" if chosen.turns != TURNS else "") + f"{expect} --input "
     if chosen.keep:
-        file = os.path.join(chosen.keep, "smallest") if made else os.path.join(chosen.keep, "failing", name)
+        place = hunt.inputs.names.index(name)
+        folder = "neighbours" if hunt.plan.is_neighbour(place) else "failing"
+        file = os.path.join(chosen.keep, "smallest") if made else os.path.join(chosen.keep, folder, name)
         return f"{run}{quoted(file)} {quoted(os.path.join(chosen.keep, 'plain'))}"
     compiled = f"{before}{cbi} transform --mode plain {quoted(chosen.text)} | {run}"
     if chosen.ported:
@@ -118,7 +120,7 @@ def command_for(hunt: Hunt, name: str, path: str, data: bytes, made: bool) -> st
     given = hunt.inputs.lines is None and hunt.inputs.names.index(name) < hunt.inputs.given
     if not made and given:
         return f"{compiled}{quoted(path)} -"
-    if len(data) <= MOST_PRINTED or made or hunt.inputs.lines is None:
+    if len(data) <= MOST_PRINTED or made or hunt.inputs.lines is None or hunt.inputs.names.index(name) >= hunt.inputs.given:
         return f"{printed(data)} >input; {compiled}input -"
     return f"sed -n {hunt.inputs.line_of(hunt.inputs.names.index(name))}p {quoted(hunt.inputs.lines)} >input; {compiled}input -"
 
@@ -147,12 +149,12 @@ def examples_of(hunt: Hunt, answer: Optional[Answer], program: Program) -> List[
 
 
 def example_of(hunt: Hunt, runs: List[int], bug: Optional[BugShown], program: Program) -> Optional[Example]:
-    """The smallest failing input of these runs. The one of the first bug is made smaller, where that is asked for."""
+    """The smallest failing input of these runs, a neighbour where all are of such. The one of the first bug is made smaller, where that is asked for."""
     plan, inputs = hunt.plan, hunt.inputs
     places = {plan.input_of(run): run for run in reversed(runs)}
     if not places:
         return None
-    place = min(places, key=lambda place: (os.path.getsize(inputs.paths[place]), inputs.names[place]))
+    place = min(places, key=lambda place: (plan.is_neighbour(place), os.path.getsize(inputs.paths[place]), inputs.names[place]))
     name, path, run = inputs.names[place], inputs.paths[place], places[place]
     data = cbi_files.read_bytes(path)
     plain, repeater = program_for(hunt.chosen, plan.cbi, hunt.kept, "plain"), Repeater(plan, hunt.kept.folder)

@@ -6,7 +6,7 @@ import json
 import os
 import random
 import shutil
-from typing import FrozenSet, List, Set, Tuple
+from typing import Any, Dict, FrozenSet, List, Optional, Set, Tuple
 
 import cbi_files
 from cbi_files import Fault, count_of
@@ -70,32 +70,30 @@ def sight_of(repeater: Repeater, program: str, path: str) -> Sight:
 
 
 class Made:
-    """The folder of the inputs that were made, with a note of what they were made from."""
+    """A folder of inputs that were made, with a note of what they were made from."""
 
-    def __init__(self, chosen: argparse.Namespace, kept: Kept, inputs: Inputs, program: str):
-        self.folder = kept.path("made")
-        source = hashlib.sha256(cbi_files.read_bytes(program)).hexdigest()
-        self.note = {"given": inputs.digest(), "program": source, "seed": chosen.seed, "wanted": chosen.mutate, "turns": chosen.turns}
+    def __init__(self, kept: Kept, name: str, note: Dict[str, Any]):
+        self.folder, self.note = kept.path(name), note
 
-    def there(self) -> List[str]:
-        """The names of what an earlier call made, if it is what this one would make."""
+    def there(self) -> Tuple[List[str], Dict[str, Any]]:
+        """The names of what an earlier call made, if it is what this one would make, and what was told of them."""
         path = os.path.join(self.folder, "made.json")
         if not os.path.exists(path):
-            return []
+            return [], {}
         with open(path, encoding="utf-8") as file:
             note = json.load(file)
-        names: List[str] = note.pop("names")
-        return names if note == self.note else []
+        names, about = note.pop("names"), note.pop("about", {})
+        return (names, about) if note == self.note else ([], {})
 
-    def write(self, pieces: List[bytes]) -> List[str]:
-        names = [f"made{number:0{len(str(len(pieces)))}}" for number in range(1, len(pieces) + 1)]
+    def write(self, pieces: List[bytes], word: str, about: Optional[Dict[str, Any]] = None) -> List[str]:
+        names = [f"{word}{number:0{len(str(len(pieces)))}}" for number in range(1, len(pieces) + 1)]
         shutil.rmtree(self.folder, ignore_errors=True)
         os.makedirs(self.folder)
         for name, data in zip(names, pieces):
             with open(os.path.join(self.folder, name), "wb") as file:
                 file.write(data)
         with open(os.path.join(self.folder, "made.json"), "w", encoding="utf-8") as file:
-            json.dump({**self.note, "names": names}, file)
+            json.dump({**self.note, "names": names, "about": about or {}}, file)
         return names
 
 
@@ -145,13 +143,14 @@ def add_mutants(chosen: argparse.Namespace, plan: Plan, kept: Kept, inputs: Inpu
     if inputs.expected:
         raise Fault("--mutate asks for an oracle, or for runs that trap: nothing says what the program should write on an input that is made")
     program = program_for(chosen, plan.cbi, kept, "full")
-    made = Made(chosen, kept, inputs, program)
-    names, how = made.there(), "as an earlier call made them"
+    source = hashlib.sha256(cbi_files.read_bytes(program)).hexdigest()
+    made = Made(kept, "made", {"given": inputs.digest(), "program": source, "seed": chosen.seed, "wanted": chosen.mutate, "turns": chosen.turns})
+    names, how = made.there()[0], "as an earlier call made them"
     if not names:
         given = [cbi_files.read_bytes(path) for path in inputs.paths]
         maker = Maker(plan, kept, program, jobs)
         pieces, tries = maker.make(given, chosen.mutate, random.Random(f"{chosen.seed} {chosen.mutate}"), Told())
         shutil.rmtree(maker.folder)
-        names, how = made.write(pieces), f"in {count_of(tries, 'try', 'tries')}"
+        names, how = made.write(pieces, "made"), f"in {count_of(tries, 'try', 'tries')}"
     inputs.add(names, [os.path.join(made.folder, name) for name in names])
     return f"{count_of(len(names), 'input')} more made from {inputs.given}, {how}" + ("" if len(names) == chosen.mutate else f"; {chosen.mutate} were asked for, and no more saw anything new")

@@ -29,12 +29,13 @@ def date_of() -> str:
 def facts_of(hunt: Hunt, program: cbi_files.Program, notes: List[str], said: str, warning: Optional[str]) -> Hunted:
     """How the hunt was made."""
     chosen = hunt.chosen
-    names = {place: hunt.inputs.names[place] for place in hunt.count.failing_inputs}
+    names = {place: hunt.inputs.names[place] for place in hunt.count.failing_own()}
     files = {place: file for place, file in ((place, file_of(hunt, place)) for place in names) if file}
     return Hunted(chosen.command, cbi_files.VERSION, date_of(), chosen.text, hashlib.sha256(cbi_files.read_bytes(hunt.kept.path("source.c"))).hexdigest(), program.identity,
                   chosen.seed, chosen.rate, hunt.count.runs(), chosen.turns, chosen.policy, chosen.hangs == "fail", len(hunt.inputs.names), names, notes, said, [],
                   sample=hunt.sample, folder=os.getcwd(), files=files, helps=helps(hunt), by_status=hunt.plan.status, warning=warning or "",
-                  since=since_of(chosen, hunt.before, hunt.count, hunt.inputs.names) if hunt.before else None)
+                  since=since_of(chosen, hunt.before, hunt.count, hunt.inputs.names) if hunt.before else None,
+                  own=hunt.inputs.own if hunt.inputs.own < len(hunt.inputs.names) else 0)
 
 
 def rank(hunt: Hunt) -> cbi_files.Ranking:

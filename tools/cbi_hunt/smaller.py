@@ -13,7 +13,7 @@ MOST_STEPS = 3000
 
 
 class Wanted(NamedTuple):
-    """How a run is to fail: by which end, and with which counters of the one site of its program; where its status is what fails, with that status. `old` is the program of
+    """How a run is to fail: by which end, and with which counters of the one site of its program, if any; where its status is what fails, with that status. `old` is the program of
     the old version, which is not to fail, where there is one; `changed` where an output other than its own has failed."""
     program: str
     counters: Tuple[int, ...]
@@ -75,7 +75,7 @@ class Smaller:
             file.write(data)
         run = self.repeater.run(self.wanted.program, self.path)
         counters = run.sites.get(0, (0, 0, 0))
-        if ending_of(run.outcome) != self.wanted.outcome or not any(counters[which] for which in self.wanted.counters):
+        if ending_of(run.outcome) != self.wanted.outcome or self.wanted.counters and not any(counters[which] for which in self.wanted.counters):
             return False
         if self.wanted.status:
             return status_of(run.outcome) == self.wanted.status and self.spared(run)

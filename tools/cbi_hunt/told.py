@@ -9,6 +9,8 @@ from cbi_hunt.collecting import MOST_MARKS, MOST_RUNS
 from cbi_hunt.counts import Count
 from cbi_hunt.inputs import MOST_BYTES, Inputs
 from cbi_hunt.looks import Hunt, oracle_note
+from cbi_hunt.near import suggestion
+from cbi_hunt.rates import more_runs, rate_line
 from cbi_hunted import Sample
 from cbi_told import short_name
 
@@ -23,16 +25,19 @@ MOST_HIDDEN = 3
 
 
 def summary(count: Count, inputs: Inputs) -> str:
-    neither = f", {count.neither} neither" if count.neither else ""
-    cut = f" ({count.cut} cut)" if count.cut else ""
-    return (f"{count_of(count.runs(), 'run')} on {count_of(min(len(inputs.names), count.runs()), 'input')}: "
-            f"{count.failed} failed, {count.succeeded} succeeded{neither}{cut}")
+    """How the runs went on the hunt's own inputs."""
+    near = count.near
+    runs = count.runs() - near["fail"] - near["pass"] - near["none"]
+    neither = f", {count.neither - near['none']} neither" if count.neither > near["none"] else ""
+    cut = f" ({count.cut - near['cut']} cut)" if count.cut > near["cut"] else ""
+    return (f"{count_of(runs, 'run')} on {count_of(min(inputs.own, runs), 'input')}: "
+            f"{count.failed - near['fail']} failed, {count.succeeded - near['pass']} succeeded{neither}{cut}")
 
 
 def keep_failing(hunt: Hunt) -> None:
     """Keeps copies of the inputs that failed."""
     if hunt.chosen.keep:
-        for place in hunt.count.failing_inputs:
+        for place in hunt.count.failing_own():
             target = hunt.kept.path("failing", hunt.inputs.names[place])
             os.makedirs(os.path.dirname(target), exist_ok=True)
             shutil.copyfile(hunt.inputs.paths[place], target)
@@ -40,7 +45,7 @@ def keep_failing(hunt: Hunt) -> None:
 
 def failing_line(hunt: Hunt) -> Optional[str]:
     """Names the inputs that failed."""
-    names = [short_name(hunt.inputs.names[place]) for place in sorted(hunt.count.failing_inputs)]
+    names = [short_name(hunt.inputs.names[place]) for place in hunt.count.failing_own()]
     if not names:
         return None
     shown = ", ".join(names[:5]) + (f" and {len(names) - 5} more" if len(names) > 5 else "")
@@ -87,7 +92,7 @@ def notes(hunt: Hunt, whole: bool, told: List[str], newline: Optional[str]) -> I
     """The lines that sum up a hunt. Where no run succeeded, what is told of the last newline is among the advice."""
     yield summary(hunt.count, hunt.inputs) + ("" if whole else "; interrupted, so this is what there is")
     for line in (failing_line(hunt), *map(harmless, told), hidden_line(hunt.inputs), large_line(hunt.inputs), cut_line(hunt.count, hunt.chosen), newline if hunt.count.succeeded else None,
-                 sample_line(hunt.sample, hunt.chosen)):
+                 sample_line(hunt.sample, hunt.chosen), rate_line(hunt)):
         if line:
             yield line
 
@@ -103,9 +108,10 @@ def beside(inputs: Inputs, given: str, other: str, what: str) -> str:
 def helps(hunt: Hunt) -> List[str]:
     """What may help where some runs failed and others didn't, and no fact is beyond chance. Another run on an input is no further evidence, but where visits are sampled it may see more."""
     chosen = hunt.chosen
-    more = ["More inputs that differ, also in little" + ("." if hunt.inputs.expected else " (--mutate N makes them).")]
+    more = suggestion(chosen, hunt.inputs, len(hunt.count.failing_own()))
+    more += ["More inputs that differ, also in little" + ("." if hunt.inputs.expected else " (--mutate N makes them).")]
     if chosen.rate > 1:
-        more += ["A smaller rate (--rate 1 looks at every visit).", "More runs (--runs), of which each has other countdowns."]
+        more += ["A smaller rate (--rate 1 looks at every visit).", more_runs(chosen.rate, hunt.count.runs(), len(hunt.inputs.names))]
     if chosen.schemes:
         more.append("All kinds of sites: leave --schemes out.")
     return more

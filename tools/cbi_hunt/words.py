@@ -50,6 +50,7 @@ examples:
   cbi-hunt prog.c --inputs tests --since prog.old.c
   cbi-hunt src/main.c src/list.c --inputs tests --since ../release-1 --changed fail -- -I include
   cbi-hunt prog.c --inputs tests --hangs fail --turns 10000 --mutate 100
+  cbi-hunt prog.c --inputs tests --oracle-shell './works <"$1" | cmp -s - "$2"' --neighbours 200
   cbi-hunt prog.c --inputs tests --rate 20 --runs 50000 --keep hunt --farm hosts
   cbi-hunt prog.c --inputs tests --rate 20 --runs 50000 --keep hunt --farm hosts --parts 4
   SBATCH_PARTITION=tests cbi-hunt prog.c --inputs tests --rate 20 --runs 50000 --keep hunt --farm slurm
@@ -97,6 +98,7 @@ def arguments(words: List[str]) -> argparse.Namespace:
     parser.add_argument("--changed", choices=["ignore", "fail"], default="ignore", help="whether an output other than the old version's has failed, where nothing else judges (ignore)")
     parser.add_argument("--minimize", action="store_true", help="makes the smallest failing input smaller, by lines and then by bytes, as long as it fails alike")
     parser.add_argument("--mutate", metavar="N", type=number_between(1, 1000000), help="makes N inputs more from those given, each of which sees something new")
+    parser.add_argument("--neighbours", metavar="N", type=number_between(1, 100000), help="makes N inputs near the smallest failing one, for where few inputs fail: it is made smaller, and then changed by lines, tokens and bytes")
     parser.add_argument("--rate", metavar="D", type=number_between(1, 65536), help="one visit in D is looked at, on average (1: each)")
     parser.add_argument("--runs", metavar="N", type=number_between(1, MOST_NUMBER), help="how many runs; inputs are taken in turn (one run an input, which at rate 1 is the most, since more would be copies)")
     parser.add_argument("--seed", metavar="S", type=number_between(0, 2 ** 64 - 1), default=1, help="which countdowns the runs have (1)")

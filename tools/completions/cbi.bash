@@ -21,7 +21,7 @@ _cbi_value() {
     --format) value='text html sarif quickfix' ;;
     --memory) value='auto cells bytes' ;;
     --rate) value='1 2 5 10 20 50 100 1000' ;;
-    --part | --parts | --turns | --run | --runs | --first | --count | --seed | --stream | --jobs | --oracle | --oracle-shell | --oracle-timeout | --mutate | --args | -D | -U) value=' ' ;;
+    --part | --parts | --turns | --run | --runs | --first | --count | --seed | --stream | --jobs | --oracle | --oracle-shell | --oracle-timeout | --mutate | --neighbours | --args | -D | -U) value=' ' ;;
     --bank | --input | --expect | --report | --program | --whole | --inputs | --keep | --hunt | --html | --farm | --cbi | --source | --lines | --cards | --pairs | --reports | --output | --sites | --tool | --since | -I | -include | -o) ;;
     *) return 1 ;;
     esac
@@ -59,7 +59,7 @@ _cbi() {
 }
 
 _cbi_hunt() {
-    _cbi_options '--inputs -I -D -U -include --memory --stderr --args --no-check --expect --oracle --oracle-shell --oracle-timeout --hangs --status --since --changed --minimize --mutate --rate --runs --seed --turns --schemes --jobs --policy --keep --all --html --farm --parts --cbi --version --help'
+    _cbi_options '--inputs -I -D -U -include --memory --stderr --args --no-check --expect --oracle --oracle-shell --oracle-timeout --hangs --status --since --changed --minimize --mutate --neighbours --rate --runs --seed --turns --schemes --jobs --policy --keep --all --html --farm --parts --cbi --version --help'
 }
 
 _cbi_show() {
