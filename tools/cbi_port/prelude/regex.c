@@ -275,10 +275,13 @@ int __cbi_re_branch(struct __cbi_re_reader *r) {
     return tree;
 }
 int __cbi_re_form(struct __cbi_re_reader *r) {
-    int tree = __cbi_re_branch(r); int more;
+    int closed = r->closed; int tree = __cbi_re_branch(r); int more; int other;
     while (!r->error && r->kind == T_OR) {
+        other = r->closed;
+        r->closed = closed;
         __cbi_re_fetch(r, 1);
         more = r->kind == T_OR || r->kind == T_END || r->depth && r->kind == T_CLOSE ? 0 : __cbi_re_branch(r);
+        r->closed |= other;
         tree = __cbi_re_tree(r, K_EITHER, tree, more, 0);
     }
     return tree;
@@ -485,9 +488,9 @@ int __cbi_re_repeats(struct __cbi_re_run *r, int part, int at) {
     }
     return to - from;
 }
-// The longest match of a form that names its own parts, by trying all ways; of those that are as long the first one.
+// The longest match of a form that names its own parts, by trying all ways; of those that are as long the first one. `best` is -2 where there are too many.
 int __cbi_re_tried(struct __cbi_re_run *r, int from, int *found) {
-    struct __cbi_re_choice *left; struct __cbi_re_choice *top; struct __cbi_re_state *s; int n; int all = 2 * r->of->parts; int state; int at; int best = -1; int still; int turns = 0; int steps = 0;
+    struct __cbi_re_choice *left; struct __cbi_re_choice *top; struct __cbi_re_state *s; int n; int all = 2 * r->of->parts; int state; int at; int best = -1; int still; int steps = 0;
     for (n = 0; n < all; n++) { r->part[n] = -1; r->saved[n] = -1; }
     left = __cbi_re_kept(r, r->of->begin, from, 0);
     while (left) {
@@ -503,7 +506,7 @@ int __cbi_re_tried(struct __cbi_re_run *r, int from, int *found) {
             __cbi_re_noted(r, s, at);
             if (s->kind == K_MATCH) { if (at > best) { best = at; for (n = 0; n < all; n++) found[n] = r->part[n]; } break; }
             steps++;
-            if (still > 2 * r->of->made || steps > 5000000) break;
+            if (still > 2 * r->of->made || steps > 1000000) break;
             still++;
             if (s->kind == K_FORK) { left = __cbi_re_kept(r, s->b, at, left); state = s->a; }
             else if (s->kind == K_REF) { n = __cbi_re_repeats(r, s->a, at); if (n < 0) break; if (n > 0) still = 0; at += n; state = s->b; }
@@ -511,9 +514,9 @@ int __cbi_re_tried(struct __cbi_re_run *r, int from, int *found) {
             else if (__cbi_re_takes(r, s, at)) { at++; still = 0; state = s->b; }
             else break;
         }
-        if (best == r->length && turns == 0) turns = 1;
-        if (best == r->length || steps > 5000000) { while (left) { top = left; left = top->below; free(top->part); free(top); } }
+        if (best == r->length || steps > 1000000) while (left) { top = left; left = top->below; free(top->part); free(top); }
     }
+    if (steps > 1000000) r->best = -2;
     return best;
 }
 void __cbi_re_parts(struct __cbi_re_run *r, int from, int end, int *room) {
@@ -537,7 +540,7 @@ void __cbi_re_given(struct __cbi_re_run *r, unsigned count, regmatch_t *to, int 
 int regexec(const regex_t *form, const char *text, size_t count, regmatch_t *to, int flags) {
     struct __cbi_re_run r; int from; int end = -1; int *room; int *found; int n; int shift = 0;
     r.of = form->buffer;
-    r.text = text; r.flags = flags; r.length = strlen(text); r.reach = 0;
+    r.text = text; r.flags = flags; r.length = strlen(text); r.reach = 0; r.best = -1;
     if (flags & REG_STARTEND) { shift = to[0].rm_so; r.text = text + shift; r.length = to[0].rm_eo - shift; }
     room = malloc((5 * r.of->made + 8) * sizeof(int));
     r.part = malloc((2 * r.of->parts + 1) * sizeof(int));
@@ -545,13 +548,14 @@ int regexec(const regex_t *form, const char *text, size_t count, regmatch_t *to,
     found = malloc((2 * r.of->parts + 1) * sizeof(int));
     for (from = 0; from <= r.length && end < 0; from++) end = r.of->refs ? __cbi_re_tried(&r, from, found) : __cbi_re_longest(&r, from, room);
     from--;
+    if (r.best == -2) end = -1;
     if (end >= 0 && !(form->flags & REG_NOSUB)) {
         if (r.of->refs) for (n = 0; n < 2 * r.of->parts; n++) r.part[n] = found[n];
         else if (count > 1 && r.of->parts) __cbi_re_parts(&r, from, end, room);
         __cbi_re_given(&r, count, to, from, end, shift);
     }
     free(room); free(r.part); free(r.saved); free(found);
-    return end >= 0 ? 0 : REG_NOMATCH;
+    return end >= 0 ? 0 : r.best == -2 ? REG_ESPACE : REG_NOMATCH;
 }
 void regfree(regex_t *form) { if (form->buffer) __cbi_re_free(form->buffer); form->buffer = 0; }
 const char *__cbi_re_text(int error) {
