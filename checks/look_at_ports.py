@@ -239,8 +239,13 @@ class Files(Case):
         """`cbi` takes 100,000 tokens and 1,048,576 bytes: the first text has as many tokens, the next one two more, the last two as many bytes and one more."""
         texts = (b"1," * 50000, b"1," * 50001, b" " * 1048576, b" " * 1048577)
         told = [[it.construct for it in too_large(cbi_port.Ported(text, [], [], [], {}), [])] for text in texts]
-        what = ["a program whose text is too large (more than 100,000 tokens, or 1,048,576 bytes)"]
-        self.assertEqual(told, [[], what, [], what])
+        what = "a program whose text has {} may be"
+        self.assertEqual(told, [[], [what.format("100,002 tokens, of which 100,000")], [], [what.format("1,048,577 bytes, of which 1,048,576")]])
+        # Three lines of a program: 60,000 tokens of one file, 30,003 of another, 15,000 that were added.
+        lines = [cbi_port.Line("a.c", 1, False), cbi_port.Line("b.c", 7, False), cbi_port.Line("", 0, True)]
+        text = b"\n".join((b"1," * 30000, b"1," * 15001 + b"1", b"1," * 7500))
+        self.assertEqual([it.construct for it in too_large(cbi_port.Ported(text, lines, [], [], {}), [])],
+                         [what.format("105,003 tokens, of which 100,000") + " (a.c 57 %, b.c 28 %, what is added 14 %)"])
 
 
 class Command(Case):

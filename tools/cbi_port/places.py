@@ -136,7 +136,9 @@ class Places(Floats, Declarations):
             if node.name == "__cbi_err" and not self.in_prelude and not self.stderr:
                 self.liberties["what is written to stderr is left out (--stderr joins it)"] = None
         if symbol is None:
-            raise self.refuse(node, f"`{node.name}`, which isn't declared", "a name that the text declares, or one of the library that is there")
+            if self.partial:
+                raise self.follow(node)
+            raise self.refuse(node, f"`{node.name}`, which isn't declared", "its declaration before that line, or `#include` of the header that has it")
         symbol = self.variable_of_library(symbol)
         if symbol.kind == "function":
             self.use(symbol)

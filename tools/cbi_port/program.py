@@ -17,6 +17,8 @@ from cbi_port.trees import declared_outside, gives_value, holds_open, kind, name
 from cbi_port.types import (INT, VOID, Array, CType, Function, Int, Pointer, Struct, Void, is_complete, is_whole,
                             spelled, to_function)
 
+DEFINITION = "its definition, or the file that has it beside the others"
+
 # Functions of the library by which floats come in without a word of theirs.
 FLOAT_NAMES = {"strtod", "strtof", "atof", "difftime", *(word + end for end in ("", "f", "l") for word in (
     "acos", "acosh", "asin", "asinh", "atan", "atan2", "atanh", "cbrt", "ceil", "cos", "cosh", "exp", "exp10", "exp2", "expm1", "fabs", "floor", "fmod", "hypot",
@@ -60,8 +62,9 @@ class Program(Jumps, Library):
         self.resized: Dict[str, CType] = {}
         self.movers: Dict[Tuple[str, str], CType] = {}
         self.sorters: Dict[str, CType] = {}
+        self.sorters_with: Dict[str, CType] = {}
         self.searchers: Dict[str, CType] = {}
-        self.sort_call = ""
+        self.sort_call = self.sort_call_with = ""
         self.union_helpers: Set[Any] = set()
         self.later: List[Any] = []
         self.from_generic: List[int] = []
@@ -371,6 +374,8 @@ class Program(Jumps, Library):
 
     def begin_main(self) -> None:
         symbol = self.externals.get("main")
+        if self.partial and (symbol is None or not symbol.defined):
+            return
         if symbol is None or not symbol.defined:
             last = max(place for place, token in enumerate(self.tokens) if token.file)
             self.problems.append(Refusal(last, "no `main`", "a definition of `int main(void)`"))
@@ -467,11 +472,11 @@ class Program(Jumps, Library):
                 before = sum(symbol.used for symbol, _, _ in self.waiting)
                 self.dispatch_text("", type_, kinds)
                 more = more or before != sum(symbol.used for symbol, _, _ in self.waiting)
-        for symbol in list(self.externals.values()):
+        for symbol in list(self.externals.values()) if not self.partial else []:
             if symbol.kind == "variable" and symbol.used and not symbol.defined:
-                self.problems.append(Refusal(symbol.at, f"`{symbol.name}`, which is declared and never defined", "its definition"))
+                self.problems.append(Refusal(symbol.at, f"`{symbol.name}`, which is declared and never defined", DEFINITION))
             if symbol.kind == "function" and symbol.used and not symbol.defined:
-                self.problems.append(Refusal(symbol.at, f"`{symbol.name}`, which isn't defined", "a function of the text, or one of the library that is there"))
+                self.problems.append(Refusal(symbol.at, f"`{symbol.name}`, which isn't defined", DEFINITION))
         if not self.model.in_bytes and self.from_generic and self.to_generic:
             self.problems.append(Refusal(max(self.to_generic[0], 0), "a reckoned `char *` that becomes a `void *`", "a pointer to what is there", True))
         self.in_prelude = False
