@@ -19,11 +19,6 @@ from cbi_port.types import (INT, VOID, Array, CType, Function, Int, Pointer, Str
 
 DEFINITION = "its definition, or the file that has it beside the others"
 
-# Functions of the library by which floats come in without a word of theirs.
-FLOAT_NAMES = {"strtod", "strtof", "atof", "difftime", *(word + end for end in ("", "f", "l") for word in (
-    "acos", "acosh", "asin", "asinh", "atan", "atan2", "atanh", "cbrt", "ceil", "cos", "cosh", "exp", "exp10", "exp2", "expm1", "fabs", "floor", "fmod", "hypot",
-    "log", "log10", "log1p", "log2", "logb", "pow", "rint", "round", "sin", "sinh", "sqrt", "tan", "tanh", "trunc"))}
-
 
 def prelude_text(name: str) -> str:
     """What a name of the prelude is called in the text."""
@@ -43,7 +38,7 @@ class Program(Jumps, Library):
         self.names.used |= {token.text for token in tokens if token.kind == "name"}
         self.words = {plain_name(token.text) for token in tokens if token.kind == "name" and not token.file.startswith(HEADERS)}
         self.tags.used = set(TAKEN)
-        self.floats = bool(self.words & {"float", "double", *FLOAT_NAMES}) or any(
+        self.floats = bool(self.words & {"float", "double", *forms.FLOAT_NAMES}) or any(
             token.kind == "number" and token.text[:2] not in ("0x", "0X") and re.search("[.eE]", token.text) for token in tokens)
         self.asked = asked(tokens, self.words, args, stderr, named)
         self.liberties.update(dict.fromkeys(self.asked.told))
