@@ -196,7 +196,7 @@ class Declarations(Context):
             return self.struct_type(node, hint)
         if what == "Enum":
             return self.enumeration(node)
-        raise self.refuse(node, f"a type of the form {what}", "a type of C99")
+        raise self.refuse(node, f"a type of the form {what}", "the same in types of C99: numbers, structs, unions, enumerations, arrays and pointers")
 
     def named_type(self, node: Any) -> CType:
         names = [name for name in node.names if name not in ("const", "volatile", "restrict", "static", "register", "inline")]

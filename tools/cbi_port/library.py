@@ -283,7 +283,7 @@ class TypedCalls(ScanCalls):
             inner = inner.expr
         value = program.value(inner)
         if not is_pointer(value.type):
-            raise program.refuse(node, f"a `{spelled(value.type)}` where a pointer is wanted", "a pointer")
+            raise program.refuse(node, f"a `{spelled(value.type)}` where a pointer is wanted", "`&` of the object, or an array")
         return value, value.type.to
 
     def known(self, node: Any, name: str, *pointers: CType) -> CType:
@@ -420,7 +420,7 @@ class TypedCalls(ScanCalls):
     def call_memchr(self, node: Any, arguments: Sequence[Any], used: bool) -> Optional[Value]:
         _, type_ = self.pointer(arguments[0])
         if not like_char(innermost(type_)[0]):
-            raise self.program.refuse(node, "`memchr` of what isn't characters", "a loop", True)
+            raise self.program.refuse(node, "`memchr` of what isn't characters", "a loop that compares each element", True)
         return None
 
     def call_qsort(self, node: Any, arguments: Sequence[Any], used: bool) -> Value:
