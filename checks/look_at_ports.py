@@ -1,7 +1,7 @@
 """Looks at tools/cbi-port: what it takes does as gcc makes it, and what is written by hand; what it refuses is told by line.
 
 A program of ports_table says behind its text what it does: `refused LINE WORDS`, or what it reads, its words, what it
-writes and its status (or trap). Without these it writes nothing and ends with 0.
+writes and its status (or trap), and files that it may open. Without these it writes nothing and ends with 0.
 """
 import ast
 import os
@@ -39,6 +39,7 @@ class Due:
 
     def __init__(self, text):
         self.refused = [(int(line), words) for line, words in re.findall(r"(?m)^(?:/\* )?refused (\d+) (.*?)\s*(?:\*/)?$", text)]
+        self.named = [(name, data.encode("latin-1")) for name, data in re.findall(r"(?ms)^/\* file (\S+)\n(.*?)\*/", text)]
         self.given = (re.search(r"(?s)/\* reads\n(.*?)\*/", text) or ["", ""])[1].encode()
         words = re.search(r"(?m)^/\* words (.*) \*/$", text)
         self.words = shlex.split(words[1]) if words else []
@@ -70,7 +71,7 @@ class Programs(Case):
                 self.assertEqual(got.status, due.status, f"{name} {mode}")
         if due.trap is None and BUILDS_32:
             built = check.compiled([os.path.join(TABLE, name)], [], self.room, "built", ["-O0"])
-            native = check.run_native(built, due.words, due.given)
+            native = check.run_native(built, due.words, due.given, due.named)
             self.assertEqual((native.output, native.status), (due.output, due.status), f"{name} by gcc")
 
     def test_programs(self):
@@ -93,7 +94,7 @@ class Programs(Case):
                 for memory in ("auto", "bytes"):
                     if memory == "bytes" and due.trap is not None:
                         continue
-                    ported = cbi_port.port([os.path.join(TABLE, name)], args=due.words, memory=memory)
+                    ported = cbi_port.port([os.path.join(TABLE, name)], args=due.words, memory=memory, named=due.named)
                     self.hold(name, text, ported)
 
     def test_lines(self):
@@ -215,6 +216,20 @@ class Files(Case):
             self.assertEqual((got.output, got.status), (by_gcc.stdout, by_gcc.returncode))
             self.assertEqual(by_gcc.stdout, b"prog: No such file or directory\nUnknown error 200\n")
 
+    def test_files_that_are_named(self):
+        """The files that are named and the one input by its name, also where that is a word of its first line: each run as gcc's, in a folder that has them."""
+        name = self.write("sum.c", "#include <stdio.h>\nint main(int argc, char **argv)\n{\n    FILE *f = argc > 1 ? fopen(argv[argc - 1], \"r\") : stdin, *g = fopen(\"table\", \"rb\");\n"
+                          "    int n, sum = 0, c;\n    if (!f) { puts(\"none\"); return 2; }\n    while (fscanf(f, \"%d\", &n) == 1) sum += n;\n    printf(\"%d\\n\", sum);\n"
+                          "    if (g) while ((c = getc(g)) != EOF) putchar(c);\n    while ((c = getchar()) != EOF) sum++;\n    return sum;\n}\n")
+        table = [("table", b"a\0b\xff\n")]
+        rows = [(["numbers"], table, b"1 2 3\n"), ("first-line", table, b"numbers\n1 2 3\n"), (None, table, b"4 5\n"), (["-q"], table, b"7\n"), (["-q", "numbers"], [], b"8\n"),
+                (["table", "other"], [*table, ("other", None)], b"9 1\n")]
+        for memory in ("cells", "bytes"):
+            for args, named, given in rows:
+                ported = cbi_port.port([name], args=args, memory=memory, named=named)
+                checked = check.compare([name], [], ported, [("given", given)], CBI, args, TURNS, named)
+                self.assertEqual(checked.equal, 1, f"{memory} {args}: {checked.differences}")
+
     def test_not_there(self):
         with self.assertRaises(cbi_port.Refused) as caught:
             cbi_port.port([self.write("a.c", "#include \"none.h\"\nint main(void) { return 0; }\n")])
@@ -222,13 +237,13 @@ class Files(Case):
         with self.assertRaises(OSError):
             cbi_port.port([self.path("none.c")])
         # All headers that aren't there at once, in all files, and of the rest what doesn't come of them.
-        first = self.write("c.c", "#include <none/at_all.h>\n#include <stdio.h>\n#include \"mine.h\"\nint main(void)\n{\n    WINDOW *w = initscr();\n    if (system(\"true\"))\n        rewind(stdin);\n    return mine(w);\n}\n")
-        second = self.write("d.c", "#include \"mine.h\"\n#include <math.h>\nint mine(int w) { return pow(2, 3) > 1 + refused(w); }\n")
+        first = self.write("c.c", "#include <none/at_all.h>\n#include <unistd.h>\n#include \"mine.h\"\nint main(void)\n{\n    WINDOW *w = initscr();\n    if (fork())\n        pause();\n    return mine(w);\n}\n")
+        second = self.write("d.c", "#include \"mine.h\"\n#include <math.h>\nint mine(int w) { return erf(2) > 1 + refused(w); }\n")
         with self.assertRaises(cbi_port.Refused) as caught:
             cbi_port.port([first, second])
         self.assertEqual([(os.path.basename(it.file), it.line, it.construct) for it in caught.exception.problems],
                          [("c.c", 1, "`#include` of none/at_all.h"), ("c.c", 3, "`#include` of mine.h"), ("d.c", 1, "`#include` of mine.h"),
-                          ("c.c", 7, "`system`"), ("c.c", 8, "`rewind`"), ("d.c", 3, "`pow`")])
+                          ("c.c", 7, "`fork`"), ("c.c", 8, "`pause`"), ("d.c", 3, "`erf`")])
         with self.assertRaises(cbi_port.Refused) as caught:
             cbi_port.port([self.write("b.c", "int f(void) { return 0; }\n")])
         self.assertEqual(caught.exception.problems[0].construct, "no `main`")
@@ -238,8 +253,13 @@ class Files(Case):
         """`cbi` takes 100,000 tokens and 1,048,576 bytes: the first text has as many tokens, the next one two more, the last two as many bytes and one more."""
         texts = (b"1," * 50000, b"1," * 50001, b" " * 1048576, b" " * 1048577)
         told = [[it.construct for it in too_large(cbi_port.Ported(text, [], [], [], {}), [])] for text in texts]
-        what = ["a program whose text is too large (more than 100,000 tokens, or 1,048,576 bytes)"]
-        self.assertEqual(told, [[], what, [], what])
+        what = "a program whose text has {} may be"
+        self.assertEqual(told, [[], [what.format("100,002 tokens, of which 100,000")], [], [what.format("1,048,577 bytes, of which 1,048,576")]])
+        # Three lines of a program: 60,000 tokens of one file, 30,003 of another, 15,000 that were added.
+        lines = [cbi_port.Line("a.c", 1, False), cbi_port.Line("b.c", 7, False), cbi_port.Line("", 0, True)]
+        text = b"\n".join((b"1," * 30000, b"1," * 15001 + b"1", b"1," * 7500))
+        self.assertEqual([it.construct for it in too_large(cbi_port.Ported(text, lines, [], [], {}), [])],
+                         [what.format("105,003 tokens, of which 100,000") + " (a.c 57 %, b.c 28 %, what is added 14 %)"])
 
 
 class Command(Case):
@@ -267,7 +287,14 @@ class Command(Case):
         self.write("in/below/y", "")
         out, _ = self.call("cbi-port", "--check", "--inputs", "in", "a.c")
         self.assertEqual(out, "2 of 2 outputs as gcc's\n")
-        self.write("c.c", "int main(void)\n{\n    double f = sin(1);\n    goto x;\n}\n")
+        self.write("f.c", "#include <stdio.h>\nint main(void)\n{\n    FILE *f = fopen(\"list\", \"r\");\n    int c;\n    while (f && (c = getc(f)) != EOF) putchar(c);\n    return 0;\n}\n")
+        self.write("a list", "one\n")
+        out, _ = self.call("cbi-port", "--check", "--file", "list=a list", "f.c")
+        self.assertEqual(out, "1 of 1 outputs as gcc's\n")
+        for said, what in (("list", "--file: `list` is no NAME=PATH"), ("list=none at all", "No such file or directory: 'none at all'")):
+            _, err = self.call("cbi-port", "--file", said, "f.c", due=2)
+            self.assertIn(what, err)
+        self.write("c.c", "int main(void)\n{\n    double f = erf(1);\n    goto x;\n}\n")
         out, err = self.call("cbi-port", "c.c", due=1)
         self.assertEqual(out, "")
         self.assertEqual([row.split(": ")[1] for row in err.strip().split("\n")], ["c.c:3", "c.c:4"])

@@ -10,6 +10,7 @@ from cbi_port.reader import HEADERS
 from cbi_port.scopes import Symbol
 from cbi_port.gnu_calls import OVERFLOWS, GnuCalls
 from cbi_port.scan_calls import ScanCalls
+from cbi_port.system import TOLD, VARIABLES
 from cbi_port.trees import kind
 from cbi_port.types import (CHAR, INT, LONG, UINT, VOID, Array, CType, Function, Int, Pointer, Struct, Void, is_float, is_long,
                             is_pointer, same, size_of, spelled, to_function)
@@ -27,18 +28,13 @@ RAW = {"memcpy": ("cbi_copy", Function(ANY, SIZED, False, True)), "memmove": ("c
        "memset": ("cbi_fill", Function(ANY, (ANY, INT, UINT), False, True)), "memcmp": ("cbi_compare", Function(INT, SIZED, False, True)),
        "malloc": ("cbi_malloc", Function(ANY, (UINT,), False, True)), "free": ("cbi_free", Function(VOID, (ANY,), False, True)),
        "calloc": ("cbi_calloc", Function(ANY, (UINT, UINT), False, True)), "realloc": ("cbi_realloc", Function(ANY, (ANY, UINT), False, True))}
-# Functions that look at bytes ahead: with one of them all input goes by the prelude.
-AHEAD = {"ungetc", "scanf", "fscanf", "vscanf", "vfscanf"}
-NO = {"setjmp": "a value that says what went wrong", "longjmp": "a value that says what went wrong", "_setjmp": "a value that says what went wrong",
-      "sigsetjmp": "a value that says what went wrong", "siglongjmp": "a value that says what went wrong",
-      "signal": "a check before what goes wrong", "raise": "a check before what goes wrong",
-      "fopen": "the one input, and the one output", "fork": "one process", "system": "one process", "alloca": "`malloc`"}
-# Of <math.h> what no way of rounding says to the last bit.
-ROUNDED = {word + end for end in ("", "f", "l") for word in (
-    "acos", "acosh", "asin", "asinh", "atan", "atan2", "atanh", "cbrt", "cos", "cosh", "erf", "erfc", "exp", "exp2", "expm1", "hypot", "lgamma", "log", "log10",
-    "log1p", "log2", "pow", "sin", "sinh", "tan", "tanh", "tgamma")}
-TYPED = {"malloc", "calloc", "realloc", "free", "memcpy", "memmove", "memset", "memcmp", "mempcpy", "bzero", "bcopy", "bcmp", "qsort", "bsearch", "alloca",
-         "strdup", "fread", "fwrite"}
+UNWOUND = "a status that each function returns, and that its caller tests"
+NO = {**dict.fromkeys(["setjmp", "longjmp", "_setjmp", "_longjmp", "sigsetjmp", "siglongjmp"], UNWOUND),
+      "fork": "one process, which does what both would do", "alloca": "`malloc`"}
+# Of <math.h> what isn't there.
+ROUNDED = {word + end for end in ("", "f", "l") for word in ("erf", "erfc", "lgamma", "tgamma", "j0", "j1", "jn", "y0", "y1", "yn")}
+TYPED = {"malloc", "calloc", "realloc", "free", "memcpy", "memmove", "memset", "memcmp", "mempcpy", "bzero", "bcopy", "bcmp", "qsort", "qsort_r", "bsearch", "alloca",
+         "strdup", "fread", "fwrite", "read", "write"}
 
 
 class Library(GnuCalls):
@@ -57,7 +53,7 @@ class Library(GnuCalls):
         found = self.prelude_symbol(name)
         if found is None and name in self.model.own_calls and not name.startswith("lib_") and name in RAW:
             return self.raw_function(name, node)
-        return found if found is not None and found.kind == "function" else None
+        return found if found is not None and found.kind == "function" and found.defined else None
 
     def raw_function(self, name: str, node: Any) -> Symbol:
         """A function of memory as a value, where memory is bytes."""
@@ -96,7 +92,7 @@ class Library(GnuCalls):
             self.library_used(name)
             name = "__" + name
         found = self.prelude_symbol(name)
-        if found is not None and found.kind == "function":
+        if found is not None and found.kind == "function" and found.defined:
             self.library_used(name)
             self.use(found)
             return self.called(found.text, found, found.type, arguments, node, used)
@@ -105,10 +101,22 @@ class Library(GnuCalls):
             raise self.missing(node, name)
         return None
 
+    def by_use(self, node: Any, name: str) -> Symbol:
+        """A function that its call declares; where a header isn't there, it may have been declared otherwise."""
+        if self.partial and name not in self.externals:
+            raise self.follow(node)
+        return super().by_use(node, name)
+
     def of_system(self, symbol: Symbol) -> bool:
         """Whether a function or a variable is declared by a header of the system alone, and nowhere defined."""
         at = symbol.at
         return symbol.kind in ("function", "variable") and symbol.outer and not symbol.defined and symbol.unit != "prelude" and 0 <= at < len(self.tokens) and self.tokens[at].file.startswith(HEADERS)
+
+    def variable_of_library(self, symbol: Symbol) -> Symbol:
+        """A variable that a text only declares, where the library has it."""
+        if symbol.name not in VARIABLES or symbol.kind != "variable" or not symbol.outer or symbol.defined or symbol.unit == "prelude":
+            return symbol
+        return self.prelude_symbol(symbol.name) or symbol
 
     def missing(self, node: Any, name: str) -> Refusal:
         """The refusal of what the system has and this library hasn't."""
@@ -133,6 +141,8 @@ class Library(GnuCalls):
 
     def library_used(self, name: str) -> None:
         if not self.in_prelude:
+            if name in TOLD:
+                self.liberties[TOLD[name]] = None
             self.library_names.add(name)
             self.counts["library functions"] = len(self.library_names)
 
@@ -151,6 +161,15 @@ class Library(GnuCalls):
         if self.model.in_bytes and name == "puts":
             return Value(INT, f"{at}cbi_puts({', '.join(values)})", POSTFIX, pure=False)
         return Value(type_.result, f"{at}{name}({', '.join(values)})", POSTFIX, pure=False)
+
+    def order_by(self, more: int) -> None:
+        """Asks for the calls of functions that compare two elements, and what is handed on."""
+        kinds = [Pointer(VOID)] * (2 + more)
+        call = self.dispatcher(Function(INT, tuple(kinds), False, True), kinds)
+        if more:
+            self.sort_call_with = call
+        else:
+            self.sort_call = call
 
     # What has the same value in each model.
 
@@ -200,7 +219,7 @@ class Library(GnuCalls):
     def lib_printf(self, node: Any, arguments: Sequence[Any], used: bool) -> Value:
         """`printf` as the dialect has it, where the statement is nothing else and the format is plain."""
         self.library_used("printf")
-        plain = self.plain_printf(node, arguments) if node is self.function.whole and not self.model.in_bytes else None
+        plain = self.plain_printf(node, arguments) if node is self.function.whole and not self.model.in_bytes and "putchar" not in self.wrapped else None
         if plain is not None:
             return plain
         found = self.prelude_symbol("printf")
@@ -237,26 +256,14 @@ class Library(GnuCalls):
 
     lib_atexit_count = 0
 
-    def with_liberty(self, name: str, told: str, node: Any, arguments: Sequence[Any], used: bool) -> Value:
-        """A call of the prelude that doesn't give what it gives elsewhere, which is told."""
-        self.library_used(name)
-        if not self.in_prelude:
-            self.liberties[told] = None
-        found = self.prelude_symbol(name)
-        assert found is not None
-        self.use(found)
-        return self.called(found.text, found, found.type, arguments, node, used)
-
-    def lib_time(self, node: Any, arguments: Sequence[Any], used: bool) -> Value:
-        return self.with_liberty("time", "time and clock give 0", node, arguments, used)
-
-    def lib_getenv(self, node: Any, arguments: Sequence[Any], used: bool) -> Value:
-        return self.with_liberty("getenv", "getenv gives NULL, whatever the environment has", node, arguments, used)
-
     def lib_clock(self, node: Any, arguments: Sequence[Any], used: bool) -> Value:
         self.library_used("clock")
-        self.liberties["time and clock give 0"] = None
         return number(0, LONG)
+
+    def lib___cbi_word(self, node: Any, arguments: Sequence[Any], used: bool) -> Value:
+        """A word of the input's first line."""
+        at = self.converted(self.value(arguments[0]), UINT)
+        return Value(Pointer(CHAR), self.model.word_of_main(at.at(UNARY)), POSTFIX, pure=False)
 
 
 class TypedCalls(ScanCalls):
@@ -276,7 +283,7 @@ class TypedCalls(ScanCalls):
             inner = inner.expr
         value = program.value(inner)
         if not is_pointer(value.type):
-            raise program.refuse(node, f"a `{spelled(value.type)}` where a pointer is wanted", "a pointer")
+            raise program.refuse(node, f"a `{spelled(value.type)}` where a pointer is wanted", "`&` of the object, or an array")
         return value, value.type.to
 
     def known(self, node: Any, name: str, *pointers: CType) -> CType:
@@ -413,30 +420,35 @@ class TypedCalls(ScanCalls):
     def call_memchr(self, node: Any, arguments: Sequence[Any], used: bool) -> Optional[Value]:
         _, type_ = self.pointer(arguments[0])
         if not like_char(innermost(type_)[0]):
-            raise self.program.refuse(node, "`memchr` of what isn't characters", "a loop", True)
+            raise self.program.refuse(node, "`memchr` of what isn't characters", "a loop that compares each element", True)
         return None
 
     def call_qsort(self, node: Any, arguments: Sequence[Any], used: bool) -> Value:
+        return self.sorted(node, "qsort", arguments, self.program.sorters)
+
+    def call_qsort_r(self, node: Any, arguments: Sequence[Any], used: bool) -> Value:
+        return self.sorted(node, "qsort_r", arguments, self.program.sorters_with)
+
+    def sorted(self, node: Any, name: str, arguments: Sequence[Any], table: Dict[str, CType]) -> Value:
+        """A sort of elements of a type; with a fifth argument it is handed to each comparison."""
         program = self.program
         to, type_ = self.pointer(arguments[0])
-        self.known(node, "qsort", type_)
+        self.known(node, name, type_)
         size = program.value(arguments[2]).constant
         if size != size_of(type_):
-            raise program.refuse(node, "`qsort` with another size than that of an element", "the size of an element", True)
+            raise program.refuse(node, f"`{name}` with another size than that of an element", "`sizeof` of an element, and a pointer to such elements", True)
         inner, per = innermost(type_)
-        if per != 1 or isinstance(inner, Pointer):
-            if per != 1:
-                raise program.refuse(node, "`qsort` of arrays", "an array of structs", True)
-        program.sorters.setdefault(program.model.maker_name(inner), inner)
+        if per != 1:
+            raise program.refuse(node, f"`{name}` of arrays", "an array of structs", True)
+        table.setdefault(program.model.maker_name(inner), inner)
         if isinstance(inner, Struct):
             program.model.copier(inner)
         compare = program.value(arguments[3])
-        call = program.dispatcher(Function(INT, (Pointer(VOID), Pointer(VOID)), False, True), [Pointer(VOID), Pointer(VOID)])
-        program.sort_call = call
-        cast = "(void **)(void *)" if isinstance(inner, Pointer) and not to_function(inner) else ""
-        text = prefixed(cast, to.text, to.level) if cast else to.at(ASSIGN)
-        count = program.converted(program.value(arguments[1]), UINT, True, node)
-        return Value(VOID, f"cbi_sort_{program.model.maker_name(inner)}({text}, {count.at(ASSIGN)}, {compare.at(ASSIGN)})", POSTFIX, pure=False)
+        texts = [prefixed("(void **)(void *)", to.text, to.level) if isinstance(inner, Pointer) and not to_function(inner) else to.at(ASSIGN),
+                 program.converted(program.value(arguments[1]), UINT, True, node).at(ASSIGN), compare.at(ASSIGN)]
+        more = [program.converted(program.value(it), Pointer(VOID), True, node).at(ASSIGN) for it in arguments[4:5]]
+        program.order_by(len(more))
+        return Value(VOID, f"cbi_sort{'_with' * len(more)}_{program.model.maker_name(inner)}({', '.join(texts + more)})", POSTFIX, pure=False)
 
     def call_bsearch(self, node: Any, arguments: Sequence[Any], used: bool) -> Value:
         program = self.program
@@ -447,24 +459,31 @@ class TypedCalls(ScanCalls):
         if per != 1 or program.value(arguments[3]).constant != size_of(type_):
             raise program.refuse(node, "`bsearch` with another size than that of an element", "the size of an element", True)
         program.searchers.setdefault(program.model.maker_name(inner), inner)
-        program.sort_call = program.dispatcher(Function(INT, (Pointer(VOID), Pointer(VOID)), False, True), [Pointer(VOID), Pointer(VOID)])
+        program.order_by(0)
         compare = program.value(arguments[4])
         cast = "(void **)(void *)" if isinstance(inner, Pointer) and not to_function(inner) else ""
         text = prefixed(cast, base.text, base.level) if cast else base.at(ASSIGN)
         count = program.converted(program.value(arguments[2]), UINT, True, node)
         return Value(Pointer(VOID), f"cbi_search_{program.model.maker_name(inner)}({key.at(ASSIGN)}, {text}, {count.at(ASSIGN)}, {compare.at(ASSIGN)})", POSTFIX, pure=False)
 
-    def call_fread(self, node: Any, arguments: Sequence[Any], used: bool) -> Optional[Value]:
-        _, type_ = self.pointer(arguments[0])
+    def of_characters(self, node: Any, name: str, argument: Any) -> Optional[Value]:
+        """Refuses what is read or written byte by byte and has no characters; else the call is one of the prelude."""
+        _, type_ = self.pointer(argument)
         if not like_char(innermost(type_)[0]):
-            raise self.program.refuse(node, "`fread` of what isn't characters", "characters", True)
+            raise self.program.refuse(node, f"`{name}` of what isn't characters", "an array of characters, and each value from its bytes", True)
         return None
 
+    def call_fread(self, node: Any, arguments: Sequence[Any], used: bool) -> Optional[Value]:
+        return self.of_characters(node, "fread", arguments[0])
+
     def call_fwrite(self, node: Any, arguments: Sequence[Any], used: bool) -> Optional[Value]:
-        _, type_ = self.pointer(arguments[0])
-        if not like_char(innermost(type_)[0]):
-            raise self.program.refuse(node, "`fwrite` of what isn't characters", "characters", True)
-        return None
+        return self.of_characters(node, "fwrite", arguments[0])
+
+    def call_read(self, node: Any, arguments: Sequence[Any], used: bool) -> Optional[Value]:
+        return self.of_characters(node, "read", arguments[1])
+
+    def call_write(self, node: Any, arguments: Sequence[Any], used: bool) -> Optional[Value]:
+        return self.of_characters(node, "write", arguments[1])
 
     def call_alloca(self, node: Any, arguments: Sequence[Any], used: bool) -> Value:
         self.program.liberties["memory of alloca is kept to the end of the run"] = None

@@ -7,17 +7,17 @@ from cbi_port.body import Body
 from cbi_port.bytes import Bytes
 from cbi_port.helpers import Helpers
 from cbi_port.jumps import Jumps
-from cbi_port.library import AHEAD, Library
+from cbi_port.library import Library
 from cbi_port.lines import Refusal, Sheet, Token, bare, mark
 from cbi_port.objects import Objects
 from cbi_port.reader import HEADERS, Unit, prelude_index, read_prelude
 from cbi_port.scopes import TAKEN, Names, Scope, Symbol, plain_name
+from cbi_port.system import Named, asked
 from cbi_port.trees import declared_outside, gives_value, holds_open, kind, names_under_address
 from cbi_port.types import (INT, VOID, Array, CType, Function, Int, Pointer, Struct, Void, is_complete, is_whole,
                             spelled, to_function)
 
-# Functions of the library by which floats come in without a word of theirs.
-FLOAT_NAMES = {"strtod", "strtof", "atof", "sqrt", "floor", "ceil", "fabs"}
+DEFINITION = "its definition, or the file that has it beside the others"
 
 
 def prelude_text(name: str) -> str:
@@ -29,7 +29,7 @@ def prelude_text(name: str) -> str:
 class Program(Jumps, Library):
     """A translation of files into one text, with one model of memory."""
 
-    def __init__(self, units: Sequence[Unit], tokens: List[Token], memory: str, args: Any, stderr: bool) -> None:
+    def __init__(self, units: Sequence[Unit], tokens: List[Token], memory: str, args: Any, stderr: bool, named: Named = ()) -> None:
         self.tokens, self.units = tokens, units
         self.sheet = Sheet(tokens, units[0].file if units else "")
         self.problems: List[Refusal] = []
@@ -38,9 +38,11 @@ class Program(Jumps, Library):
         self.names.used |= {token.text for token in tokens if token.kind == "name"}
         self.words = {plain_name(token.text) for token in tokens if token.kind == "name" and not token.file.startswith(HEADERS)}
         self.tags.used = set(TAKEN)
-        self.floats = bool(self.words & {"float", "double", *FLOAT_NAMES}) or any(
+        self.floats = bool(self.words & {"float", "double", *forms.FLOAT_NAMES}) or any(
             token.kind == "number" and token.text[:2] not in ("0x", "0X") and re.search("[.eE]", token.text) for token in tokens)
-        self.prelude_parts = (["FLOATS"] if self.floats else []) + forms.parts_of(tokens, self.floats)
+        self.asked = asked(tokens, self.words, args, stderr, named)
+        self.liberties.update(dict.fromkeys(self.asked.told))
+        self.prelude_parts = (["FLOATS"] if self.floats else []) + forms.parts_of(tokens, self.floats) + self.asked.parts
         self.lengths = {}
         self.structs, self.externals, self.by_node, self.headers, self.forwards = [], {}, {}, {}, {}
         self.statics: Dict[str, Dict[str, Symbol]] = {}
@@ -55,8 +57,9 @@ class Program(Jumps, Library):
         self.resized: Dict[str, CType] = {}
         self.movers: Dict[Tuple[str, str], CType] = {}
         self.sorters: Dict[str, CType] = {}
+        self.sorters_with: Dict[str, CType] = {}
         self.searchers: Dict[str, CType] = {}
-        self.sort_call = ""
+        self.sort_call = self.sort_call_with = ""
         self.union_helpers: Set[Any] = set()
         self.later: List[Any] = []
         self.from_generic: List[int] = []
@@ -66,7 +69,7 @@ class Program(Jumps, Library):
         self.library_names: Set[str] = set()
         self.wrappers: Dict[str, Symbol] = {}
         self.exit_functions = bool(self.words & {"atexit"})
-        self.wrapped: Set[str] = {"getchar"} if self.words & AHEAD else set()
+        self.wrapped: Set[str] = self.asked.wrapped
         self.keeps_sizes = "realloc" in self.words
         self.prelude_names = prelude_index()
         self.names.used |= {prelude_text(name) for name in self.prelude_names}
@@ -211,7 +214,7 @@ class Program(Jumps, Library):
         if known is not None and known.defined or file is None or file in self.prelude_units:
             return known
         unit, scope, function, inside = getattr(self, "unit", None), self.scope, self.function, self.in_prelude
-        self.prelude_units[file] = unit_ = read_prelude(file, self.tokens, self.prelude_parts)
+        self.prelude_units[file] = unit_ = read_prelude(file, self.tokens, self.prelude_parts, self.asked.header)
         self.in_prelude = True
         before = len(self.definitions)
         externals, self.externals = self.externals, self.prelude_symbols
@@ -366,6 +369,8 @@ class Program(Jumps, Library):
 
     def begin_main(self) -> None:
         symbol = self.externals.get("main")
+        if self.partial and (symbol is None or not symbol.defined):
+            return
         if symbol is None or not symbol.defined:
             last = max(place for place, token in enumerate(self.tokens) if token.file)
             self.problems.append(Refusal(last, "no `main`", "a definition of `int main(void)`"))
@@ -462,11 +467,11 @@ class Program(Jumps, Library):
                 before = sum(symbol.used for symbol, _, _ in self.waiting)
                 self.dispatch_text("", type_, kinds)
                 more = more or before != sum(symbol.used for symbol, _, _ in self.waiting)
-        for symbol in list(self.externals.values()):
+        for symbol in list(self.externals.values()) if not self.partial else []:
             if symbol.kind == "variable" and symbol.used and not symbol.defined:
-                self.problems.append(Refusal(symbol.at, f"`{symbol.name}`, which is declared and never defined", "its definition"))
+                self.problems.append(Refusal(symbol.at, f"`{symbol.name}`, which is declared and never defined", DEFINITION))
             if symbol.kind == "function" and symbol.used and not symbol.defined:
-                self.problems.append(Refusal(symbol.at, f"`{symbol.name}`, which isn't defined", "a function of the text, or one of the library that is there"))
+                self.problems.append(Refusal(symbol.at, f"`{symbol.name}`, which isn't defined", DEFINITION))
         if not self.model.in_bytes and self.from_generic and self.to_generic:
             self.problems.append(Refusal(max(self.to_generic[0], 0), "a reckoned `char *` that becomes a `void *`", "a pointer to what is there", True))
         self.in_prelude = False
