@@ -194,7 +194,7 @@ class Files(Case):
                           "int main(void)\n{\n    item_t b = { 4, 0 }, a = { 3, &b };\n    link p = &a;\n    struct later l = { 'x', 7 };\n"
                           "    printf(\"%d %d %d %d %d %d\\n\", sum(p), p->next->n, asked(open_one(5)), of_later(&l), own(), (int)sizeof(struct own));\n    return 0;\n}\n")
         more = self.write("more.c", "#include <stdlib.h>\n#include \"list.h\"\n#include \"later.h\"\nstruct hidden { char tag; int n; };\nstruct own { char c; };\n"
-                          "int sum(link l)\n{\n    int n = 0;\n    for (; l; l = l->next)\n        n += l->n;\n    return n + (int)sizeof(item_t) + (int)sizeof *l;\n}\n"
+                          "int sum(link l)\n{\n    int n = 0;\n    for (; l; l = l->next)\n        n += l->n;\n    return n + (sizeof(item_t) == sizeof *l);\n}\n"
                           "handle open_one(int n)\n{\n    handle h = malloc(sizeof *h);\n    h->n = n;\n    h->tag = 'h';\n    return h;\n}\n"
                           "int asked(handle h) { int n = h->n + h->tag; free(h); return n; }\nint of_later(struct later *l) { return l->n + l->c; }\nint own(void) { return sizeof(struct own); }\n")
         third = self.write("third.c", "#include \"list.h\"\nstruct hidden { int deep[4]; };\nint third(void) { struct hidden h = { { 1, 2, 3, 4 } }; handle p = &h; return p->deep[3] + (int)sizeof *p; }\n")
