@@ -13,6 +13,7 @@ from cbi_port.objects import Objects
 from cbi_port.reader import HEADERS, Unit, prelude_index, read_prelude
 from cbi_port.scopes import TAKEN, Names, Scope, Symbol, plain_name
 from cbi_port.trees import declared_outside, gives_value, holds_open, kind, names_under_address
+from cbi_port.wrappers import OBJECT, Wrappers
 from cbi_port.types import (INT, VOID, Array, CType, Function, Int, Pointer, Struct, Void, is_complete, is_whole,
                             spelled, to_function)
 
@@ -65,6 +66,7 @@ class Program(Jumps, Library):
         self.globals_text: List[str] = []
         self.library_names: Set[str] = set()
         self.wrappers: Dict[str, Symbol] = {}
+        self.makers_of_text = Wrappers(self)
         self.exit_functions = bool(self.words & {"atexit"})
         self.wrapped: Set[str] = {"getchar"} if self.words & AHEAD else set()
         self.keeps_sizes = "realloc" in self.words
@@ -271,6 +273,8 @@ class Program(Jumps, Library):
         type_ = symbol.type
         self.function = body = Body(symbol.name, type_.result)
         self.scope = Scope(self.scopes[unit.file])
+        if symbol.object is not None:
+            self.scope.names[OBJECT] = Symbol(OBJECT, "type", symbol.object)
         body.addressed = names_under_address(item)
         body.outer_names = declared_outside(item.body)
         self.last_place = max(self.place_of(item.decl), 0)
@@ -300,6 +304,8 @@ class Program(Jumps, Library):
         symbol.emitted = True
         if symbol.unit == "prelude":
             self.sheet.tail.append(bare(text))
+        elif symbol.object is not None or symbol in self.makers_of_text.known:
+            self.sheet.apart.append((token.file, text))
         else:
             self.sheet.put(token.file, text)
 
@@ -357,6 +363,8 @@ class Program(Jumps, Library):
             if unit.tree is not None:
                 self.survey(unit)
         self.begin_main()
+        if not self.model.in_bytes:
+            self.makers_of_text.find()
         for unit in self.units:
             if unit.tree is not None:
                 self.unit = unit
@@ -395,7 +403,7 @@ class Program(Jumps, Library):
 
     def define_or_wait(self, symbol: Symbol, item: Any, unit: Unit) -> None:
         """A static function of a header waits until it is called; one that nobody calls may be left out."""
-        if symbol.static and not self.is_users(item):
+        if symbol.static and not self.is_users(item) or symbol in self.makers_of_text.known:
             self.waiting.append((symbol, item, unit))
             return
         if symbol.static and self.mentions_of(symbol.name) < 2:
@@ -438,6 +446,7 @@ class Program(Jumps, Library):
         while more:
             more = False
             self.plan_helpers()
+            self.makers_of_text.generic_ones()
             for symbol, item, unit in list(self.waiting):
                 if symbol.used and id(item) not in done:
                     done.add(id(item))

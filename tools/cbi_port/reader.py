@@ -56,7 +56,7 @@ def preprocessed(file: str, options: Sequence[str], missing: List[Problem]) -> s
     with open(file, "rb"):
         pass
     words = preprocessor() + ["-m32", "-std=gnu99", "-nostdinc", "-x", "c", "-w"]
-    words += [f"-U{name}" for name in MACHINE] + ["-D__CBI__=1", "-D__STDC_IEC_559__=1", "-D__STDC_ISO_10646__=201706L", *options, "-I", HEADERS]
+    words += [f"-U{name}" for name in MACHINE] + ["-D__CBI__=1", "-D__STDC_IEC_559__=1", "-D__STDC_ISO_10646__=201706L", "-imacros", os.path.join(PRELUDE, "bison.h"), *options, "-I", HEADERS]
     with tempfile.TemporaryDirectory(prefix="cbi-port-") as room:
         for _ in range(MOST_MISSING):
             done = subprocess.run([*words, "-idirafter", room, file], stdout=subprocess.PIPE, stderr=subprocess.PIPE)
