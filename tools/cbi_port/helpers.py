@@ -162,8 +162,8 @@ class Helpers:
             self.add(self.sorter(name, type_))
         for name, type_ in program.searchers.items():
             self.add(self.searcher(name, type_))
-        for struct, index, write in sorted(program.union_helpers, key=lambda it: (it[0].tag, it[1], it[2])):
-            self.add(model.union_function(struct, index, write))
+        for struct, index, way in sorted(program.union_helpers, key=lambda it: (it[0].tag, it[1], it[2])):
+            self.add(model.union_function(struct, index, way))
         cleared: Set[Struct] = set()
         while set(program.cleared) - cleared:
             for struct in [it for it in program.cleared if it not in cleared]:

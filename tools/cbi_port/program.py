@@ -13,6 +13,7 @@ from cbi_port.objects import Objects
 from cbi_port.reader import HEADERS, Unit, prelude_index, read_prelude
 from cbi_port.scopes import TAKEN, Names, Scope, Symbol, plain_name
 from cbi_port.trees import declared_outside, gives_value, holds_open, kind, names_under_address
+from cbi_port.unions import Unions
 from cbi_port.wrappers import OBJECT, Wrappers
 from cbi_port.types import (INT, VOID, Array, CType, Function, Int, Pointer, Struct, Void, is_complete, is_whole,
                             spelled, to_function)
@@ -59,6 +60,7 @@ class Program(Jumps, Library):
         self.searchers: Dict[str, CType] = {}
         self.sort_call = ""
         self.union_helpers: Set[Any] = set()
+        self.unions = Unions(self)
         self.later: List[Any] = []
         self.from_generic: List[int] = []
         self.to_generic: List[int] = []
@@ -478,6 +480,7 @@ class Program(Jumps, Library):
                 self.problems.append(Refusal(symbol.at, f"`{symbol.name}`, which isn't defined", "a function of the text, or one of the library that is there"))
         if not self.model.in_bytes and self.from_generic and self.to_generic:
             self.problems.append(Refusal(max(self.to_generic[0], 0), "a reckoned `char *` that becomes a `void *`", "a pointer to what is there", True))
+        self.problems.extend(self.unions.problems())
         self.in_prelude = False
 
     def plan_helpers(self) -> None:

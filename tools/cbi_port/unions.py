@@ -1,0 +1,83 @@
+"""Unions (C99 6.7.2.1p14) where a cell keeps what was stored in it: those whose members are used by their names alone, each for what was stored in it."""
+from typing import Any, Dict, List, Set, Tuple
+
+from cbi_port.lines import Refusal, bare
+from cbi_port.types import Array, CType, Int, Member, Pointer, Struct, spread
+
+STORED, READ, CHANGED, TOUCHED = "stored", "read", "changed", "touched"
+HELPERS = {STORED: "put", READ: "get", CHANGED: "use", TOUCHED: "put"}  # the function that gives the member's place
+ADVICE = "a struct with a member for each kind of value"
+
+
+def innermost(type_: CType) -> CType:
+    return spread(type_)[0]
+
+
+def is_pointer_row(type_: CType) -> bool:
+    return isinstance(type_, Array) and isinstance(innermost(type_), Pointer)
+
+
+def has_number(type_: CType) -> bool:
+    """Whether a number is in it, which another member might show in its own way."""
+    type_ = innermost(type_)
+    return isinstance(type_, Int) or isinstance(type_, Struct) and any(has_number(member.type) for member in type_.members)
+
+
+class Unions:
+    """Which unions a program keeps with a cell for each member, and what it does with the members."""
+
+    def __init__(self, program: Any) -> None:
+        self.program = program
+        self.seen: Dict[Tuple[Struct, str], Set[str]] = {}       # what is done with a member
+        self.places: Dict[Tuple[Struct, str], int] = {}          # where it is read first
+        self.other: Dict[Struct, Tuple[int, str]] = {}           # where one is read behind another one that was stored at the same place
+
+    def is_told(self, union: Struct) -> bool:
+        """Whether it is known elsewhere which member a union has: a struct around it has a number."""
+        outside = [struct for struct in self.program.structs if any(member.type is union for member in struct.members)]
+        return bool(outside) and all(any(isinstance(member.type, Int) for member in struct.members) for struct in outside)
+
+    def has_tag(self, union: Struct) -> bool:
+        """Whether a struct around a union says which member it has, of which at most one is a number."""
+        return sum(1 for member in union.members if isinstance(member.type, Int)) <= 1 and self.is_told(union)
+
+    def may_be_named(self, union: Struct) -> bool:
+        """Whether a union may be kept as long as its members are used by their names: no number of it shows as another one, a struct around it says which
+        member it has, or the tables of a parser do (bison's YYSTYPE)."""
+        numbers = sum(1 for member in union.members if has_number(member.type))
+        if any(member.bits is not None or isinstance(member.type, Array) and not is_pointer_row(member.type) and numbers > 1 for member in union.members):
+            return False
+        if any(not isinstance(innermost(member.type), (Int, Pointer, Struct)) or isinstance(member.type, Array) and not member.type.count for member in union.members):
+            return False
+        return numbers <= 1 or self.is_told(union) or union.tag.endswith("STYPE")
+
+    def keeps(self, union: Struct, member: Member) -> bool:
+        """Whether a member is a place of its own in the text."""
+        return self.has_tag(union) and not isinstance(member.type, Array) and member.bits is None or self.may_be_named(union)
+
+    def note(self, union: Struct, name: str, pointer: str, what: str) -> None:
+        """What is done with a member: at the end it is known whether each that is read was stored, too."""
+        if self.program.function.quiet or self.has_tag(union) and not isinstance(union.find(name)[-1].type if union.find(name) else None, Array):
+            return
+        last, way = self.program.function.last_member, bare(pointer)
+        if what in (READ, CHANGED) and last.get(way, name) != name:
+            self.other.setdefault(union, (self.program.last_place, name))
+        last[way] = name
+        self.seen.setdefault((union, name), set()).add(what)
+        if what in (READ, CHANGED):
+            self.places.setdefault((union, name), self.program.last_place)
+
+    def forget(self, pointer: str) -> None:
+        """A union that was stored as a whole has what the other one had."""
+        self.program.function.last_member.pop(bare(pointer), None)
+
+    def problems(self) -> List[Refusal]:
+        """Unions of which a member is read that was stored as another one."""
+        found = []
+        for (union, name), seen in self.seen.items():
+            if union not in self.other and seen & {READ, CHANGED} and not seen & {STORED, TOUCHED}:
+                self.other[union] = (self.places[union, name], name)
+        for union, (at, name) in self.other.items():
+            found.append(Refusal(at, f"`{name}` of {union!r}, which is read where another member was stored", ADVICE, True))
+        return found
+
