@@ -1,7 +1,7 @@
 """Looks at tools/cbi-port: what it takes does as gcc makes it, and what is written by hand; what it refuses is told by line.
 
 A program of ports_table says behind its text what it does: `refused LINE WORDS`, or what it reads, its words, what it
-writes and its status (or trap). Without these it writes nothing and ends with 0.
+writes and its status (or trap). Without these it writes nothing and ends with 0. `memory cells` or `memory bytes` says how its memory is kept.
 """
 import ast
 import os
@@ -45,6 +45,7 @@ class Due:
         written = re.search(r"(?s)/\* writes\n(.*?)(status|trap) (-?\d+) \*/", text)
         self.output = written[1].encode() if written else b""
         self.status = int(written[3]) if written and written[2] == "status" else 0
+        self.memory = (re.search(r"(?m)^/\* memory (cells|bytes) \*/$", text) or ["", ""])[1]
         self.trap = int(written[3]) if written and written[2] == "trap" else None
 
 
@@ -94,6 +95,8 @@ class Programs(Case):
                     if memory == "bytes" and due.trap is not None:
                         continue
                     ported = cbi_port.port([os.path.join(TABLE, name)], args=due.words, memory=memory)
+                    if memory == "auto" and due.memory:
+                        self.assertEqual("bytes" if any("as bytes" in it for it in ported.liberties) else "cells", due.memory, name)
                     self.hold(name, text, ported)
 
     def test_lines(self):

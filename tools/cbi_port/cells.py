@@ -199,6 +199,8 @@ class Cells:
     def within(self, place: Place, what: str) -> Place:
         """A member of a union as a place with which is done what is said."""
         if place.union is None:
+            if what in (STORED, CHANGED):
+                self.program.unions.moved(place.text)
             return place
         struct, number_, pointer, name, way = place.union
         if isinstance(place.type, Array) and not way:

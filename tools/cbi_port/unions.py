@@ -1,9 +1,11 @@
 """Unions (C99 6.7.2.1p14) where a cell keeps what was stored in it: those whose members are used by their names alone, each for what was stored in it."""
+import re
 from typing import Any, Dict, List, Set, Tuple
 
 from cbi_port.lines import Refusal, bare
 from cbi_port.types import Array, CType, Int, Member, Pointer, Struct, spread
 
+WORD = re.compile(r"\w+")
 STORED, READ, CHANGED, TOUCHED = "stored", "read", "changed", "touched"
 HELPERS = {STORED: "put", READ: "get", CHANGED: "use", TOUCHED: "put"}  # the function that gives the member's place
 ADVICE = "a struct with a member for each kind of value"
@@ -62,14 +64,23 @@ class Unions:
         last, way = self.program.function.last_member, bare(pointer)
         if what in (READ, CHANGED) and last.get(way, name) != name:
             self.other.setdefault(union, (self.program.last_place, name))
-        last[way] = name
+        if what in (STORED, TOUCHED):
+            last[way] = name
         self.seen.setdefault((union, name), set()).add(what)
         if what in (READ, CHANGED):
             self.places.setdefault((union, name), self.program.last_place)
 
     def forget(self, pointer: str) -> None:
-        """A union that was stored as a whole has what the other one had."""
-        self.program.function.last_member.pop(bare(pointer), None)
+        """A union that was stored as a whole, or within one, has what the other one had."""
+        known, way = self.program.function.last_member, bare(pointer)
+        for it in [it for it in known if it.startswith(way)]:
+            del known[it]
+
+    def moved(self, variable: str) -> None:
+        """A variable has another value, so that a way through it leads elsewhere."""
+        known, name = self.program.function.last_member, bare(variable)
+        for it in [it for it in known if name in WORD.findall(it)]:
+            del known[it]
 
     def problems(self) -> List[Refusal]:
         """Unions of which a member is read that was stored as another one."""
