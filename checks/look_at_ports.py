@@ -1,7 +1,8 @@
 """Looks at tools/cbi-port: what it takes does as gcc makes it, and what is written by hand; what it refuses is told by line.
 
 A program of ports_table says behind its text what it does: `refused LINE WORDS`, or what it reads, its words, what it
-writes and its status (or trap). Without these it writes nothing and ends with 0. `memory cells` or `memory bytes` says how its memory is kept.
+writes and its status (or trap), and files that it may open. Without these it writes nothing and ends with 0. `memory cells` or `memory bytes` says
+how its memory is kept.
 """
 import ast
 import os
@@ -39,6 +40,7 @@ class Due:
 
     def __init__(self, text):
         self.refused = [(int(line), words) for line, words in re.findall(r"(?m)^(?:/\* )?refused (\d+) (.*?)\s*(?:\*/)?$", text)]
+        self.named = [(name, data.encode("latin-1")) for name, data in re.findall(r"(?ms)^/\* file (\S+)\n(.*?)\*/", text)]
         self.given = (re.search(r"(?s)/\* reads\n(.*?)\*/", text) or ["", ""])[1].encode()
         words = re.search(r"(?m)^/\* words (.*) \*/$", text)
         self.words = shlex.split(words[1]) if words else []
@@ -71,7 +73,7 @@ class Programs(Case):
                 self.assertEqual(got.status, due.status, f"{name} {mode}")
         if due.trap is None and BUILDS_32:
             built = check.compiled([os.path.join(TABLE, name)], [], self.room, "built", ["-O0"])
-            native = check.run_native(built, due.words, due.given)
+            native = check.run_native(built, due.words, due.given, due.named)
             self.assertEqual((native.output, native.status), (due.output, due.status), f"{name} by gcc")
 
     def test_programs(self):
@@ -94,7 +96,7 @@ class Programs(Case):
                 for memory in ("auto", "bytes"):
                     if memory == "bytes" and due.trap is not None:
                         continue
-                    ported = cbi_port.port([os.path.join(TABLE, name)], args=due.words, memory=memory)
+                    ported = cbi_port.port([os.path.join(TABLE, name)], args=due.words, memory=memory, named=due.named)
                     if memory == "auto" and due.memory:
                         self.assertEqual("bytes" if any("as bytes" in it for it in ported.liberties) else "cells", due.memory, name)
                     self.hold(name, text, ported)
@@ -225,13 +227,13 @@ class Files(Case):
         with self.assertRaises(OSError):
             cbi_port.port([self.path("none.c")])
         # All headers that aren't there at once, in all files, and of the rest what doesn't come of them.
-        first = self.write("c.c", "#include <none/at_all.h>\n#include <stdio.h>\n#include \"mine.h\"\nint main(void)\n{\n    WINDOW *w = initscr();\n    if (system(\"true\"))\n        rewind(stdin);\n    return mine(w);\n}\n")
+        first = self.write("c.c", "#include <none/at_all.h>\n#include <unistd.h>\n#include \"mine.h\"\nint main(void)\n{\n    WINDOW *w = initscr();\n    if (fork())\n        pause();\n    return mine(w);\n}\n")
         second = self.write("d.c", "#include \"mine.h\"\n#include <math.h>\nint mine(int w) { return pow(2, 3) > 1 + refused(w); }\n")
         with self.assertRaises(cbi_port.Refused) as caught:
             cbi_port.port([first, second])
         self.assertEqual([(os.path.basename(it.file), it.line, it.construct) for it in caught.exception.problems],
                          [("c.c", 1, "`#include` of none/at_all.h"), ("c.c", 3, "`#include` of mine.h"), ("d.c", 1, "`#include` of mine.h"),
-                          ("c.c", 7, "`system`"), ("c.c", 8, "`rewind`"), ("d.c", 3, "`pow`")])
+                          ("c.c", 7, "`fork`"), ("c.c", 8, "`pause`"), ("d.c", 3, "`pow`")])
         with self.assertRaises(cbi_port.Refused) as caught:
             cbi_port.port([self.write("b.c", "int f(void) { return 0; }\n")])
         self.assertEqual(caught.exception.problems[0].construct, "no `main`")

@@ -1,7 +1,7 @@
+#include <dirent.h>
 #include <fcntl.h>
 #include <locale.h>
 #include <pwd.h>
-#include <regex.h>
 #include <setjmp.h>
 #include <signal.h>
 #include <stdio.h>
@@ -15,32 +15,31 @@ static void stop(int n)
 {
     longjmp(back, n);
 }
-static int isatty_of(int n) { return n == STDIN_FILENO && O_RDONLY == 0 && LC_ALL == 6; }
+static int of_names(int n) { return n == STDIN_FILENO && O_RDONLY == 0 && LC_ALL == 6; }
 int main(int argc, char **argv)
 {
     struct stat s;
     struct tm day = { 0 };
     char b[10];
-    int (*f)(int) = close;
+    int (*f)(int *) = pipe;
     if (setjmp(back))
         return 1;
-    signal(SIGINT, stop);
+    if (fork() == 0)
+        execv(argv[0], argv);
     if (stat("x", &s) == 0 && S_ISREG(s.st_mode))
         read(0, b, sizeof b);
     if (0)
         pause();
-    while (getopt(argc, argv, "ab") != -1)
-        puts(optarg);
-    rewind(stdin);
-    return f(0) + (int)wcslen(L"x") + day.tm_year + isatty_of(2);
+    while (mkdir(argv[1], 0755))
+        puts(environ[0]);
+    signal(SIGINT, stop);
+    return f(0) + (int)wcslen(L"x") + day.tm_year + of_names(2);
 }
 /* refused 16 longjmp */
-/* refused 24 `close` */
+/* refused 24 `pipe` */
 /* refused 25 setjmp */
-/* refused 27 signal */
-/* refused 28 `stat` */
-/* refused 29 `read` */
-/* refused 32 `getopt` */
-/* refused 33 `optarg` */
-/* refused 34 `rewind` */
-/* refused 35 `wcslen` */
+/* refused 27 `fork` */
+/* refused 28 `execv` */
+/* refused 33 `mkdir` */
+/* refused 34 `environ` */
+/* refused 36 `wcslen` */

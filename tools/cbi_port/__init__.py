@@ -100,12 +100,13 @@ def for_preprocessor(chosen: argparse.Namespace) -> List[str]:
 
 
 def port(files: Sequence[str], cpp: Sequence[str] = (), args: Optional[Union[str, Sequence[str]]] = None,
-         stderr: bool = False, memory: str = "auto") -> Ported:
+         stderr: bool = False, memory: str = "auto", named: Sequence[Tuple[str, Optional[bytes]]] = ()) -> Ported:
     """The files as one text of the dialect.
 
     `cpp` are options of the preprocessor (`-I`, `-D`). `args` are the words behind the program's name: a list, or
-    "first-line" for those of the first line of the input. `stderr` joins what goes to stderr to the output.
+    "first-line" for those of the first line of the input. `stderr` joins what goes to stderr to the output. `named` are the
+    files that the text may open, by their names; the one without bytes is the one input.
     Raises `Refused`, `Missing` for want of a tool, and OSError for a file that can't be read.
     """
     from cbi_port.files import port_files
-    return port_files(files, list(cpp), args, stderr, memory)
+    return port_files(files, list(cpp), args, stderr, memory, named)

@@ -61,7 +61,7 @@ class Bytes(ByteObjects):
             return "", ""
         words = self.program.args
         if words == "first-line":
-            at = self.static_room(4 * 70, 4)
+            at = self.words_room()
             return ", ".join(["cbi_count", f"{at}u", f"{at + 4 * 66}u"][:count]), f"int cbi_count = cbi_first_line({at}u); "
         row = ["prog"] + list(words or [])
         at = self.static_room(4 * (len(row) + 2), 4)
@@ -71,6 +71,16 @@ class Bytes(ByteObjects):
             self.write(place - BASE, data, None)
             self.write(at - BASE + 4 * index, place.to_bytes(4, "little"), None)
         return ", ".join([str(len(row)), f"{at}u", f"{at + 4 * (len(row) + 1)}u"][:count]), ""
+
+    words_at = 0
+
+    def words_room(self) -> int:
+        """Where the words of the input's first line are."""
+        self.words_at = self.words_at or self.static_room(4 * 70, 4)
+        return self.words_at
+
+    def word_of_main(self, number: str) -> str:
+        return f"cbi_load_word({self.words_room()}u + 4u * {number})"
 
     def finish(self, helpers: Any) -> None:
         pass

@@ -5,9 +5,10 @@ import shutil
 import subprocess
 import sys
 import tempfile
-from typing import Any, Dict, List, NamedTuple, Optional, Sequence, Tuple
+from typing import Any, Callable, Dict, List, NamedTuple, Optional, Sequence, Tuple
 
 from cbi_port import Missing, Ported
+from cbi_port.system import Named, place_files
 
 SECONDS = 20
 
@@ -52,10 +53,17 @@ def compiled(files: Sequence[str], options: Sequence[str], folder: str, name: st
     return None
 
 
-def run_native(program: str, words: Sequence[str], data: bytes) -> Ran:
+def run_native(program: str, words: Sequence[str], data: bytes, named: Named = ()) -> Ran:
+    """A run of what gcc made, in a folder that has the files that are named."""
+    with tempfile.TemporaryDirectory(prefix="cbi-port-") as folder:
+        place_files(folder, words, named, data)
+        return run_in_folder(program, words, data, folder)
+
+
+def run_in_folder(program: str, words: Sequence[str], data: bytes, folder: str) -> Ran:
     environment = dict(os.environ, ASAN_OPTIONS="detect_leaks=0:exitcode=99", UBSAN_OPTIONS="halt_on_error=1:exitcode=99")
     try:
-        done = subprocess.run([program, *words], input=data, stdout=subprocess.PIPE, stderr=subprocess.PIPE, timeout=SECONDS, env=environment)
+        done = subprocess.run([program, *words], input=data, stdout=subprocess.PIPE, stderr=subprocess.PIPE, timeout=SECONDS, env=environment, cwd=folder)
     except subprocess.TimeoutExpired as late:
         return Ran(late.stdout or b"", None, "no end")
     told = done.stderr.decode("utf-8", "replace")
@@ -117,7 +125,7 @@ def words_of(args: Any, data: bytes) -> Tuple[List[str], bytes]:
 
 
 def compare(files: Sequence[str], options: Sequence[str], ported: Ported, inputs: Sequence[Tuple[str, bytes]], tool: str, args: Any = None,
-            turns: int = 100000000) -> Checked:
+            turns: int = 100000000, named: Named = ()) -> Checked:
     """Runs the files and the text on all inputs. Missing where gcc or the tool isn't there."""
     if shutil.which("gcc") is None:
         raise Missing("no gcc: Debian's package gcc has it")
@@ -132,15 +140,15 @@ def compare(files: Sequence[str], options: Sequence[str], ported: Ported, inputs
         equal, differences = 0, []
         for name, data in inputs:
             words, rest = words_of(args, data)
-            due, got = run_native(plain, words, rest), run_ported(tool, program, data, folder, turns)
+            due, got = run_native(plain, words, rest, named), run_ported(tool, program, data, folder, turns)
             if due.output == got.output and due.status == got.status and not due.stopped and not got.stopped:
                 equal += 1
                 continue
-            differences.append(told(name, due, got, strict, words, rest))
+            differences.append(told(name, due, got, lambda: run_native(strict, words, rest, named) if strict is not None else None))
         return Checked(equal, len(inputs), differences)
 
 
-def told(name: str, due: Ran, got: Ran, strict: Optional[str], words: Sequence[str], data: bytes) -> Difference:
+def told(name: str, due: Ran, got: Ran, sanitized: Callable[[], Optional[Ran]]) -> Difference:
     what = []
     if due.output != got.output:
         what.append(f"the output differs first at {first_difference(due.output, got.output)}")
@@ -149,10 +157,9 @@ def told(name: str, due: Ran, got: Ran, strict: Optional[str], words: Sequence[s
     if due.stopped == "signal 6" and got.stopped in ("trap 13", "trap 14") and due.output == got.output[:len(due.output)]:
         return Difference(name, "; ".join(what), f"end in {got.stopped} where gcc's aborts")
     explained = ""
-    if strict is not None:
-        held = run_native(strict, words, data)
-        if held.stopped or held.status == 99:
-            explained = f"{got.stopped or 'differ'} where a sanitizer stops"
+    held = sanitized()
+    if held is not None and (held.stopped or held.status == 99):
+        explained = f"{got.stopped or 'differ'} where a sanitizer stops"
     if not explained and due.stopped.startswith("signal") and got.stopped.startswith("trap"):
         explained = f"{got.stopped} where gcc's ends by {due.stopped}"
     if not explained and got.stopped == "trap 12":
@@ -169,14 +176,14 @@ def tool_at(said: Optional[str]) -> Optional[str]:
     return None
 
 
-def check(files: Sequence[str], options: Sequence[str], ported: Ported, folder: Optional[str], said: Optional[str], args: Any, turns: int) -> int:
+def check(files: Sequence[str], options: Sequence[str], ported: Ported, folder: Optional[str], said: Optional[str], args: Any, turns: int, named: Named = ()) -> int:
     """The command `--check`; 0 where each difference is explained."""
     tool = tool_at(said)
     if tool is None:
         print("cbi-port: no executable cbi: --tool names it", file=sys.stderr)
         return 2
     try:
-        checked = compare(files, options, ported, inputs_below(folder), tool, args, turns)
+        checked = compare(files, options, ported, inputs_below(folder), tool, args, turns, named)
     except Missing as missing:
         print(f"cbi-port: {missing}", file=sys.stderr)
         return 2

@@ -2,7 +2,7 @@
 import argparse
 import shlex
 import sys
-from typing import List, Optional
+from typing import List, Optional, Tuple
 
 from cbi_files import NOT_PROVED, TROUBLE, Words
 from cbi_port import Missing, Refused, for_preprocessor, port
@@ -20,6 +20,7 @@ def words(arguments: List[str]) -> argparse.Namespace:
     parser.add_argument("-include", action="append", default=[], metavar="FILE", help="a file that is read before each text")
     parser.add_argument("-o", metavar="OUT.c", help="where the text goes, and the map of its lines to OUT.c.lines; else to out, without a map")
     parser.add_argument("--args", metavar="WORDS", help="the arguments of main: words, or first-line for those of the input's first line")
+    parser.add_argument("--file", action="append", default=[], metavar="NAME=PATH", help="a file that the text may open under that name; NAME=- is the one input")
     parser.add_argument("--stderr", action="store_true", help="what goes to stderr goes to out")
     parser.add_argument("--memory", choices=["auto", "cells", "bytes"], default="auto", help="how memory is kept (docs/PORTING.md)")
     parser.add_argument("--quiet", action="store_true", help="nothing on err but refusals")
@@ -30,6 +31,21 @@ def words(arguments: List[str]) -> argparse.Namespace:
     return parser.parse_args(arguments)
 
 
+def files_of(rows: List[str]) -> List[Tuple[str, Optional[bytes]]]:
+    """The files of --file by their names; the one input has no bytes here."""
+    found: List[Tuple[str, Optional[bytes]]] = []
+    for row in rows:
+        name, mark, path = row.partition("=")
+        if not (name and mark and path):
+            raise ValueError(f"`{row}` is no NAME=PATH")
+        if path == "-":
+            found.append((name, None))
+            continue
+        with open(path, "rb") as file:
+            found.append((name, file.read()))
+    return found
+
+
 def main() -> int:
     said = words(sys.argv[1:])
     options = for_preprocessor(said)
@@ -38,7 +54,12 @@ def main() -> int:
         args = shlex.split(said.args)
     sys.setrecursionlimit(20000)
     try:
-        ported = port(said.files, options, args, said.stderr, said.memory)  # type: ignore[arg-type]
+        named = files_of(said.file)
+    except (OSError, ValueError) as wrong:
+        print(f"cbi-port: --file: {wrong}", file=sys.stderr)
+        return TROUBLE
+    try:
+        ported = port(said.files, options, args, said.stderr, said.memory, named)  # type: ignore[arg-type]
     except Refused as refused:
         for problem in refused.problems:
             print(f"cbi-port: {problem}", file=sys.stderr)
@@ -60,5 +81,5 @@ def main() -> int:
         print(f"ported: {ported.summary()}", file=sys.stderr)
     if said.check:
         from cbi_port.check import check
-        return check(said.files, options, ported, said.inputs, said.tool, args, said.turns)
+        return check(said.files, options, ported, said.inputs, said.tool, args, said.turns, named)
     return 0

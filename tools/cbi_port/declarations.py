@@ -132,6 +132,9 @@ class Context:
     def of_system(self, symbol: Symbol) -> bool:
         raise NotImplementedError
 
+    def variable_of_library(self, symbol: Symbol) -> Symbol:
+        raise NotImplementedError
+
     def missing(self, node: Any, name: str) -> Refusal:
         raise NotImplementedError
 

@@ -6,9 +6,10 @@ from cbi_port import Ported, Problem, Refused
 from cbi_port.lines import Refusal, Token
 from cbi_port.program import Program
 from cbi_port.reader import NO_HEADER, PreprocessorFailed, Unit, pieces, read
+from cbi_port.system import Named
 
 
-def port_files(files: Sequence[str], options: List[str], args: Any, stderr: bool, memory: str) -> Ported:
+def port_files(files: Sequence[str], options: List[str], args: Any, stderr: bool, memory: str, named: Named = ()) -> Ported:
     """See `cbi_port.port`."""
     tokens: List[Token] = [Token("mark", "", files[0] if files else "", 1)]
     problems: List[Refusal] = []
@@ -27,7 +28,7 @@ def port_files(files: Sequence[str], options: List[str], args: Any, stderr: bool
     first: Optional[Program] = None
     for way in (["cells", "bytes"] if memory == "auto" else [memory]):
         del tokens[size:]
-        program = Program(units, tokens, way, args, stderr)
+        program = Program(units, tokens, way, args, stderr, named)
         ported = run(program)
         if not program.problems:
             program.problems.extend(too_large(ported, tokens))

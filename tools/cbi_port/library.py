@@ -10,6 +10,7 @@ from cbi_port.reader import HEADERS
 from cbi_port.scopes import Symbol
 from cbi_port.gnu_calls import OVERFLOWS, GnuCalls
 from cbi_port.scan_calls import ScanCalls
+from cbi_port.system import TOLD, VARIABLES
 from cbi_port.trees import kind, without_casts
 from cbi_port.types import (CHAR, INT, LONG, UINT, VOID, Array, CType, Function, Int, Pointer, Struct, Void, is_float, is_long,
                             is_pointer, same, size_of, spelled, to_function)
@@ -27,18 +28,15 @@ RAW = {"memcpy": ("cbi_copy", Function(ANY, SIZED, False, True)), "memmove": ("c
        "memset": ("cbi_fill", Function(ANY, (ANY, INT, UINT), False, True)), "memcmp": ("cbi_compare", Function(INT, SIZED, False, True)),
        "malloc": ("cbi_malloc", Function(ANY, (UINT,), False, True)), "free": ("cbi_free", Function(VOID, (ANY,), False, True)),
        "calloc": ("cbi_calloc", Function(ANY, (UINT, UINT), False, True)), "realloc": ("cbi_realloc", Function(ANY, (ANY, UINT), False, True))}
-# Functions that look at bytes ahead: with one of them all input goes by the prelude.
-AHEAD = {"ungetc", "scanf", "fscanf", "vscanf", "vfscanf"}
 NO = {"setjmp": "a value that says what went wrong", "longjmp": "a value that says what went wrong", "_setjmp": "a value that says what went wrong",
       "sigsetjmp": "a value that says what went wrong", "siglongjmp": "a value that says what went wrong",
-      "signal": "a check before what goes wrong", "raise": "a check before what goes wrong",
-      "fopen": "the one input, and the one output", "fork": "one process", "system": "one process", "alloca": "`malloc`"}
+      "fork": "one process, which does what both would do", "alloca": "`malloc`"}
 # Of <math.h> what no way of rounding says to the last bit.
 ROUNDED = {word + end for end in ("", "f", "l") for word in (
     "acos", "acosh", "asin", "asinh", "atan", "atan2", "atanh", "cbrt", "cos", "cosh", "erf", "erfc", "exp", "exp2", "expm1", "hypot", "lgamma", "log", "log10",
     "log1p", "log2", "pow", "sin", "sinh", "tan", "tanh", "tgamma")}
 TYPED = {"malloc", "calloc", "realloc", "free", "memcpy", "memmove", "memset", "memcmp", "mempcpy", "bzero", "bcopy", "bcmp", "qsort", "bsearch", "alloca",
-         "strdup", "fread", "fwrite"}
+         "strdup", "fread", "fwrite", "read", "write"}
 
 
 class Library(GnuCalls):
@@ -57,7 +55,7 @@ class Library(GnuCalls):
         found = self.prelude_symbol(name)
         if found is None and name in self.model.own_calls and not name.startswith("lib_") and name in RAW:
             return self.raw_function(name, node)
-        return found if found is not None and found.kind == "function" else None
+        return found if found is not None and found.kind == "function" and found.defined else None
 
     def raw_function(self, name: str, node: Any) -> Symbol:
         """A function of memory as a value, where memory is bytes."""
@@ -96,7 +94,7 @@ class Library(GnuCalls):
             self.library_used(name)
             name = "__" + name
         found = self.prelude_symbol(name)
-        if found is not None and found.kind == "function":
+        if found is not None and found.kind == "function" and found.defined:
             self.library_used(name)
             self.use(found)
             return self.called(found.text, found, found.type, arguments, node, used)
@@ -109,6 +107,12 @@ class Library(GnuCalls):
         """Whether a function or a variable is declared by a header of the system alone, and nowhere defined."""
         at = symbol.at
         return symbol.kind in ("function", "variable") and symbol.outer and not symbol.defined and symbol.unit != "prelude" and 0 <= at < len(self.tokens) and self.tokens[at].file.startswith(HEADERS)
+
+    def variable_of_library(self, symbol: Symbol) -> Symbol:
+        """A variable that a text only declares, where the library has it."""
+        if symbol.name not in VARIABLES or symbol.kind != "variable" or not symbol.outer or symbol.defined or symbol.unit == "prelude":
+            return symbol
+        return self.prelude_symbol(symbol.name) or symbol
 
     def missing(self, node: Any, name: str) -> Refusal:
         """The refusal of what the system has and this library hasn't."""
@@ -133,6 +137,8 @@ class Library(GnuCalls):
 
     def library_used(self, name: str) -> None:
         if not self.in_prelude:
+            if name in TOLD:
+                self.liberties[TOLD[name]] = None
             self.library_names.add(name)
             self.counts["library functions"] = len(self.library_names)
 
@@ -200,7 +206,7 @@ class Library(GnuCalls):
     def lib_printf(self, node: Any, arguments: Sequence[Any], used: bool) -> Value:
         """`printf` as the dialect has it, where the statement is nothing else and the format is plain."""
         self.library_used("printf")
-        plain = self.plain_printf(node, arguments) if node is self.function.whole and not self.model.in_bytes else None
+        plain = self.plain_printf(node, arguments) if node is self.function.whole and not self.model.in_bytes and "putchar" not in self.wrapped else None
         if plain is not None:
             return plain
         found = self.prelude_symbol("printf")
@@ -237,26 +243,14 @@ class Library(GnuCalls):
 
     lib_atexit_count = 0
 
-    def with_liberty(self, name: str, told: str, node: Any, arguments: Sequence[Any], used: bool) -> Value:
-        """A call of the prelude that doesn't give what it gives elsewhere, which is told."""
-        self.library_used(name)
-        if not self.in_prelude:
-            self.liberties[told] = None
-        found = self.prelude_symbol(name)
-        assert found is not None
-        self.use(found)
-        return self.called(found.text, found, found.type, arguments, node, used)
-
-    def lib_time(self, node: Any, arguments: Sequence[Any], used: bool) -> Value:
-        return self.with_liberty("time", "time and clock give 0", node, arguments, used)
-
-    def lib_getenv(self, node: Any, arguments: Sequence[Any], used: bool) -> Value:
-        return self.with_liberty("getenv", "getenv gives NULL, whatever the environment has", node, arguments, used)
-
     def lib_clock(self, node: Any, arguments: Sequence[Any], used: bool) -> Value:
         self.library_used("clock")
-        self.liberties["time and clock give 0"] = None
         return number(0, LONG)
+
+    def lib___cbi_word(self, node: Any, arguments: Sequence[Any], used: bool) -> Value:
+        """A word of the input's first line."""
+        at = self.converted(self.value(arguments[0]), UINT)
+        return Value(Pointer(CHAR), self.model.word_of_main(at.at(UNARY)), POSTFIX, pure=False)
 
 
 class TypedCalls(ScanCalls):
@@ -454,17 +448,24 @@ class TypedCalls(ScanCalls):
         count = program.converted(program.value(arguments[2]), UINT, True, node)
         return Value(Pointer(VOID), f"cbi_search_{program.model.maker_name(inner)}({key.at(ASSIGN)}, {text}, {count.at(ASSIGN)}, {compare.at(ASSIGN)})", POSTFIX, pure=False)
 
-    def call_fread(self, node: Any, arguments: Sequence[Any], used: bool) -> Optional[Value]:
-        _, type_ = self.pointer(arguments[0])
+    def of_characters(self, node: Any, name: str, argument: Any) -> Optional[Value]:
+        """Refuses what is read or written byte by byte and has no characters; else the call is one of the prelude."""
+        _, type_ = self.pointer(argument)
         if not like_char(innermost(type_)[0]):
-            raise self.program.refuse(node, "`fread` of what isn't characters", "characters", True)
+            raise self.program.refuse(node, f"`{name}` of what isn't characters", "an array of characters, and each value from its bytes", True)
         return None
 
+    def call_fread(self, node: Any, arguments: Sequence[Any], used: bool) -> Optional[Value]:
+        return self.of_characters(node, "fread", arguments[0])
+
     def call_fwrite(self, node: Any, arguments: Sequence[Any], used: bool) -> Optional[Value]:
-        _, type_ = self.pointer(arguments[0])
-        if not like_char(innermost(type_)[0]):
-            raise self.program.refuse(node, "`fwrite` of what isn't characters", "characters", True)
-        return None
+        return self.of_characters(node, "fwrite", arguments[0])
+
+    def call_read(self, node: Any, arguments: Sequence[Any], used: bool) -> Optional[Value]:
+        return self.of_characters(node, "read", arguments[1])
+
+    def call_write(self, node: Any, arguments: Sequence[Any], used: bool) -> Optional[Value]:
+        return self.of_characters(node, "write", arguments[1])
 
     def call_alloca(self, node: Any, arguments: Sequence[Any], used: bool) -> Value:
         self.program.liberties["memory of alloca is kept to the end of the run"] = None

@@ -443,6 +443,10 @@ class Objects(Cells):
             rows += f"cbi_words[{index}] = malloc({len(text) + 1}); cbi_spell(cbi_words[{index}], {text}, cbi_length({text}) + 1, 1); "
         return ", ".join([str(len(texts)), "cbi_words", f"cbi_words + {len(texts) + 1}"][:count]), rows
 
+    def word_of_main(self, number: str) -> str:
+        """One of the words of the input's first line."""
+        return f"cbi_words[{number}]"
+
 
 def quoted(word: str) -> str:
     data = word.encode("utf-8")

@@ -137,6 +137,7 @@ class Places(Floats, Declarations):
                 self.liberties["what is written to stderr is left out (--stderr joins it)"] = None
         if symbol is None:
             raise self.refuse(node, f"`{node.name}`, which isn't declared", "a name that the text declares, or one of the library that is there")
+        symbol = self.variable_of_library(symbol)
         if symbol.kind == "function":
             self.use(symbol)
             value = self.model.function(symbol, node)

@@ -7,11 +7,12 @@ from cbi_port.body import Body
 from cbi_port.bytes import Bytes
 from cbi_port.helpers import Helpers
 from cbi_port.jumps import Jumps
-from cbi_port.library import AHEAD, Library
+from cbi_port.library import Library
 from cbi_port.lines import Refusal, Sheet, Token, bare, mark
 from cbi_port.objects import Objects
 from cbi_port.reader import HEADERS, Unit, prelude_index, read_prelude
 from cbi_port.scopes import TAKEN, Names, Scope, Symbol, plain_name
+from cbi_port.system import Named, asked
 from cbi_port.trees import declared_outside, gives_value, holds_open, kind, names_under_address
 from cbi_port.unions import Unions
 from cbi_port.wrappers import OBJECT, Wrappers
@@ -31,7 +32,7 @@ def prelude_text(name: str) -> str:
 class Program(Jumps, Library):
     """A translation of files into one text, with one model of memory."""
 
-    def __init__(self, units: Sequence[Unit], tokens: List[Token], memory: str, args: Any, stderr: bool) -> None:
+    def __init__(self, units: Sequence[Unit], tokens: List[Token], memory: str, args: Any, stderr: bool, named: Named = ()) -> None:
         self.tokens, self.units = tokens, units
         self.sheet = Sheet(tokens, units[0].file if units else "")
         self.problems: List[Refusal] = []
@@ -42,7 +43,9 @@ class Program(Jumps, Library):
         self.tags.used = set(TAKEN)
         self.floats = bool(self.words & {"float", "double", *FLOAT_NAMES}) or any(
             token.kind == "number" and token.text[:2] not in ("0x", "0X") and re.search("[.eE]", token.text) for token in tokens)
-        self.prelude_parts = (["FLOATS"] if self.floats else []) + forms.parts_of(tokens, self.floats)
+        self.asked = asked(tokens, self.words, args, stderr, named)
+        self.liberties.update(dict.fromkeys(self.asked.told))
+        self.prelude_parts = (["FLOATS"] if self.floats else []) + forms.parts_of(tokens, self.floats) + self.asked.parts
         self.lengths = {}
         self.structs, self.externals, self.by_node, self.headers, self.forwards = [], {}, {}, {}, {}
         self.statics: Dict[str, Dict[str, Symbol]] = {}
@@ -70,7 +73,7 @@ class Program(Jumps, Library):
         self.wrappers: Dict[str, Symbol] = {}
         self.makers_of_text = Wrappers(self)
         self.exit_functions = bool(self.words & {"atexit"})
-        self.wrapped: Set[str] = {"getchar"} if self.words & AHEAD else set()
+        self.wrapped: Set[str] = self.asked.wrapped
         self.keeps_sizes = "realloc" in self.words
         self.prelude_names = prelude_index()
         self.names.used |= {prelude_text(name) for name in self.prelude_names}
@@ -215,7 +218,7 @@ class Program(Jumps, Library):
         if known is not None and known.defined or file is None or file in self.prelude_units:
             return known
         unit, scope, function, inside = getattr(self, "unit", None), self.scope, self.function, self.in_prelude
-        self.prelude_units[file] = unit_ = read_prelude(file, self.tokens, self.prelude_parts)
+        self.prelude_units[file] = unit_ = read_prelude(file, self.tokens, self.prelude_parts, self.asked.header)
         self.in_prelude = True
         before = len(self.definitions)
         externals, self.externals = self.externals, self.prelude_symbols

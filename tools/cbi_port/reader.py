@@ -260,10 +260,13 @@ def prelude_index() -> Dict[str, str]:
     return found
 
 
-def read_prelude(file: str, tokens: List[Token], parts: Sequence[str]) -> Unit:
-    """A file of the prelude, with those of its parts that the text asks for."""
+def read_prelude(file: str, tokens: List[Token], parts: Sequence[str], header: str) -> Unit:
+    """A file of the prelude, with those of its parts that the text asks for, and the header of the files that are given."""
     problems: List[Refusal] = []
-    unit = read(file, ["-D__CBI_PRELUDE__", *(f"-D__CBI_{part}__" for part in parts)], tokens, problems, [])
+    with tempfile.TemporaryDirectory(prefix="cbi-port-") as room:
+        with open(os.path.join(room, "__cbi_given.h"), "w") as out:
+            out.write(header)
+        unit = read(file, ["-D__CBI_PRELUDE__", *(f"-D__CBI_{part}__" for part in parts), "-I", room], tokens, problems, [])
     if unit.tree is None or problems:
         raise AssertionError(f"the prelude isn't read: {file}: {[(it.construct, it.problem(tokens)) for it in problems]}")
     return unit

@@ -9,10 +9,11 @@ typedef struct { unsigned words[32]; } sigset_t;
 union sigval { int sival_int; void *sival_ptr; };
 typedef struct { int si_signo; int si_errno; int si_code; pid_t si_pid; uid_t si_uid; int si_status; void *si_addr; union sigval si_value; } siginfo_t;
 typedef struct { void *ss_sp; int ss_flags; size_t ss_size; } stack_t;
-struct sigaction { union { sighandler_t sa_handler; void (*sa_sigaction)(int, siginfo_t *, void *); }; sigset_t sa_mask; int sa_flags; void (*sa_restorer)(void); };
+struct sigaction { sighandler_t sa_handler; void (*sa_sigaction)(int, siginfo_t *, void *); sigset_t sa_mask; int sa_flags; void (*sa_restorer)(void); };
 #define SIG_ERR ((sighandler_t)-1)
 #define SIG_DFL ((sighandler_t)0)
-#define SIG_IGN ((sighandler_t)1)
+/* No number of a function. */
+#define SIG_IGN ((sighandler_t)-2)
 #define SIGINT 2
 #define SIGILL 4
 #define SIGABRT 6

@@ -3,7 +3,7 @@
 #define CBI_STDIO
 #include <stddef.h>
 #include <stdarg.h>
-struct __cbi_FILE { int number; int back; int ahead; int ended; };
+struct __cbi_FILE { int number; int back; int ahead; int ended; int failed; };
 typedef struct __cbi_FILE FILE;
 typedef int ssize_t;
 typedef int off_t;
@@ -75,6 +75,11 @@ void rewind(FILE *);
 int fgetpos(FILE *, fpos_t *);
 int fsetpos(FILE *, const fpos_t *);
 int getchar_unlocked(void);
+int putchar_unlocked(int);
+int vdprintf(int, const char *, va_list);
+#define L_tmpnam 20
+#define TMP_MAX 238328
+#define FOPEN_MAX 16
 int dprintf(int, const char *, ...);
 int asprintf(char **, const char *, ...);
 int vasprintf(char **, const char *, va_list);

@@ -5,31 +5,48 @@
 struct __cbi_FILE __cbi_in = { 0 };
 struct __cbi_FILE __cbi_out = { 1 };
 struct __cbi_FILE __cbi_err = { 2 };
+// Where a form is written to: the output (kind 0), a text (1), nowhere (2) or a file (3).
+#ifdef __CBI_OPENED__
+struct __cbi_sink { char *at; unsigned room; int count; int kind; struct __cbi_FILE *file; };
+int fgetc(struct __cbi_FILE *f) { int c; if (f->ahead) { f->ahead = 0; return f->back; } c = __cbi_read_byte(f->number); if (c == -2) { f->failed = 1; return -1; } if (c == -1) f->ended = 1; return c; }
+int fputc(int c, struct __cbi_FILE *f) { if (__cbi_write_byte(f->number, c)) { f->failed = 1; return -1; } return c & 255; }
+#else
 struct __cbi_sink { char *at; unsigned room; int count; int kind; };
 int fgetc(struct __cbi_FILE *f) { int c; if (f->number != 0) return -1; if (f->ahead) { f->ahead = 0; return f->back; } c = getchar(); if (c == -1) f->ended = 1; return c; }
+int fputc(int c, struct __cbi_FILE *f) { if (f->number == 1 || f->number == 2 && __cbi_join_stderr()) putchar(c); return c & 255; }
+#endif
+#ifdef __CBI_REDIRECTS__
+int __cbi_out_byte(int c) { return fputc(c, &__cbi_out); }
+#else
+int __cbi_out_byte(int c) { return putchar(c); }
+#endif
 int getc(struct __cbi_FILE *f) { return fgetc(f); }
 int __getchar(void) { return fgetc(&__cbi_in); }
 int getchar_unlocked(void) { return fgetc(&__cbi_in); }
 int ungetc(int c, struct __cbi_FILE *f) { if (c == -1 || f->ahead) return -1; f->ahead = 1; f->back = c & 255; f->ended = 0; return c & 255; }
 int feof(struct __cbi_FILE *f) { return f->ended; }
-int ferror(struct __cbi_FILE *f) { return 0; }
-void clearerr(struct __cbi_FILE *f) { f->ended = 0; }
+int ferror(struct __cbi_FILE *f) { return f->failed; }
+void clearerr(struct __cbi_FILE *f) { f->ended = 0; f->failed = 0; }
 int fileno(struct __cbi_FILE *f) { return f->number; }
-int fclose(struct __cbi_FILE *f) { return 0; }
 int fflush(struct __cbi_FILE *f) { return 0; }
 void setbuf(struct __cbi_FILE *f, char *buffer) { }
 int setvbuf(struct __cbi_FILE *f, char *buffer, int mode, unsigned size) { return 0; }
 char *fgets(char *s, int size, struct __cbi_FILE *f) { int n = 0; int c = 0; if (size <= 0) return 0; while (n < size - 1 && c != '\n') { c = fgetc(f); if (c == -1) { if (n == 0) return 0; break; } s[n] = c; n++; } s[n] = 0; return s; }
 char *gets(char *s) { int n = 0; int c; while ((c = fgetc(&__cbi_in)) != '\n') { if (c == -1) { if (n == 0) return 0; break; } s[n] = c; n++; } s[n] = 0; return s; }
-int fputc(int c, struct __cbi_FILE *f) { if (f->number == 1 || f->number == 2 && __cbi_join_stderr()) putchar(c); return c & 255; }
 int putc(int c, struct __cbi_FILE *f) { return fputc(c, f); }
-int __putchar(int c) { return putchar(c); }
-int __puts(const char *s) { while (*s) { putchar(*s); s++; } putchar(10); return 1; }
-int fputs(const char *s, struct __cbi_FILE *f) { while (*s) { fputc(*s, f); s++; } return 1; }
-unsigned fwrite(const void *from, unsigned size, unsigned count, struct __cbi_FILE *f) { const char *s = from; unsigned n; for (n = 0; n < size * count; n++) fputc(s[n], f); return count; }
+int __putchar(int c) { return __cbi_out_byte(c); }
+int putchar_unlocked(int c) { return __cbi_out_byte(c); }
+int __puts(const char *s) { while (*s) { __cbi_out_byte(*s); s++; } __cbi_out_byte(10); return 1; }
+int fputs(const char *s, struct __cbi_FILE *f) { while (*s) { if (fputc(*s, f) == -1) return -1; s++; } return 1; }
+unsigned fwrite(const void *from, unsigned size, unsigned count, struct __cbi_FILE *f) { const char *s = from; unsigned n; for (n = 0; n < size * count; n++) if (fputc(s[n], f) == -1) return n / size; return count; }
 unsigned fread(void *to, unsigned size, unsigned count, struct __cbi_FILE *f) { char *s = to; unsigned n = 0; int c; if (size == 0) return 0; while (n < size * count) { c = fgetc(f); if (c == -1) break; s[n] = c; n++; } return n / size; }
 void perror(const char *s) { if (s && *s) { fputs(s, &__cbi_err); fputs(": ", &__cbi_err); } fputs(strerror(errno), &__cbi_err); fputs("\n", &__cbi_err); }
-void __cbi_put(struct __cbi_sink *to, int c) { if (to->kind == 1) { if (to->room > 1u) { *to->at = c; to->at++; to->room--; } } else if (to->kind == 0) putchar(c); to->count++; }
+void __cbi_put(struct __cbi_sink *to, int c) { if (to->kind == 1) { if (to->room > 1u) { *to->at = c; to->at++; to->room--; } } else if (to->kind == 0) __cbi_out_byte(c); else __cbi_put_file(to, c); to->count++; }
+#ifdef __CBI_OPENED__
+void __cbi_put_file(struct __cbi_sink *to, int c) { if (to->kind == 3) fputc(c, to->file); }
+#else
+void __cbi_put_file(struct __cbi_sink *to, int c) { }
+#endif
 void __cbi_pad(struct __cbi_sink *to, int c, int count) { while (count > 0) { __cbi_put(to, c); count--; } }
 void __cbi_text(struct __cbi_sink *to, const char *s, int width, int most, int left) { int n = 0; int k; if (!s) { s = "(null)"; if (most >= 0 && most < 6) s = ""; } while ((most < 0 || n < most) && s[n]) n++; if (!left) __cbi_pad(to, ' ', width - n); for (k = 0; k < n; k++) __cbi_put(to, s[k]); if (left) __cbi_pad(to, ' ', width - n); }
 void __cbi_number(struct __cbi_sink *to, const char *digits, int count, const char *sign, int flags, int width, int most) {
@@ -190,16 +207,23 @@ int __cbi_format(struct __cbi_sink *to, const char *form, va_list more) {
 }
 int vprintf(const char *form, va_list more) { struct __cbi_sink to; to.at = 0; to.room = 0; to.count = 0; to.kind = 0; return __cbi_format(&to, form, more); }
 int printf(const char *form, ...) { va_list more; va_start(more, form); return vprintf(form, more); }
+#ifdef __CBI_OPENED__
+int vfprintf(struct __cbi_FILE *f, const char *form, va_list more) { struct __cbi_sink to; int n; to.at = 0; to.room = 0; to.count = 0; to.kind = 3; to.file = f; n = __cbi_format(&to, form, more); return f->failed ? -1 : n; }
+#else
 int vfprintf(struct __cbi_FILE *f, const char *form, va_list more) { struct __cbi_sink to; to.at = 0; to.room = 0; to.count = 0; to.kind = f->number == 1 || f->number == 2 && __cbi_join_stderr() ? 0 : 2; return __cbi_format(&to, form, more); }
+#endif
 int fprintf(struct __cbi_FILE *f, const char *form, ...) { va_list more; va_start(more, form); return vfprintf(f, form, more); }
 int vsnprintf(char *at, unsigned room, const char *form, va_list more) { struct __cbi_sink to; int n; to.at = at; to.room = room; to.count = 0; to.kind = 1; n = __cbi_format(&to, form, more); if (room > 0u) *to.at = 0; return n; }
 int snprintf(char *at, unsigned room, const char *form, ...) { va_list more; va_start(more, form); return vsnprintf(at, room, form, more); }
 int vsprintf(char *at, const char *form, va_list more) { return vsnprintf(at, 2147483647u, form, more); }
 int sprintf(char *at, const char *form, ...) { va_list more; va_start(more, form); return vsnprintf(at, 2147483647u, form, more); }
-int dprintf(int number, const char *form, ...) { va_list more; va_start(more, form); return vfprintf(number == 1 ? &__cbi_out : &__cbi_err, form, more); }
-struct __cbi_source { const char *at; int count; int ended; };
-int __cbi_take(struct __cbi_source *from) { int c; if (!from->at) c = fgetc(&__cbi_in); else { c = *from->at & 255; if (c == 0) c = -1; else from->at++; } if (c != -1) from->count++; return c; }
-void __cbi_give(struct __cbi_source *from, int c) { if (c == -1) return; from->count--; if (!from->at) ungetc(c, &__cbi_in); else from->at--; }
+int vdprintf(int number, const char *form, va_list more) { struct __cbi_FILE f; f.number = number; f.ahead = 0; f.ended = 0; f.failed = 0; return vfprintf(&f, form, more); }
+int dprintf(int number, const char *form, ...) { va_list more; va_start(more, form); return vdprintf(number, form, more); }
+int vasprintf(char **to, const char *form, va_list more) { int n = vsnprintf(0, 0, form, more); if (n < 0) return n; *to = malloc(n + 1); return vsnprintf(*to, n + 1, form, more); }
+int asprintf(char **to, const char *form, ...) { va_list more; va_start(more, form); return vasprintf(to, form, more); }
+struct __cbi_source { const char *at; int count; int ended; struct __cbi_FILE *file; };
+int __cbi_take(struct __cbi_source *from) { int c; if (!from->at) c = fgetc(from->file); else { c = *from->at & 255; if (c == 0) c = -1; else from->at++; } if (c != -1) from->count++; return c; }
+void __cbi_give(struct __cbi_source *from, int c) { if (c == -1) return; from->count--; if (!from->at) ungetc(c, from->file); else from->at--; }
 int __cbi_blank(int c) { return c == ' ' || c >= 9 && c <= 13; }
 int __cbi_in_set(const char *set, int length, int c) {
     int not = 0; int n = 0;
@@ -386,10 +410,11 @@ int __cbi_scan(struct __cbi_source *from, const char *form, va_list more) {
     }
     return done;
 }
-int vscanf(const char *form, va_list more) { struct __cbi_source from; from.at = 0; from.count = 0; return __cbi_scan(&from, form, more); }
+int vfscanf(struct __cbi_FILE *f, const char *form, va_list more) { struct __cbi_source from; from.at = 0; from.count = 0; from.file = f; return __cbi_scan(&from, form, more); }
+int vscanf(const char *form, va_list more) { return vfscanf(&__cbi_in, form, more); }
 int scanf(const char *form, ...) { va_list more; va_start(more, form); return vscanf(form, more); }
-int fscanf(struct __cbi_FILE *f, const char *form, ...) { va_list more; va_start(more, form); return vscanf(form, more); }
-int vsscanf(const char *s, const char *form, va_list more) { struct __cbi_source from; from.at = s; from.count = 0; return __cbi_scan(&from, form, more); }
+int fscanf(struct __cbi_FILE *f, const char *form, ...) { va_list more; va_start(more, form); return vfscanf(f, form, more); }
+int vsscanf(const char *s, const char *form, va_list more) { struct __cbi_source from; from.at = s; from.count = 0; from.file = 0; return __cbi_scan(&from, form, more); }
 int sscanf(const char *s, const char *form, ...) { va_list more; va_start(more, form); return vsscanf(s, form, more); }
 int getdelim(char **line, unsigned *size, int end, struct __cbi_FILE *f) {
     int n = 0; int c; char *more; int k;

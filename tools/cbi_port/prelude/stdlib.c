@@ -76,7 +76,6 @@ int random(void) { return rand(); }
 void srandom(unsigned seed) { srand(seed); }
 int rand_r(unsigned *state) { unsigned next = *state; int result; next = next * 1103515245u + 12345u; result = next / 65536u % 2048u; next = next * 1103515245u + 12345u; result = result << 10; result ^= next / 65536u % 1024u; next = next * 1103515245u + 12345u; result = result << 10; result ^= next / 65536u % 1024u; *state = next; return result; }
 char *getenv(const char *name) { return 0; }
-int time(int *to) { if (to) *to = 0; return 0; }
 struct __cbi_exit_state { void (*f[32])(void); int count; };
 struct __cbi_exit_state __cbi_exits;
 int atexit(void (*f)(void)) { if (__cbi_exits.count == 32) return -1; __cbi_exits.f[__cbi_exits.count] = f; __cbi_exits.count++; return 0; }
