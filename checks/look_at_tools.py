@@ -23,6 +23,7 @@ from look_at_hunts import Hunt, Sample  # noqa: E402,F401
 from look_at_inputs import Folders, Mutants, Oracles, Smaller  # noqa: E402,F401
 from look_at_lists import Listed, Retold, Without  # noqa: E402,F401
 from look_at_pages import Pages, Sarif, Style, sound  # noqa: E402,F401
+from look_at_real import Beginnings, RandomPrograms  # noqa: E402,F401
 from look_at_screens import Screens  # noqa: E402,F401
 from look_at_signals import Signals  # noqa: E402,F401
 from look_at_statuses import Statuses  # noqa: E402,F401
