@@ -8,7 +8,19 @@ import sys
 from looking import EXAMPLES, Case
 
 HERE = os.path.join(EXAMPLES, "bc")
-FIRST = 32  # as many scalars and arrays bc has room for at first; more_arrays goes wrong where it gets less room than there is for scalars
+# bc has room for 32 arrays and for 32 scalars at first, and for 32 more whenever one has no room; the numbers of arrays begin at 1, those of scalars at 5.
+ARRAYS, SCALARS = 31, 59
+
+
+def overruns(text):
+    """Whether there is room for 96 scalars, and so 60 have a name, before the 32nd array has one, for which there is room for 64."""
+    scalars, arrays = set(), set()
+    for scalar, array in re.findall(r"\b(v[a-z]\d|[ijxy])\b|\b(t[a-z]\d)\[", text):
+        scalars.add(scalar)
+        arrays.add(array)
+        if len(arrays - {""}) > ARRAYS:
+            return len(scalars - {""}) > SCALARS
+    return False
 
 
 class RandomPrograms(Case):
@@ -25,13 +37,8 @@ class RandomPrograms(Case):
         self.assertEqual(self.made("first", 5), self.made("seed", 5, "1"))
 
     def test_some_fail_and_most_do_not(self):
-        programs = self.made("programs", 400)
-        failing = 0
-        for text in programs:
-            scalars = len(set(re.findall(r"(?m)^(v\w+) = ", text)))
-            arrays = len(set(re.findall(r"(?m)^(t\w+)\[", text)))
-            failing += scalars > 2 * FIRST and arrays > FIRST
-        self.assertTrue(20 <= failing <= 200, failing)
+        failing = sum(map(overruns, self.made("programs", 400)))
+        self.assertTrue(20 <= failing <= 120, failing)
 
     def test_bc_takes_them(self):
         if not shutil.which("bc"):
