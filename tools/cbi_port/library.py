@@ -31,10 +31,8 @@ RAW = {"memcpy": ("cbi_copy", Function(ANY, SIZED, False, True)), "memmove": ("c
 NO = {"setjmp": "a value that says what went wrong", "longjmp": "a value that says what went wrong", "_setjmp": "a value that says what went wrong",
       "sigsetjmp": "a value that says what went wrong", "siglongjmp": "a value that says what went wrong",
       "fork": "one process, which does what both would do", "alloca": "`malloc`"}
-# Of <math.h> what no way of rounding says to the last bit.
-ROUNDED = {word + end for end in ("", "f", "l") for word in (
-    "acos", "acosh", "asin", "asinh", "atan", "atan2", "atanh", "cbrt", "cos", "cosh", "erf", "erfc", "exp", "exp2", "expm1", "hypot", "lgamma", "log", "log10",
-    "log1p", "log2", "pow", "sin", "sinh", "tan", "tanh", "tgamma")}
+# Of <math.h> what isn't there.
+ROUNDED = {word + end for end in ("", "f", "l") for word in ("erf", "erfc", "lgamma", "tgamma", "j0", "j1", "jn", "y0", "y1", "yn")}
 TYPED = {"malloc", "calloc", "realloc", "free", "memcpy", "memmove", "memset", "memcmp", "mempcpy", "bzero", "bcopy", "bcmp", "qsort", "bsearch", "alloca",
          "strdup", "fread", "fwrite", "read", "write"}
 

@@ -20,7 +20,9 @@ from cbi_port.types import (INT, VOID, Array, CType, Function, Int, Pointer, Str
                             spelled, to_function)
 
 # Functions of the library by which floats come in without a word of theirs.
-FLOAT_NAMES = {"strtod", "strtof", "atof", "sqrt", "floor", "ceil", "fabs"}
+FLOAT_NAMES = {"strtod", "strtof", "atof", "difftime", *(word + end for end in ("", "f", "l") for word in (
+    "acos", "acosh", "asin", "asinh", "atan", "atan2", "atanh", "cbrt", "ceil", "cos", "cosh", "exp", "exp10", "exp2", "expm1", "fabs", "floor", "fmod", "hypot",
+    "log", "log10", "log1p", "log2", "logb", "pow", "rint", "round", "sin", "sinh", "sqrt", "tan", "tanh", "trunc"))}
 
 
 def prelude_text(name: str) -> str:

@@ -151,6 +151,29 @@ long double lgammal(long double);
 long double powl(long double, long double);
 long double atan2l(long double, long double);
 long double hypotl(long double, long double);
+double exp10(double);
+double logb(double);
+int ilogb(double);
+double nextafter(double, double);
+double remainder(double, double);
+void sincos(double, double *, double *);
+float exp10f(float);
+float logbf(float);
+int ilogbf(float);
+float nextafterf(float, float);
+float remainderf(float, float);
+void sincosf(float, float *, float *);
+long double exp10l(long double);
+long double logbl(long double);
+int ilogbl(long double);
+long double nextafterl(long double, long double);
+long double remainderl(long double, long double);
+void sincosl(long double, long double *, long double *);
+#define FP_ILOGB0 (-2147483647 - 1)
+#define FP_ILOGBNAN (-2147483647 - 1)
+#define MATH_ERRNO 1
+#define MATH_ERREXCEPT 2
+#define math_errhandling MATH_ERRNO
 int signbit(double);
 int isnan(double);
 int isinf(double);

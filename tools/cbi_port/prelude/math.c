@@ -81,3 +81,9 @@ long double scalblnl(long double x, long n) { return (long double)scalbln(x, n);
 long double frexpl(long double x, int *n) { return (long double)frexp(x, n); }
 long double modfl(long double x, long double *whole) { double t; double rest = modf(x, &t); *whole = (long double)t; return (long double)rest; }
 long double nanl(const char *tag) { return (long double)__cbi_quiet(); }
+double nextafter(double x, double y) { unsigned long long a = __cbi_bits(x); if (x != x || y != y) return x + y; if (x == y) return y; if (x == 0) return copysign(__cbi_of_bits(1), y); return __cbi_of_bits((x < y) == (x > 0) ? a + 1 : a - 1); }
+float nextafterf(float x, float y) { double d = x; unsigned long long a = __cbi_bits(d); int grows = (x < y) == (x > 0); if (x != x || y != y) return x + y; if (x == y) return y; if (x == 0) return copysignf(1.401298464324817e-45f, y); if (isinf(d)) return copysignf(3.4028234663852886e38f, x); d = fabs(d); if (d < 1.1754943508222875e-38 || d == 1.1754943508222875e-38 && !grows) return (float)(x < y ? x + 1.401298464324817e-45 : x - 1.401298464324817e-45); return (float)__cbi_of_bits(grows ? a + 0x20000000ULL : a - 0x20000000ULL); }
+long double nextafterl(long double x, long double y) { return (long double)nextafter((double)x, (double)y); }
+double remainder(double x, double y) { double a; double b = fabs(y); if (x != x || y != y) return x + y; if (isinf(x) || b == 0) return __cbi_of_bits(0xfff8000000000000ULL); if (isinf(b)) return x; a = fabs(x); if (b < 8e307) a = fmod(a, b + b); if (b < 1e-300) { if (a + a > b) { a = a - b; if (a + a >= b) a = a - b; } } else if (a > 0.5 * b) { a = a - b; if (a >= 0.5 * b) a = a - b; } return copysign(1, x) * a; }
+float remainderf(float x, float y) { return (float)remainder(x, y); }
+long double remainderl(long double x, long double y) { return (long double)remainder((double)x, (double)y); }
