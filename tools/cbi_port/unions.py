@@ -6,6 +6,7 @@ from cbi_port.lines import Refusal, bare
 from cbi_port.types import Array, CType, Int, Member, Pointer, Struct, spread
 
 WORD = re.compile(r"\w+")
+# What is done with a member; an array is touched where an element of it is read or stored.
 STORED, READ, CHANGED, TOUCHED = "stored", "read", "changed", "touched"
 HELPERS = {STORED: "put", READ: "get", CHANGED: "use", TOUCHED: "put"}  # the function that gives the member's place
 ADVICE = "a struct with a member for each kind of value"
@@ -13,10 +14,6 @@ ADVICE = "a struct with a member for each kind of value"
 
 def innermost(type_: CType) -> CType:
     return spread(type_)[0]
-
-
-def is_pointer_row(type_: CType) -> bool:
-    return isinstance(type_, Array) and isinstance(innermost(type_), Pointer)
 
 
 def has_number(type_: CType) -> bool:
@@ -47,11 +44,15 @@ class Unions:
         """Whether a union may be kept as long as its members are used by their names: no number of it shows as another one, a struct around it says which
         member it has, or the tables of a parser do (bison's YYSTYPE)."""
         numbers = sum(1 for member in union.members if has_number(member.type))
-        if any(member.bits is not None or isinstance(member.type, Array) and not is_pointer_row(member.type) and numbers > 1 for member in union.members):
-            return False
-        if any(not isinstance(innermost(member.type), (Int, Pointer, Struct)) or isinstance(member.type, Array) and not member.type.count for member in union.members):
+        if not all(map(self.may_be_place, union.members)):
             return False
         return numbers <= 1 or self.is_told(union) or union.tag.endswith("STYPE")
+
+    def may_be_place(self, member: Member) -> bool:
+        """Whether a member may be told apart from the others by its name: one value, or an array of pointers."""
+        if isinstance(member.type, Array):
+            return bool(member.type.count) and isinstance(innermost(member.type), Pointer)
+        return member.bits is None and isinstance(member.type, (Int, Pointer, Struct))
 
     def keeps(self, union: Struct, member: Member) -> bool:
         """Whether a member is a place of its own in the text."""
@@ -59,7 +60,7 @@ class Unions:
 
     def note(self, union: Struct, name: str, pointer: str, what: str) -> None:
         """What is done with a member: at the end it is known whether each that is read was stored, too."""
-        if self.program.function.quiet or self.has_tag(union) and not isinstance(union.find(name)[-1].type if union.find(name) else None, Array):
+        if self.program.function.quiet or self.has_tag(union):
             return
         last, way = self.program.function.last_member, bare(pointer)
         if what in (READ, CHANGED) and last.get(way, name) != name:

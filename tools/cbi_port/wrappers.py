@@ -231,7 +231,8 @@ class Wrappers:
         """Declares what holds the memory as a pointer to the object, and leaves out its casts to other pointers."""
         for name, child in node.children():
             inner = without_casts(child)
-            if inner is not child and (kind(inner) == "ID" and inner.name in held or kind(inner) == "FuncCall" and kind(inner.name) == "ID" and self.makes(inner.name.name)):
+            makes = kind(inner) == "FuncCall" and kind(inner.name) == "ID" and self.makes(inner.name.name)
+            if inner is not child and (makes or kind(inner) == "ID" and inner.name in held):
                 replace(node, name, inner)
             if kind(child) == "Decl" and child.name in held:
                 child.type.type.type.names = [OBJECT]
