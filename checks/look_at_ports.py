@@ -220,6 +220,20 @@ class Files(Case):
             self.assertEqual((got.output, got.status), (by_gcc.stdout, by_gcc.returncode))
             self.assertEqual(by_gcc.stdout, b"prog: No such file or directory\nUnknown error 200\n")
 
+    def test_files_that_are_named(self):
+        """The files that are named and the one input by its name, also where that is a word of its first line: each run as gcc's, in a folder that has them."""
+        name = self.write("sum.c", "#include <stdio.h>\nint main(int argc, char **argv)\n{\n    FILE *f = argc > 1 ? fopen(argv[argc - 1], \"r\") : stdin, *g = fopen(\"table\", \"rb\");\n"
+                          "    int n, sum = 0, c;\n    if (!f) { puts(\"none\"); return 2; }\n    while (fscanf(f, \"%d\", &n) == 1) sum += n;\n    printf(\"%d\\n\", sum);\n"
+                          "    if (g) while ((c = getc(g)) != EOF) putchar(c);\n    while ((c = getchar()) != EOF) sum++;\n    return sum;\n}\n")
+        table = [("table", b"a\0b\xff\n")]
+        rows = [(["numbers"], table, b"1 2 3\n"), ("first-line", table, b"numbers\n1 2 3\n"), (None, table, b"4 5\n"), (["-q"], table, b"7\n"), (["-q", "numbers"], [], b"8\n"),
+                (["table", "other"], [*table, ("other", None)], b"9 1\n")]
+        for memory in ("cells", "bytes"):
+            for args, named, given in rows:
+                ported = cbi_port.port([name], args=args, memory=memory, named=named)
+                checked = check.compare([name], [], ported, [("given", given)], CBI, args, TURNS, named)
+                self.assertEqual(checked.equal, 1, f"{memory} {args}: {checked.differences}")
+
     def test_not_there(self):
         with self.assertRaises(cbi_port.Refused) as caught:
             cbi_port.port([self.write("a.c", "#include \"none.h\"\nint main(void) { return 0; }\n")])
@@ -243,8 +257,13 @@ class Files(Case):
         """`cbi` takes 100,000 tokens and 1,048,576 bytes: the first text has as many tokens, the next one two more, the last two as many bytes and one more."""
         texts = (b"1," * 50000, b"1," * 50001, b" " * 1048576, b" " * 1048577)
         told = [[it.construct for it in too_large(cbi_port.Ported(text, [], [], [], {}), [])] for text in texts]
-        what = ["a program whose text is too large (more than 100,000 tokens, or 1,048,576 bytes)"]
-        self.assertEqual(told, [[], what, [], what])
+        what = "a program whose text has {} may be"
+        self.assertEqual(told, [[], [what.format("100,002 tokens, of which 100,000")], [], [what.format("1,048,577 bytes, of which 1,048,576")]])
+        # Three lines of a program: 60,000 tokens of one file, 30,003 of another, 15,000 that were added.
+        lines = [cbi_port.Line("a.c", 1, False), cbi_port.Line("b.c", 7, False), cbi_port.Line("", 0, True)]
+        text = b"\n".join((b"1," * 30000, b"1," * 15001 + b"1", b"1," * 7500))
+        self.assertEqual([it.construct for it in too_large(cbi_port.Ported(text, lines, [], [], {}), [])],
+                         [what.format("105,003 tokens, of which 100,000") + " (a.c 57 %, b.c 28 %, what is added 14 %)"])
 
 
 class Command(Case):
@@ -272,6 +291,13 @@ class Command(Case):
         self.write("in/below/y", "")
         out, _ = self.call("cbi-port", "--check", "--inputs", "in", "a.c")
         self.assertEqual(out, "2 of 2 outputs as gcc's\n")
+        self.write("f.c", "#include <stdio.h>\nint main(void)\n{\n    FILE *f = fopen(\"list\", \"r\");\n    int c;\n    while (f && (c = getc(f)) != EOF) putchar(c);\n    return 0;\n}\n")
+        self.write("a list", "one\n")
+        out, _ = self.call("cbi-port", "--check", "--file", "list=a list", "f.c")
+        self.assertEqual(out, "1 of 1 outputs as gcc's\n")
+        for said, what in (("list", "--file: `list` is no NAME=PATH"), ("list=none at all", "No such file or directory: 'none at all'")):
+            _, err = self.call("cbi-port", "--file", said, "f.c", due=2)
+            self.assertIn(what, err)
         self.write("c.c", "int main(void)\n{\n    double f = erf(1);\n    goto x;\n}\n")
         out, err = self.call("cbi-port", "c.c", due=1)
         self.assertEqual(out, "")

@@ -31,10 +31,10 @@ int main(int argc, char **argv)
     while ((c = getopt(argc, argv, "+:a:bc::V")) != -1)
         printf("%c %s %d\n", c, optarg ? optarg : "-", optind);
     printf("%s %d\n", text ? text : "none", now >= 0);
-    was = signal(SIGINT, SIG_IGN); printf("%d\n", was == SIG_DFL);
-    raise(SIGINT);
-    was = signal(SIGINT, on); printf("%d\n", was == SIG_IGN);
-    raise(SIGINT); raise(SIGINT); printf("%d\n", caught);
+    was = signal(SIGUSR1, SIG_IGN); printf("%d\n", was == SIG_DFL);
+    raise(SIGUSR1);
+    was = signal(SIGUSR1, on); printf("%d\n", was == SIG_IGN);
+    raise(SIGUSR1); raise(SIGUSR1); printf("%d\n", caught);
     t = gmtime(&then); printf("%d-%d-%d %d:%d:%d %d %d\n", t->tm_year, t->tm_mon, t->tm_mday, t->tm_hour, t->tm_min, t->tm_sec, t->tm_wday, t->tm_yday);
     strftime(line, sizeof line, "%a %A %b %B %C %d %D %e %F %g %G %H %I %j %k %l %m %M %p %P %r %R %S %T %u %U %V %w %W %x %X %y %Y %% %c|%-d|%_m|%^a", t); puts(line);
     day = *t; day.tm_mday += 400; day.tm_mon = 14; printf("%d\n", (int)timegm(&day)); printf("%s", asctime(&day));
@@ -64,7 +64,7 @@ b - 2
 C 1
 1
 1
-4
+20
 100-1-29 12:34:56 2 59
 Tue Tuesday Feb February 20 29 02/29/00 29 2000-02-29 00 2000 12 12 060 12 12 02 34 PM pm 12:34:56 PM 12:34 56 12:34:56 2 09 09 2 09 02/29/00 12:34:56 00 2000 % Tue Feb 29 12:34:56 2000|29| 2|TUE
 1020429296
@@ -105,4 +105,4 @@ Wed Dec 31 23:59:59 1969
 2031-10-24 14:07:28 297 2031-43-5 42 42
 1
 .
-status 4 */
+status 20 */

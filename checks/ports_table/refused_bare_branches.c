@@ -3,13 +3,13 @@
 int choose(int n)
 {
     if (n > 2)
-        system("true");
+        fork();
     else
         n++;
     if (n > 3)
         n--;
     else
-        system("false");
+        vfork();
     while (n > 4)
         if (n > 5)
             fork();
@@ -27,7 +27,7 @@ int main(void)
         puts("never");
     return 0;
 }
-/* refused 6 system */
-/* refused 12 system */
+/* refused 6 `fork` */
+/* refused 12 `vfork` */
 /* refused 15 fork */
 /* refused 25 setjmp */

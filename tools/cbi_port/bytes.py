@@ -31,6 +31,7 @@ class Bytes(ByteObjects):
                 return Value(result, f"cbi_{word}({', '.join(texts)})", POSTFIX, pure=False)
             table[name] = call
         table["qsort"] = self.call_qsort
+        table["qsort_r"] = self.call_qsort_r
         table["bsearch"] = self.call_bsearch
         table["bzero"] = lambda node, arguments, used: Value(VOID, "cbi_fill({}, 0, {})".format(*(
             self.program.converted(self.program.value(it), type_, True, node).at(ASSIGN) for it, type_ in zip(arguments, (Pointer(VOID), UINT)))), POSTFIX, pure=False)
@@ -38,23 +39,39 @@ class Bytes(ByteObjects):
             self.program.converted(self.program.value(it), type_, True, node).at(ASSIGN) for it, type_ in zip(arguments, (Pointer(VOID), Pointer(VOID), UINT)))), POSTFIX, pure=False)
         return table
 
-    def order(self) -> None:
-        program = self.program
-        program.sort_call = program.dispatcher(Function(INT, (Pointer(VOID), Pointer(VOID)), False, True), [Pointer(VOID), Pointer(VOID)])
-
     def texts(self, arguments: Any, row: Any, node: Any) -> str:
         program = self.program
         return ", ".join(program.converted(program.value(it), type_, True, node).at(ASSIGN) for it, type_ in zip(arguments, row))
 
     def call_qsort(self, node: Any, arguments: Any, used: bool) -> Value:
-        self.order()
+        self.program.order_by(0)
         compare = Pointer(Function(INT, (Pointer(VOID), Pointer(VOID)), False, True))
         return Value(VOID, f"cbi_sort({self.texts(arguments, (Pointer(VOID), UINT, UINT, compare), node)})", POSTFIX, pure=False)
 
+    def call_qsort_r(self, node: Any, arguments: Any, used: bool) -> Value:
+        self.program.order_by(1)
+        compare = Pointer(Function(INT, (Pointer(VOID), Pointer(VOID), Pointer(VOID)), False, True))
+        return Value(VOID, f"cbi_sort_with({self.texts(arguments, (Pointer(VOID), UINT, UINT, compare, Pointer(VOID)), node)})", POSTFIX, pure=False)
+
     def call_bsearch(self, node: Any, arguments: Any, used: bool) -> Value:
-        self.order()
+        self.program.order_by(0)
         compare = Pointer(Function(INT, (Pointer(VOID), Pointer(VOID)), False, True))
         return Value(Pointer(VOID), f"cbi_search({self.texts(arguments, (Pointer(VOID), Pointer(VOID), UINT, UINT, compare), node)})", POSTFIX, pure=False)
+
+    def orders(self, helpers: Any) -> None:
+        """How two elements are compared, also with what a sort hands on."""
+        plain, handed = self.program.sort_call, self.program.sort_call_with
+        if not plain and not handed:
+            return
+        last = f"return {plain}(order, a, b);" if plain else "return 0;"
+        if handed:
+            helpers.heads.append("struct cbi_handed { unsigned value; int is; }; struct cbi_handed cbi_with; void cbi_sort(unsigned at, unsigned count, unsigned size, unsigned order);")
+            last = f"if (cbi_with.is) return {handed}(order, a, b, cbi_with.value); {last}"
+            helpers.heads.append("void cbi_sort_with(unsigned at, unsigned count, unsigned size, unsigned order, unsigned with);")
+            helpers.tails.append("void cbi_sort_with(unsigned at, unsigned count, unsigned size, unsigned order, unsigned with) { unsigned before = cbi_with.value; int was = cbi_with.is; "
+                                 "cbi_with.value = with; cbi_with.is = 1; cbi_sort(at, count, size, order); cbi_with.value = before; cbi_with.is = was; }")
+        helpers.heads.append("int cbi_order(unsigned order, unsigned a, unsigned b);")
+        helpers.tails.append(f"int cbi_order(unsigned order, unsigned a, unsigned b) {{ {last} }}")
 
     def main_arguments(self, helpers: Any, count: int) -> Tuple[str, str]:
         if count == 0:
@@ -104,6 +121,4 @@ class Bytes(ByteObjects):
         helpers.heads.append("unsigned cbi_stack_begin(void); unsigned cbi_heap_begin(void);")
         helpers.tails.append(f"unsigned cbi_stack_begin(void) {{ return {end}u; }}")
         helpers.tails.append(f"unsigned cbi_heap_begin(void) {{ return {end + STACK}u; }}")
-        if self.program.sort_call and self.program.sort_call != "cbi_order":
-            helpers.heads.append("int cbi_order(unsigned order, unsigned a, unsigned b);")
-            helpers.tails.append(f"int cbi_order(unsigned order, unsigned a, unsigned b) {{ return {self.program.sort_call}(order, a, b); }}")
+        self.orders(helpers)

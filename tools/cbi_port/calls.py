@@ -219,12 +219,12 @@ class Calls(Operators):
                 continue
             entry, quals = self.type_under_sizeof(label.expr), self.quals_of(label.expr)
             if any(exactly(entry, other) and quals == others for other, others in seen):
-                raise self.refuse(node, f"a `_Generic` with two entries for `{spelled(entry)}`", "one of them")
+                raise self.refuse(node, f"a `_Generic` with two entries for `{spelled(entry)}`", "one of the two entries")
             seen.append((entry, quals))
             # The value of an object has its type without qualifiers (6.3.2.1p2).
             if not quals and exactly(entry, type_):
                 if found is not None:
-                    raise self.refuse(node, f"a `_Generic` with two entries that `{spelled(type_)}` is compatible with", "one of them")
+                    raise self.refuse(node, f"a `_Generic` with two entries that `{spelled(type_)}` is compatible with", "one of the two entries")
                 found = chosen
         if found is None and default is None:
             raise self.refuse(node, f"a `_Generic` without an entry for `{spelled(type_)}`", "a `default`")
@@ -266,14 +266,14 @@ class Calls(Operators):
         for step in [inner, *way]:
             if kind(step) == "ArrayRef":
                 if not isinstance(type_, Array):
-                    raise self.refuse(node, "`offsetof` of no element", "a member")
+                    raise self.refuse(node, "`offsetof` of no element", "a member of the struct behind the comma")
                 type_ = type_.of
                 total += size_of(type_) * self.constant(step.subscript)
                 continue
             field = step.name if kind(step) == "ID" else step.field.name
             members = type_.find(field) if isinstance(type_, Struct) else None
             if members is None:
-                raise self.refuse(node, f"`offsetof` of `{field}`, which is no member", "a member")
+                raise self.refuse(node, f"`offsetof` of `{field}`, which is no member", "the name of a member that the struct has")
             for member in members:
                 total += member.at
                 type_ = member.type

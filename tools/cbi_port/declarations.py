@@ -59,8 +59,8 @@ class Context:
 
     def refuse_type(self, node: Any, construct: str, type_: CType) -> Refusal:
         """The refusal of what has a type that isn't complete, or not what is asked of it."""
-        found = self.refuse(node, construct, "a type that is complete")
-        found.follows = isinstance(type_, Struct) and type_.refused
+        found = self.refuse(node, construct, "its whole definition before that line, or `#include` of the header that has it")
+        found.follows = isinstance(type_, Struct) and (type_.refused or self.partial)
         return found
 
     def follow(self, node: Any) -> Refusal:
@@ -70,6 +70,7 @@ class Context:
         return found
 
     last_place = 0
+    partial = False  # some headers aren't there, or some of the text couldn't be read: what comes of these isn't told
 
     def count(self, what: str) -> None:
         if not self.in_prelude:
@@ -196,7 +197,7 @@ class Declarations(Context):
             return self.struct_type(node, hint)
         if what == "Enum":
             return self.enumeration(node)
-        raise self.refuse(node, f"a type of the form {what}", "a type of C99")
+        raise self.refuse(node, f"a type of the form {what}", "the same in types of C99: numbers, structs, unions, enumerations, arrays and pointers")
 
     def named_type(self, node: Any) -> CType:
         names = [name for name in node.names if name not in ("const", "volatile", "restrict", "static", "register", "inline")]

@@ -28,7 +28,7 @@ class Expressions(Places):
             self.last_place = outer
 
     def of_other(self, node: Any, used: bool) -> Value:
-        raise self.refuse(node, f"an expression of the form {kind(node)}", "an expression of C99")
+        raise self.refuse(node, f"an expression of the form {kind(node)}", "the same in operators and calls of C99")
 
     def type_of(self, node: Any) -> CType:
         """The type of an expression that isn't evaluated, without decay."""
@@ -120,7 +120,7 @@ class Expressions(Places):
             constant = None if truth.constant is None else int(not truth.constant)
             return Value(INT, prefixed("!", truth.text, truth.level), UNARY, constant, value.pure)
         if not isinstance(value.type, Int):
-            raise self.refuse(node, f"`{sign}` of a `{spelled(value.type)}`", "a number")
+            raise self.refuse(node, f"`{sign}` of a `{spelled(value.type)}`", "a number as the operand: a member, an element, or a cast to a type of numbers")
         value = self.promoted(value)
         if sign == "+":
             return value
@@ -318,7 +318,7 @@ class Expressions(Places):
                 place = self.model.within(place, CHANGED)
                 return Value(type_, f"{place.text} {sign}= {self.index(value).at(ASSIGN)}", ASSIGN, pure=False)
         elif not isinstance(type_, Int):
-            raise self.refuse(node, f"`{sign}=` of a `{spelled(type_)}`", "a number")
+            raise self.refuse(node, f"`{sign}=` of a `{spelled(type_)}`", "a number on the left: a member, an element or a variable of a type of numbers")
         elif isinstance(value.type, Int) and not is_float(value.type) and not is_float(type_) and not place.memory and place.member is None and not is_long(value.type) and (
                 type_.rank >= 3 and type_.size == 4 or type_.size == 1 and type_.rank == 1 and (type_ != UCHAR or sign in "+-*&|^")):
             place = self.model.within(place, CHANGED)
@@ -405,4 +405,4 @@ class Expressions(Places):
     # 6.5.2.2 and the rest in calls.py.
 
     def of_Typename(self, node: Any, used: bool) -> Value:
-        raise self.refuse(node, "a type where a value is wanted", "a value")
+        raise self.refuse(node, "a type where a value is wanted", "a variable, or a cast of a value to the type")

@@ -1,29 +1,33 @@
 """From files to one text: what can't be kept in one way is tried in the other, and all refusals are told at once."""
 import re
-from typing import Any, List, Optional, Sequence
+from typing import Any, Dict, List, Optional, Sequence, Tuple
 
 from cbi_port import Ported, Problem, Refused
+from cbi_port.compiler import in_its_words
 from cbi_port.lines import Refusal, Token
 from cbi_port.program import Program
-from cbi_port.reader import NO_HEADER, PreprocessorFailed, Unit, pieces, read
+from cbi_port.reader import NO_HEADER, PreprocessorFailed, Unit, flags_of, pieces, read
 from cbi_port.system import Named
+
+# What a text of the dialect may have (docs/LANGUAGE.md).
+MOST_TOKENS, MOST_BYTES = 100000, 1048576
 
 
 def port_files(files: Sequence[str], options: List[str], args: Any, stderr: bool, memory: str, named: Named = ()) -> Ported:
     """See `cbi_port.port`."""
     tokens: List[Token] = [Token("mark", "", files[0] if files else "", 1)]
-    problems: List[Refusal] = []
     missing: List[Problem] = []
     units: List[Unit] = []
+    unread: List[Tuple[str, List[Refusal]]] = []
     for file in files:
+        problems: List[Refusal] = []
         try:
             units.append(read(file, options, tokens, problems, missing))
         except PreprocessorFailed as failed:
-            raise Refused(list(dict.fromkeys(missing + told_by_preprocessor(failed)))) from None
-    if missing:
-        raise Refused(beside_missing(missing, problems, units, tokens, files, args, stderr))
-    if problems:
-        raise Refused(ordered(problems, tokens, files))
+            missing.extend(told_by_preprocessor(failed))
+        unread.append((file, problems))
+    if missing or any(problems for _, problems in unread):
+        raise Refused(of_the_rest(missing, unread, units, tokens, options, args, stderr))
     size = len(tokens)
     first: Optional[Program] = None
     for way in (["cells", "bytes"] if memory == "auto" else [memory]):
@@ -45,12 +49,23 @@ def port_files(files: Sequence[str], options: List[str], args: Any, stderr: bool
     raise AssertionError("no model of memory")
 
 
-def beside_missing(missing: Sequence[Problem], problems: Sequence[Refusal], units: List[Unit], tokens: List[Token], files: Sequence[str], args: Any, stderr: bool) -> List[Problem]:
-    """The headers that aren't there, and of what else is refused that which doesn't come of these."""
-    program = Program(units, tokens, "bytes", args, stderr)
-    run(program)
-    found = ordered([it for it in [*problems, *program.problems] if it.sure], tokens, files)
-    return list(dict.fromkeys([*missing, *found]))
+def of_the_rest(missing: Sequence[Problem], unread: Sequence[Tuple[str, List[Refusal]]], units: List[Unit], tokens: List[Token], options: List[str], args: Any,
+                stderr: bool) -> List[Problem]:
+    """The headers that aren't there, what can't be read, and of what else is refused that which doesn't come of these."""
+    size = len(tokens)
+    found: List[Problem] = []
+    for file, problems in unread:
+        parsed = [it for it in problems if it.span == (0, 0)]
+        found.extend(it.problem(tokens) for it in parsed if it.sure or not missing)
+        if not missing:
+            found.extend(in_its_words([it for it in problems if it.span != (0, 0)], tokens, file, flags_of(options)))
+    if units:
+        program = Program(units, tokens, "bytes", args, stderr)
+        program.partial = True
+        run(program)
+        found.extend(it.problem(tokens) for it in program.problems if not it.bytes_do and (it.at < size or it.sure))
+    order = {file: at for at, file in enumerate(dict.fromkeys(token.file for token in tokens))}
+    return list(dict.fromkeys([*missing, *sorted(found, key=lambda it: (order.get(it.file, -1), it.line))]))
 
 
 def run(program: Program) -> Ported:
@@ -60,7 +75,7 @@ def run(program: Program) -> Ported:
     except Refusal as refusal:
         program.problems.append(refusal)
     except RecursionError:
-        program.problems.append(Refusal(program.last_place, "what nests too deep", "parts of it"))
+        program.problems.append(Refusal(program.last_place, "what nests too deep", "its inner part in a variable or a function of its own"))
     except (AttributeError, AssertionError, IndexError, KeyError, TypeError, ValueError) as error:
         what = f"what cbi-port doesn't take ({type(error).__name__}: {error})"
         program.problems.append(Refusal(program.last_place, what, "simpler C for it; it is a defect of the tool"))
@@ -69,9 +84,25 @@ def run(program: Program) -> Ported:
 
 def too_large(ported: Ported, tokens: Sequence[Token]) -> List[Refusal]:
     """A text that `cbi` would refuse for its size."""
-    if len(ported.text) <= 1048576 and (len(ported.text) <= 100000 or len(pieces(ported.text.decode("latin-1"), "")) <= 100000):
+    if len(ported.text) <= MOST_BYTES and (len(ported.text) <= MOST_TOKENS or len(pieces(ported.text.decode("latin-1"), "")) <= MOST_TOKENS):
         return []
-    return [Refusal(len(tokens) - 1, "a program whose text is too large (more than 100,000 tokens, or 1,048,576 bytes)", "parts of it")]
+    return [Refusal(0, what_is_too_large(ported), "fewer files, without what nothing calls; a table that can be read goes into a file of its own (`--file NAME=PATH`)")]
+
+
+def what_is_too_large(ported: Ported) -> str:
+    """How large a text is, how large it may be, and which files it comes of, the largest share first."""
+    rows = ported.text.decode("latin-1").split("\n")
+    sizes = [len(pieces(row, "")) for row in rows]
+    total = sum(sizes)
+    what = f"{total:,} tokens, of which {MOST_TOKENS:,}" if total > MOST_TOKENS else f"{len(ported.text):,} bytes, of which {MOST_BYTES:,}"
+    shares: Dict[str, int] = {}
+    for line, size in zip(ported.lines, sizes):
+        shares["what is added"] = shares.get("what is added", 0) + size * line.added
+        if not line.added:
+            shares[line.file] = shares.get(line.file, 0) + size
+    largest = sorted(((size, name) for name, size in shares.items() if 100 * size >= total), reverse=True)[:8]
+    told = ", ".join(f"{name} {100 * size // total} %" for size, name in largest)
+    return f"a program whose text has {what} may be{' (' + told + ')' if told else ''}"
 
 
 def ordered(problems: Sequence[Refusal], tokens: Sequence[Token], files: Sequence[str]) -> List[Problem]:
@@ -86,6 +117,6 @@ def told_by_preprocessor(failed: PreprocessorFailed) -> List[Problem]:
         if found:
             what = found[3]
             missing = re.match(r"(.*?): No such file", what)
-            advice = NO_HEADER if missing else "what the preprocessor takes"
+            advice = NO_HEADER if missing else "`-D` with the name that it asks for" if what.startswith("#error") else "a directive that `gcc -E` takes"
             problems.append(Problem(found[1], int(found[2]), f"`#include` of {missing[1]}" if missing else what, advice))
-    return problems or [Problem(failed.file, 1, "the preprocessor failed: " + failed.told.strip()[:200], "what it takes")]
+    return problems or [Problem(failed.file, 1, "the preprocessor failed: " + failed.told.strip()[:200], "a text that `gcc -E` takes")]

@@ -5,9 +5,14 @@ from typing import List, Optional, Sequence, Tuple
 from cbi_port.lines import Token
 
 # Functions with a form, and which argument it is.
-PRINTS = {"printf": 0, "fprintf": 1, "dprintf": 1, "sprintf": 1, "snprintf": 2}
+PRINTS = {"printf": 0, "fprintf": 1, "dprintf": 1, "sprintf": 1, "asprintf": 1, "snprintf": 2}
 
 FLAGS = r"[-+ #0'I]*"
+# Functions of the library by which floats come in without a word of theirs.
+FLOAT_NAMES = {"strtod", "strtof", "atof", "difftime", *(word + end for end in ("", "f", "l") for word in (
+    "acos", "acosh", "asin", "asinh", "atan", "atan2", "atanh", "cbrt", "ceil", "cos", "cosh", "exp", "exp10", "exp2", "expm1", "fabs", "floor", "fmod", "hypot",
+    "log", "log10", "log1p", "log2", "logb", "pow", "rint", "round", "sin", "sinh", "sqrt", "tan", "tanh", "trunc"))}
+
 # What asks for a part of the prelude that only few texts want.
 PARTS = [("WIDE", rf"%{FLAGS}[\d*]*(?:\.[\d*]*)?(?:l[sc\[]|[SC])"), ("HEX", rf"%{FLAGS}[\d*]*(?:\.[\d*]*)?(?:l|L)?[aA]"),
          ("ERRORS", rf"%{FLAGS}[\d*]*(?:\.[\d*]*)?m(?![scSC\[])"), ("MADE", r"%\d*m(?:l?[sc\[]|[SC])")]

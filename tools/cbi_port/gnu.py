@@ -229,7 +229,7 @@ class Rewriter:
         names = {it.text.strip("_") for it in within if it.kind == "name"}
         wrong = sorted(names & WEIGHTY)
         if wrong:
-            self.refuse(token, f"`__attribute__(({wrong[0]}))`", "the text without it, if it does the same", out)
+            self.refuse(token, f"`__attribute__(({wrong[0]}))`", "the declaration without it, where that does the same", out)
         signs = sign(token, "packed", [like(token, "1", "number")]) if "packed" in names else []
         amounts: List[List[Token]] = []
         for at, it in enumerate(within):
@@ -305,7 +305,7 @@ class Rewriter:
             return close + 1
         template = "".join(it.text[1:-1] for it in within[:next((k for k, it in enumerate(within) if it.text == ":"), len(within))])
         if template.replace("\\n", "").replace("\\t", "").strip() and not re.match(r"^\s*[#;]", template):
-            self.refuse(token, "`asm`", "C for what it does", out)
+            self.refuse(token, "`asm`", "C that calculates the same, or a branch without it (`-U` of the name that asks for it)", out)
         moved, effects = moves(within)
         for left, right in moved:
             out.extend([like(token, "(")] + self.run(left) + [like(token, ")"), like(token, "="), like(token, "(")]

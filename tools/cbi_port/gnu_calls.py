@@ -53,7 +53,7 @@ class GnuCalls(Statements):
         values = [self.value(it) for it in arguments]
         operands = [self.converted(it, type_) if type_ is not None else it for it in values[:2]]
         if not all(isinstance(it.type, Int) for it in operands):
-            raise self.refuse(node, "an operand that is no number", "a number")
+            raise self.refuse(node, "an operand that is no number", "whole numbers for the first two arguments")
         operands = [self.promoted(it) for it in operands]
         signs = [int(it.type.signed) for it in operands]
         wide = [self.long_text(self.converted(it, LLONG if it.type.signed else ULLONG)) for it in operands]

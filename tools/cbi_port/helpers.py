@@ -159,7 +159,9 @@ class Helpers:
         for (_, name), type_ in program.movers.items():
             self.add(self.mover(name, type_))
         for name, type_ in program.sorters.items():
-            self.add(self.sorter(name, type_))
+            self.add(self.sorter(name, type_, program.sort_call, False))
+        for name, type_ in program.sorters_with.items():
+            self.add(self.sorter(name, type_, program.sort_call_with, True))
         for name, type_ in program.searchers.items():
             self.add(self.searcher(name, type_))
         for struct, index, way in sorted(program.union_helpers, key=lambda it: (it[0].tag, it[1], it[2])):
@@ -213,15 +215,15 @@ class Helpers:
         body += f"for (cbi_n = 0; cbi_n < cbi_count; cbi_n++) {self.store('cbi_to + cbi_n', 'cbi_room + cbi_n', type_)} free(cbi_room); "
         return head + ";", f"{head} {{ {body}return cbi_to; }}"
 
-    def sorter(self, name: str, type_: CType) -> Tuple[str, str]:
-        """A sort by merging, which keeps the order of what is equal, as glibc's does."""
+    def sorter(self, name: str, type_: CType, call: str, handed: bool) -> Tuple[str, str]:
+        """A sort by merging, which keeps the order of what is equal, as glibc's does; something may be handed to each comparison."""
         word, per = self.word(type_), self.per(type_)
-        head = f"void cbi_sort_{name}({word}cbi_at, unsigned cbi_count, int cbi_order)"
-        call = self.program.sort_call
+        sort, more = f"cbi_sort{'_with' * handed}_{name}", ", cbi_with" * handed
+        head = f"void {sort}({word}cbi_at, unsigned cbi_count, int cbi_order{', void *cbi_with' * handed})"
         body = f"{word}cbi_room; unsigned cbi_half = cbi_count / 2; unsigned cbi_i = 0; unsigned cbi_j = cbi_half; unsigned cbi_n = 0; if (cbi_count < 2) return; "
-        body += f"cbi_sort_{name}(cbi_at, cbi_half, cbi_order); cbi_sort_{name}(cbi_at + cbi_half, cbi_count - cbi_half, cbi_order); "
+        body += f"{sort}(cbi_at, cbi_half, cbi_order{more}); {sort}(cbi_at + cbi_half, cbi_count - cbi_half, cbi_order{more}); "
         body += f"cbi_room = malloc(cbi_count * {per}); if (cbi_room == NULL) abort(); while (cbi_i < cbi_half && cbi_j < cbi_count) {{ "
-        body += f"if ({call}(cbi_order, cbi_at + cbi_i, cbi_at + cbi_j) <= 0) {{ {self.store('cbi_room + cbi_n', 'cbi_at + cbi_i', type_)} cbi_i++; }} "
+        body += f"if ({call}(cbi_order, cbi_at + cbi_i, cbi_at + cbi_j{more}) <= 0) {{ {self.store('cbi_room + cbi_n', 'cbi_at + cbi_i', type_)} cbi_i++; }} "
         body += f"else {{ {self.store('cbi_room + cbi_n', 'cbi_at + cbi_j', type_)} cbi_j++; }} cbi_n++; }} "
         body += f"while (cbi_i < cbi_half) {{ {self.store('cbi_room + cbi_n', 'cbi_at + cbi_i', type_)} cbi_i++; cbi_n++; }} "
         body += f"for (cbi_i = 0; cbi_i < cbi_n; cbi_i++) {self.store('cbi_at + cbi_i', 'cbi_room + cbi_i', type_)} free(cbi_room); "

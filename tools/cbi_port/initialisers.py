@@ -77,7 +77,7 @@ class Initialisers(Calls):
             if kind(node) == "CompoundLiteral":
                 self.fill(type_, node.init, path, found)
                 return
-            raise self.refuse(node, "an array that begins with no list", "a list in braces")
+            raise self.refuse(node, "an array that begins with no list", "`{ .. }` around its elements")
         self.set(found, path, Leaf(type_, node))
 
     def parts(self, type_: Any) -> List[Tuple[Step, CType]]:

@@ -28,12 +28,12 @@ RAW = {"memcpy": ("cbi_copy", Function(ANY, SIZED, False, True)), "memmove": ("c
        "memset": ("cbi_fill", Function(ANY, (ANY, INT, UINT), False, True)), "memcmp": ("cbi_compare", Function(INT, SIZED, False, True)),
        "malloc": ("cbi_malloc", Function(ANY, (UINT,), False, True)), "free": ("cbi_free", Function(VOID, (ANY,), False, True)),
        "calloc": ("cbi_calloc", Function(ANY, (UINT, UINT), False, True)), "realloc": ("cbi_realloc", Function(ANY, (ANY, UINT), False, True))}
-NO = {"setjmp": "a value that says what went wrong", "longjmp": "a value that says what went wrong", "_setjmp": "a value that says what went wrong",
-      "sigsetjmp": "a value that says what went wrong", "siglongjmp": "a value that says what went wrong",
+UNWOUND = "a status that each function returns, and that its caller tests"
+NO = {**dict.fromkeys(["setjmp", "longjmp", "_setjmp", "_longjmp", "sigsetjmp", "siglongjmp"], UNWOUND),
       "fork": "one process, which does what both would do", "alloca": "`malloc`"}
 # Of <math.h> what isn't there.
 ROUNDED = {word + end for end in ("", "f", "l") for word in ("erf", "erfc", "lgamma", "tgamma", "j0", "j1", "jn", "y0", "y1", "yn")}
-TYPED = {"malloc", "calloc", "realloc", "free", "memcpy", "memmove", "memset", "memcmp", "mempcpy", "bzero", "bcopy", "bcmp", "qsort", "bsearch", "alloca",
+TYPED = {"malloc", "calloc", "realloc", "free", "memcpy", "memmove", "memset", "memcmp", "mempcpy", "bzero", "bcopy", "bcmp", "qsort", "qsort_r", "bsearch", "alloca",
          "strdup", "fread", "fwrite", "read", "write"}
 
 
@@ -101,6 +101,12 @@ class Library(GnuCalls):
             raise self.missing(node, name)
         return None
 
+    def by_use(self, node: Any, name: str) -> Symbol:
+        """A function that its call declares; where a header isn't there, it may have been declared otherwise."""
+        if self.partial and name not in self.externals:
+            raise self.follow(node)
+        return super().by_use(node, name)
+
     def of_system(self, symbol: Symbol) -> bool:
         """Whether a function or a variable is declared by a header of the system alone, and nowhere defined."""
         at = symbol.at
@@ -155,6 +161,15 @@ class Library(GnuCalls):
         if self.model.in_bytes and name == "puts":
             return Value(INT, f"{at}cbi_puts({', '.join(values)})", POSTFIX, pure=False)
         return Value(type_.result, f"{at}{name}({', '.join(values)})", POSTFIX, pure=False)
+
+    def order_by(self, more: int) -> None:
+        """Asks for the calls of functions that compare two elements, and what is handed on."""
+        kinds = [Pointer(VOID)] * (2 + more)
+        call = self.dispatcher(Function(INT, tuple(kinds), False, True), kinds)
+        if more:
+            self.sort_call_with = call
+        else:
+            self.sort_call = call
 
     # What has the same value in each model.
 
@@ -268,7 +283,7 @@ class TypedCalls(ScanCalls):
             inner = inner.expr
         value = program.value(inner)
         if not is_pointer(value.type):
-            raise program.refuse(node, f"a `{spelled(value.type)}` where a pointer is wanted", "a pointer")
+            raise program.refuse(node, f"a `{spelled(value.type)}` where a pointer is wanted", "`&` of the object, or an array")
         return value, value.type.to
 
     def known(self, node: Any, name: str, *pointers: CType) -> CType:
@@ -405,30 +420,35 @@ class TypedCalls(ScanCalls):
     def call_memchr(self, node: Any, arguments: Sequence[Any], used: bool) -> Optional[Value]:
         _, type_ = self.pointer(arguments[0])
         if not like_char(innermost(type_)[0]):
-            raise self.program.refuse(node, "`memchr` of what isn't characters", "a loop", True)
+            raise self.program.refuse(node, "`memchr` of what isn't characters", "a loop that compares each element", True)
         return None
 
     def call_qsort(self, node: Any, arguments: Sequence[Any], used: bool) -> Value:
+        return self.sorted(node, "qsort", arguments, self.program.sorters)
+
+    def call_qsort_r(self, node: Any, arguments: Sequence[Any], used: bool) -> Value:
+        return self.sorted(node, "qsort_r", arguments, self.program.sorters_with)
+
+    def sorted(self, node: Any, name: str, arguments: Sequence[Any], table: Dict[str, CType]) -> Value:
+        """A sort of elements of a type; with a fifth argument it is handed to each comparison."""
         program = self.program
         to, type_ = self.pointer(arguments[0])
-        self.known(node, "qsort", type_)
+        self.known(node, name, type_)
         size = program.value(arguments[2]).constant
         if size != size_of(type_):
-            raise program.refuse(node, "`qsort` with another size than that of an element", "the size of an element", True)
+            raise program.refuse(node, f"`{name}` with another size than that of an element", "`sizeof` of an element, and a pointer to such elements", True)
         inner, per = innermost(type_)
-        if per != 1 or isinstance(inner, Pointer):
-            if per != 1:
-                raise program.refuse(node, "`qsort` of arrays", "an array of structs", True)
-        program.sorters.setdefault(program.model.maker_name(inner), inner)
+        if per != 1:
+            raise program.refuse(node, f"`{name}` of arrays", "an array of structs", True)
+        table.setdefault(program.model.maker_name(inner), inner)
         if isinstance(inner, Struct):
             program.model.copier(inner)
         compare = program.value(arguments[3])
-        call = program.dispatcher(Function(INT, (Pointer(VOID), Pointer(VOID)), False, True), [Pointer(VOID), Pointer(VOID)])
-        program.sort_call = call
-        cast = "(void **)(void *)" if isinstance(inner, Pointer) and not to_function(inner) else ""
-        text = prefixed(cast, to.text, to.level) if cast else to.at(ASSIGN)
-        count = program.converted(program.value(arguments[1]), UINT, True, node)
-        return Value(VOID, f"cbi_sort_{program.model.maker_name(inner)}({text}, {count.at(ASSIGN)}, {compare.at(ASSIGN)})", POSTFIX, pure=False)
+        texts = [prefixed("(void **)(void *)", to.text, to.level) if isinstance(inner, Pointer) and not to_function(inner) else to.at(ASSIGN),
+                 program.converted(program.value(arguments[1]), UINT, True, node).at(ASSIGN), compare.at(ASSIGN)]
+        more = [program.converted(program.value(it), Pointer(VOID), True, node).at(ASSIGN) for it in arguments[4:5]]
+        program.order_by(len(more))
+        return Value(VOID, f"cbi_sort{'_with' * len(more)}_{program.model.maker_name(inner)}({', '.join(texts + more)})", POSTFIX, pure=False)
 
     def call_bsearch(self, node: Any, arguments: Sequence[Any], used: bool) -> Value:
         program = self.program
@@ -439,7 +459,7 @@ class TypedCalls(ScanCalls):
         if per != 1 or program.value(arguments[3]).constant != size_of(type_):
             raise program.refuse(node, "`bsearch` with another size than that of an element", "the size of an element", True)
         program.searchers.setdefault(program.model.maker_name(inner), inner)
-        program.sort_call = program.dispatcher(Function(INT, (Pointer(VOID), Pointer(VOID)), False, True), [Pointer(VOID), Pointer(VOID)])
+        program.order_by(0)
         compare = program.value(arguments[4])
         cast = "(void **)(void *)" if isinstance(inner, Pointer) and not to_function(inner) else ""
         text = prefixed(cast, base.text, base.level) if cast else base.at(ASSIGN)

@@ -22,6 +22,7 @@ class Refusal(Exception):
         self.at, self.construct, self.advice, self.bytes_do = at, construct, advice, bytes_do
         self.follows = False  # comes of another one alone, which is told
         self.sure = False     # comes of nothing that a header which isn't there may have said
+        self.span = (0, 0)    # the tokens of what couldn't be read at all
 
     def problem(self, tokens: Sequence[Token]) -> Problem:
         token = tokens[min(max(self.at, 0), len(tokens) - 1)] if tokens else Token("", "", "?", 0)

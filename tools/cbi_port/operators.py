@@ -59,11 +59,11 @@ class Operators(Expressions):
     def operated(self, sign: str, left: Value, right: Value, node: Any, at: str = "") -> Value:
         """An operator's value; both operands are evaluated."""
         if isinstance(left.type, Void) or isinstance(right.type, Void):
-            raise self.refuse(node, f"`{sign}` of a `void`", "a value")
+            raise self.refuse(node, f"`{sign}` of a `void`", "a function that returns a value, or the call as a statement of its own")
         if is_pointer(left.type) or is_pointer(right.type):
             return self.with_pointer(sign, left, right, node)
         if not isinstance(left.type, Int) or not isinstance(right.type, Int):
-            raise self.refuse(node, f"`{sign}` of a `{spelled(left.type)}` and a `{spelled(right.type)}`", "numbers")
+            raise self.refuse(node, f"`{sign}` of a `{spelled(left.type)}` and a `{spelled(right.type)}`", "two numbers, or for `+` and `-` a pointer and a whole number")
         left, right = self.promoted(left), self.promoted(right)
         if is_float(left.type) or is_float(right.type):
             return self.float_operated(sign, left, right, node)
@@ -140,7 +140,7 @@ class Operators(Expressions):
             if isinstance(right.type, Int):
                 right = self.beside(right, left, node)
             return self.model.compared(sign, left, right, node)
-        raise self.refuse(node, f"`{sign}` of a pointer", "numbers")
+        raise self.refuse(node, f"`{sign}` of a pointer", "a whole number in place of the pointer: an index, or a difference of two pointers")
 
     def beside(self, value: Value, pointer: Value, node: Any) -> Value:
         """A number that is compared with a pointer."""

@@ -102,7 +102,7 @@ class Places(Floats, Declarations):
         if what == "UnaryOp" and node.op == "*":
             value = self.value(node.expr)
             if not is_pointer(value.type):
-                raise self.refuse(node, f"`*` of a `{spelled(value.type)}`", "a pointer")
+                raise self.refuse(node, f"`*` of a `{spelled(value.type)}`", "a pointer there: `&` of the object, or a cast of an address to a pointer")
             if isinstance(value.type.to, Function):
                 return Place(value.type.to, value.text, value.level, value.pure)
             return self.model.target(value, node)
@@ -136,7 +136,9 @@ class Places(Floats, Declarations):
             if node.name == "__cbi_err" and not self.in_prelude and not self.stderr:
                 self.liberties["what is written to stderr is left out (--stderr joins it)"] = None
         if symbol is None:
-            raise self.refuse(node, f"`{node.name}`, which isn't declared", "a name that the text declares, or one of the library that is there")
+            if self.partial:
+                raise self.follow(node)
+            raise self.refuse(node, f"`{node.name}`, which isn't declared", "its declaration before that line, or `#include` of the header that has it")
         symbol = self.variable_of_library(symbol)
         if symbol.kind == "function":
             self.use(symbol)
@@ -145,7 +147,7 @@ class Places(Floats, Declarations):
         if symbol.kind == "refused":
             raise self.follow(node)
         if symbol.kind == "type":
-            raise self.refuse(node, f"the type `{node.name}` as a value", "a value")
+            raise self.refuse(node, f"the type `{node.name}` as a value", "a variable of it, or a cast to it")
         if self.of_system(symbol) and not self.function.dead:
             raise self.missing(node, node.name)
         self.use(symbol)

@@ -19,10 +19,7 @@ from cbi_port.wrappers import OBJECT, Wrappers
 from cbi_port.types import (INT, VOID, Array, CType, Function, Int, Pointer, Struct, Void, is_complete, is_whole,
                             spelled, to_function)
 
-# Functions of the library by which floats come in without a word of theirs.
-FLOAT_NAMES = {"strtod", "strtof", "atof", "difftime", *(word + end for end in ("", "f", "l") for word in (
-    "acos", "acosh", "asin", "asinh", "atan", "atan2", "atanh", "cbrt", "ceil", "cos", "cosh", "exp", "exp10", "exp2", "expm1", "fabs", "floor", "fmod", "hypot",
-    "log", "log10", "log1p", "log2", "logb", "pow", "rint", "round", "sin", "sinh", "sqrt", "tan", "tanh", "trunc"))}
+DEFINITION = "its definition, or the file that has it beside the others"
 
 
 def prelude_text(name: str) -> str:
@@ -43,7 +40,7 @@ class Program(Jumps, Library):
         self.names.used |= {token.text for token in tokens if token.kind == "name"}
         self.words = {plain_name(token.text) for token in tokens if token.kind == "name" and not token.file.startswith(HEADERS)}
         self.tags.used = set(TAKEN)
-        self.floats = bool(self.words & {"float", "double", *FLOAT_NAMES}) or any(
+        self.floats = bool(self.words & {"float", "double", *forms.FLOAT_NAMES}) or any(
             token.kind == "number" and token.text[:2] not in ("0x", "0X") and re.search("[.eE]", token.text) for token in tokens)
         self.asked = asked(tokens, self.words, args, stderr, named)
         self.liberties.update(dict.fromkeys(self.asked.told))
@@ -62,8 +59,9 @@ class Program(Jumps, Library):
         self.resized: Dict[str, CType] = {}
         self.movers: Dict[Tuple[str, str], CType] = {}
         self.sorters: Dict[str, CType] = {}
+        self.sorters_with: Dict[str, CType] = {}
         self.searchers: Dict[str, CType] = {}
-        self.sort_call = ""
+        self.sort_call = self.sort_call_with = ""
         self.union_helpers: Set[Any] = set()
         self.unions = Unions(self)
         self.later: List[Any] = []
@@ -381,6 +379,8 @@ class Program(Jumps, Library):
 
     def begin_main(self) -> None:
         symbol = self.externals.get("main")
+        if self.partial and (symbol is None or not symbol.defined):
+            return
         if symbol is None or not symbol.defined:
             last = max(place for place, token in enumerate(self.tokens) if token.file)
             self.problems.append(Refusal(last, "no `main`", "a definition of `int main(void)`"))
@@ -478,11 +478,11 @@ class Program(Jumps, Library):
                 before = sum(symbol.used for symbol, _, _ in self.waiting)
                 self.dispatch_text("", type_, kinds)
                 more = more or before != sum(symbol.used for symbol, _, _ in self.waiting)
-        for symbol in list(self.externals.values()):
+        for symbol in list(self.externals.values()) if not self.partial else []:
             if symbol.kind == "variable" and symbol.used and not symbol.defined:
-                self.problems.append(Refusal(symbol.at, f"`{symbol.name}`, which is declared and never defined", "its definition"))
+                self.problems.append(Refusal(symbol.at, f"`{symbol.name}`, which is declared and never defined", DEFINITION))
             if symbol.kind == "function" and symbol.used and not symbol.defined:
-                self.problems.append(Refusal(symbol.at, f"`{symbol.name}`, which isn't defined", "a function of the text, or one of the library that is there"))
+                self.problems.append(Refusal(symbol.at, f"`{symbol.name}`, which isn't defined", DEFINITION))
         if not self.model.in_bytes and self.from_generic and self.to_generic:
             self.problems.append(Refusal(max(self.to_generic[0], 0), "a reckoned `char *` that becomes a `void *`", "a pointer to what is there", True))
         self.problems.extend(self.unions.problems())

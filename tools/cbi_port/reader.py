@@ -27,7 +27,7 @@ PIECE = re.compile(r"""
 MARKER = re.compile(r'#\s*(?:line\s+)?(\d+)\s+"((?:[^"\\]|\\.)*)"')
 MISSING = re.compile(r"(?m)^(.*?):(\d+)(?::\d+)?:\s*(?:fatal )?error:\s*'?(.*?)'?(?:: No such file| file not found)")
 MOST_MISSING = 100
-NO_HEADER = "a header of the library that is there, or `-I` with its folder"
+NO_HEADER = "`-I` with the folder that has it, or an empty file of that name where nothing of it is used (docs/PORTING.md lists those of the system)"
 DIGRAPHS = {"<:": "[", ":>": "]", "<%": "{", "%>": "}"}  # 6.4.6p3; those of `#` are the preprocessor's
 # What says which machine it is: such texts hold pieces of its assembler.
 MACHINE = ["__i386__", "__i386", "i386", "__i686__", "__i686", "__pentium4__", "__SSE__", "__SSE2__", "__x86_64__", "__OPTIMIZE__"]
@@ -51,12 +51,17 @@ def preprocessor() -> List[str]:
     raise Missing("no preprocessor: gcc, clang or cpp is needed (Debian's package cpp)")
 
 
+def flags_of(options: Sequence[str]) -> List[str]:
+    """The options by which a text is read: no header of the machine, and nothing that says which machine it is."""
+    return ["-m32", "-std=gnu99", "-nostdinc", "-x", "c", "-w", *(f"-U{name}" for name in MACHINE), "-D__CBI__=1", "-D__STDC_IEC_559__=1",
+            "-D__STDC_ISO_10646__=201706L", "-imacros", os.path.join(PRELUDE, "bison.h"), *options, "-I", HEADERS]
+
+
 def preprocessed(file: str, options: Sequence[str], missing: List[Problem]) -> str:
     """The text of the file behind the preprocessor, with its line marks. A header that isn't there is added to what is missing, and empty."""
     with open(file, "rb"):
         pass
-    words = preprocessor() + ["-m32", "-std=gnu99", "-nostdinc", "-x", "c", "-w"]
-    words += [f"-U{name}" for name in MACHINE] + ["-D__CBI__=1", "-D__STDC_IEC_559__=1", "-D__STDC_ISO_10646__=201706L", "-imacros", os.path.join(PRELUDE, "bison.h"), *options, "-I", HEADERS]
+    words = preprocessor() + flags_of(options)
     with tempfile.TemporaryDirectory(prefix="cbi-port-") as room:
         for _ in range(MOST_MISSING):
             done = subprocess.run([*words, "-idirafter", room, file], stdout=subprocess.PIPE, stderr=subprocess.PIPE)
@@ -131,35 +136,52 @@ def parser() -> Any:
     return c_parser.CParser()
 
 
-def parse(tokens: Sequence[Token], first: int) -> Tuple[Any, Optional[Tuple[int, str]]]:
-    """The tree of tokens that are numbered from `first` on; or where it goes wrong."""
+def parse(tokens: Sequence[Token], first: int, placed: bool = True) -> Tuple[Any, Optional[Tuple[int, str]]]:
+    """The tree of tokens that are numbered from `first` on; or where it goes wrong, looked for where the parser doesn't say and it is asked."""
     from pycparser import c_parser
     text = f"# {first} \"t\"\n" + "\n".join(token.text for token in tokens) + "\n"
     try:
         return parser().parse(text, "t"), None
     except (c_parser.ParseError, AssertionError, AttributeError) as error:
         found = re.match(r"t:(\d+)(?::\d+)?:\s*(.*)", str(error), re.S)
-        return None, (int(found[1]) - first if found else len(tokens) - 1, found[2] if found else str(error))
+        if found or not placed:
+            return None, (int(found[1]) - first if found else 0, found[2] if found else str(error))
+        return None, (first_unread(tokens, first), str(error))
 
 
-def outer(tokens: Sequence[Token], at: int) -> Tuple[int, int]:
-    """From where to where the outermost item goes that has the token."""
-    begin, depth, index = 0, 0, 0
-    while index < len(tokens):
-        text = tokens[index].text
+def items(tokens: Sequence[Token]) -> Iterator[Tuple[int, int]]:
+    """From where to where each of the outermost items goes."""
+    begin, depth = 0, 0
+    for index, token in enumerate(tokens):
+        text = token.text
         if text in ("{", "(", "["):
             depth += 1
         elif text in ("}", ")", "]"):
             depth = max(depth - 1, 0)
-        ends = depth == 0 and (text == ";" or text == "}" and (
-            index + 1 >= len(tokens) or tokens[index + 1].text not in (";", ",", "=", "*", "[", ")") and not (
-                tokens[index + 1].kind == "name" and opens_struct(tokens, begin))))
-        if ends:
-            if at <= index:
-                return begin, index + 1
+        if depth == 0 and (text == ";" or text == "}" and (
+                index + 1 >= len(tokens) or tokens[index + 1].text not in (";", ",", "=", "*", "[", ")") and not (
+                    tokens[index + 1].kind == "name" and opens_struct(tokens, begin)))):
+            yield begin, index + 1
             begin = index + 1
-        index += 1
-    return begin, len(tokens)
+    yield begin, len(tokens)
+
+
+def outer(tokens: Sequence[Token], at: int) -> Tuple[int, int]:
+    """From where to where the outermost item goes that has the token."""
+    return next((begin, end) for begin, end in items(tokens) if at < end or end == len(tokens))
+
+
+def first_unread(tokens: Sequence[Token], first: int) -> int:
+    """A token of the first item that can't be read, where the parser names no place: the parts before it can."""
+    ends = [end for _, end in items(tokens)]
+    low, high = 0, len(ends) - 1
+    while low < high:
+        middle = (low + high) // 2
+        if parse(tokens[:ends[middle]], first, False)[1] is None:
+            low = middle + 1
+        else:
+            high = middle
+    return (ends[low - 1] if low else 0)
 
 
 def opens_struct(tokens: Sequence[Token], begin: int) -> bool:
@@ -185,7 +207,9 @@ def read(file: str, options: Sequence[str], table: List[Token], problems: List[R
             break
         at = min(max(wrong[0], 0), len(tokens) - 1) if tokens else 0
         begin, end = outer(tokens, at)
-        problems.append(unread(tokens, begin, at, first))
+        refusal = unread(tokens, begin, at, first)
+        refusal.span = (first + begin, first + end)
+        problems.append(refusal)
         blank = Token("mark", "", file, 0)
         tokens = list(tokens[:begin]) + [blank] * (end - begin) + list(tokens[end:])
     if tree is not None:
@@ -241,7 +265,7 @@ def unread(tokens: Sequence[Token], begin: int, at: int, first: int) -> Refusal:
     if tokens[at].text == "_Generic":
         return Refusal(first + at, "`_Generic`", "the function that is meant")
     near = " ".join(token.text for token in tokens[max(begin, at - 3):at + 2])
-    return Refusal(first + at, f"no C99 at `{near}`", "the text as C99 has it")
+    return Refusal(first + at, f"no C99 at `{near}`", "C99 for it, without what a compiler has beside it")
 
 
 PRELUDE = os.path.join(os.path.dirname(os.path.abspath(__file__)), "prelude")

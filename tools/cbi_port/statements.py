@@ -183,7 +183,7 @@ class Statements(Initialisers):
                 self.put(self.model.leave("return;", None), node)
             return
         if isinstance(value.type, Void):
-            raise self.refuse(node, "`return` of a value of a function that gives none", "a value")
+            raise self.refuse(node, "`return` of a value of a function that gives none", "`return;`, or a function that gives the value's type")
         value = self.converted(value, result, result != UCHAR, node)
         if is_long(result):
             text = f"cbi_long_copy(cbi_result, {self.long_text(value)})"
@@ -278,7 +278,7 @@ class Statements(Initialisers):
         else:
             if isinstance(type_, Array) and not is_complete(type_) and not (type_.count is None and node.init is not None):
                 if not is_open(type_):
-                    raise self.refuse(node, f"`{node.name}`, an array of unknown length", "a length")
+                    raise self.refuse(node, f"`{node.name}`, an array of unknown length", "its length in brackets, or elements in braces")
                 self.open_array(node, type_)
                 return
             symbol = Symbol(node.name, "variable", type_, self.local_name(node.name))

@@ -33,6 +33,7 @@ void srand(unsigned);
 long random(void);
 void srandom(unsigned);
 void qsort(void *, size_t, size_t, int (*)(const void *, const void *));
+void qsort_r(void *, size_t, size_t, int (*)(const void *, const void *, void *), void *);
 void *bsearch(const void *, const void *, size_t, size_t, int (*)(const void *, const void *));
 char *getenv(const char *);
 double atof(const char *);

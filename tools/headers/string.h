@@ -31,5 +31,10 @@ char *strndup(const char *, size_t);
 char *strerror(int);
 size_t strxfrm(char *, const char *, size_t);
 char *strsignal(int);
+char *strchrnul(const char *, int);
+char *strcasestr(const char *, const char *);
+void *memrchr(const void *, int, size_t);
+void *memmem(const void *, size_t, const void *, size_t);
+void *mempcpy(void *, const void *, size_t);
 void *memccpy(void *, const void *, int, size_t);
 #endif

@@ -26,4 +26,7 @@ char *strsep(char **state, const char *set) { char *word = *state; char *s = wor
 char *strdup(const char *s) { unsigned n = 0; char *to; while (s[n]) n++; to = malloc(n + 1); if (!to) return 0; strcpy(to, s); return to; }
 char *strndup(const char *s, unsigned most) { unsigned n = 0; unsigned m; char *to; while (n < most && s[n]) n++; to = malloc(n + 1); if (!to) return 0; for (m = 0; m < n; m++) to[m] = s[m]; to[n] = 0; return to; }
 void *memchr(const void *at, int c, unsigned count) { const char *s = at; char wanted = c; while (count > 0) { if (*s == wanted) return (char *)s; s++; count--; } return 0; }
+void *memrchr(const void *at, int c, unsigned count) { const char *s = at; char wanted = c; s += count; while (count > 0) { s--; if (*s == wanted) return (char *)s; count--; } return 0; }
+void *memmem(const void *at, unsigned count, const void *what, unsigned length) { const char *s = at; const char *w = what; unsigned n; while (count >= length) { n = 0; while (n < length && s[n] == w[n]) n++; if (n == length) return (char *)s; s++; count--; } return 0; }
+char *strcasestr(const char *s, const char *what) { unsigned length = strlen(what); while (1) { if (strncasecmp(s, what, length) == 0) return (char *)s; if (!*s) return 0; s++; } }
 int strcoll(const char *a, const char *b) { return strcmp(a, b); }
