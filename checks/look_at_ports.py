@@ -116,6 +116,16 @@ class Programs(Case):
         self.assertEqual(cbi_port.read_map(ported.map_text()), (ported.lines, ported.added))
 
 
+    def test_lines_of_copies(self):
+        """The copies of a function that gives memory have its lines: six types are asked of `xmalloc`."""
+        name = os.path.join(TABLE, "memory_by_wrappers.c")
+        ported = cbi_port.port([name])
+        rows = ported.text.decode("latin-1").split("\n")
+        made = [row for row, line in zip(rows, ported.lines) if line == cbi_port.Line(name, 11, False) and "p = " in row]
+        self.assertEqual(len(made), 6, made)
+        self.assertFalse([it for it in ported.added if "xmalloc" in it])
+
+
 class Worked(Case):
     """The worked port of examples/ported, by the tool and by hand."""
 
