@@ -3,7 +3,7 @@ import re
 from typing import Any, Dict, List, Set, Tuple
 
 from cbi_port.lines import Refusal, bare
-from cbi_port.types import Array, CType, Int, Member, Pointer, Struct, spread
+from cbi_port.types import Array, CType, Int, Member, Pointer, Struct, is_float, spread
 
 WORD = re.compile(r"\w+")
 # What is done with a member; an array is touched where an element of it is read or stored.
@@ -42,11 +42,12 @@ class Unions:
 
     def may_be_named(self, union: Struct) -> bool:
         """Whether a union may be kept as long as its members are used by their names: no number of it shows as another one, a struct around it says which
-        member it has, or the tables of a parser do (bison's YYSTYPE)."""
-        numbers = sum(1 for member in union.members if has_number(member.type))
+        member it has, of which at most one is an integer and one a floating number, or the tables of a parser say it (bison's YYSTYPE)."""
         if not all(map(self.may_be_place, union.members)):
             return False
-        return numbers <= 1 or self.is_told(union) or union.tag.endswith("STYPE")
+        floats = [is_float(member.type) for member in union.members if isinstance(member.type, Int)]
+        told = self.is_told(union) and floats.count(False) <= 1 and floats.count(True) <= 1
+        return told or union.tag.endswith("STYPE") or sum(1 for member in union.members if has_number(member.type)) <= 1
 
     def may_be_place(self, member: Member) -> bool:
         """Whether a member may be told apart from the others by its name: one value, or an array of pointers."""
