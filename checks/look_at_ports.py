@@ -244,6 +244,12 @@ class Files(Case):
                 checked = check.compare([name], [], ported, [("given", given)], CBI, args, TURNS, named)
                 self.assertEqual(checked.equal, 1, f"{memory} {args}: {checked.differences}")
 
+    def test_names_of_functions_of_floats(self):
+        """A variable that has the name of a function of floats brings none of the prelude's functions of floats in; a call does."""
+        for body, due in (("int log = getchar(); printf(\"%d\\n\", log);", False), ("printf(\"%d\\n\", (int) sqrt(getchar()));", True)):
+            name = self.write("named.c", "#include <math.h>\n#include <stdio.h>\nint main(void)\n{\n    " + body + "\n    return 0;\n}\n")
+            self.assertEqual("double" in cbi_port.port([name]).text.decode(), due, body)
+
     def test_not_there(self):
         with self.assertRaises(cbi_port.Refused) as caught:
             cbi_port.port([self.write("a.c", "#include \"none.h\"\nint main(void) { return 0; }\n")])

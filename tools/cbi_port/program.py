@@ -40,7 +40,8 @@ class Program(Jumps, Library):
         self.names.used |= {token.text for token in tokens if token.kind == "name"}
         self.words = {plain_name(token.text) for token in tokens if token.kind == "name" and not token.file.startswith(HEADERS)}
         self.tags.used = set(TAKEN)
-        self.floats = bool(self.words & {"float", "double", *forms.FLOAT_NAMES}) or any(
+        called = {plain_name(token.text) for token, after in zip(tokens, tokens[1:]) if token.kind == "name" and after.text == "("}
+        self.floats = bool(self.words & {"float", "double"} | self.words & called & set(forms.FLOAT_NAMES)) or any(
             token.kind == "number" and token.text[:2] not in ("0x", "0X") and re.search("[.eE]", token.text) for token in tokens)
         self.asked = asked(tokens, self.words, args, stderr, named)
         self.liberties.update(dict.fromkeys(self.asked.told))
