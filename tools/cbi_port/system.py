@@ -78,17 +78,20 @@ def asked(tokens: Sequence[Token], words: Set[str], args: Any, stderr: bool, nam
 
 
 def opens_to_write(tokens: Sequence[Token]) -> bool:
-    """Whether `open` is called, or `fopen` with more than the constant mode of reading."""
+    """Whether `open` is called, or `fopen` with more than the constant mode of reading; a function of the text by that name isn't the library's."""
+    found: Set[str] = set()
     for at, token in enumerate(tokens[:-1]):
-        if token.kind != "name" or tokens[at + 1].text != "(" or token.text not in ("open", "fopen") or is_system(token):
+        if token.text not in ("open", "fopen") or tokens[at + 1].text != "(" or tokens[at - 1].text in (".", "->") or is_system(token):
             continue
         depth, end = 1, at + 2
         while depth and end < len(tokens):
             depth += (tokens[end].text == "(") - (tokens[end].text == ")")
             end += 1
+        if tokens[end:end + 1] and tokens[end].text == "{":
+            return False
         if token.text == "open" or tokens[end - 2].kind != "string" or not re.fullmatch('"r[bte]*"', tokens[end - 2].text):
-            return True
-    return False
+            found.add(token.text)
+    return bool(found)
 
 
 def is_system(token: Token) -> bool:

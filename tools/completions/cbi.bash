@@ -71,7 +71,7 @@ _cbi_explain() {
 }
 
 _cbi_port() {
-    _cbi_options '-I -D -U -include -o --args --stderr --memory --quiet --check --inputs --tool --turns --version --help'
+    _cbi_options '-I -D -U -include -o --args --file --stderr --memory --quiet --check --inputs --tool --turns --version --help'
 }
 
 complete -o filenames -F _cbi cbi

@@ -18,7 +18,7 @@ int fputc(int c, struct __cbi_FILE *f) { if (f->number == 1 || f->number == 2 &&
 #ifdef __CBI_REDIRECTS__
 int __cbi_out_byte(int c) { return fputc(c, &__cbi_out); }
 #else
-int __cbi_out_byte(int c) { return putchar(c); }
+#define __cbi_out_byte(c) putchar(c)
 #endif
 int getc(struct __cbi_FILE *f) { return fgetc(f); }
 int __getchar(void) { return fgetc(&__cbi_in); }
@@ -41,12 +41,14 @@ int fputs(const char *s, struct __cbi_FILE *f) { while (*s) { if (fputc(*s, f) =
 unsigned fwrite(const void *from, unsigned size, unsigned count, struct __cbi_FILE *f) { const char *s = from; unsigned n; for (n = 0; n < size * count; n++) if (fputc(s[n], f) == -1) return n / size; return count; }
 unsigned fread(void *to, unsigned size, unsigned count, struct __cbi_FILE *f) { char *s = to; unsigned n = 0; int c; if (size == 0) return 0; while (n < size * count) { c = fgetc(f); if (c == -1) break; s[n] = c; n++; } return n / size; }
 void perror(const char *s) { if (s && *s) { fputs(s, &__cbi_err); fputs(": ", &__cbi_err); } fputs(strerror(errno), &__cbi_err); fputs("\n", &__cbi_err); }
-void __cbi_put(struct __cbi_sink *to, int c) { if (to->kind == 1) { if (to->room > 1u) { *to->at = c; to->at++; to->room--; } } else if (to->kind == 0) __cbi_out_byte(c); else __cbi_put_file(to, c); to->count++; }
+void __cbi_put(struct __cbi_sink *to, int c) {
+    if (to->kind == 1) { if (to->room > 1u) { *to->at = c; to->at++; to->room--; } }
+    else if (to->kind == 0) __cbi_out_byte(c);
 #ifdef __CBI_OPENED__
-void __cbi_put_file(struct __cbi_sink *to, int c) { if (to->kind == 3) fputc(c, to->file); }
-#else
-void __cbi_put_file(struct __cbi_sink *to, int c) { }
+    else if (to->kind == 3) fputc(c, to->file);
 #endif
+    to->count++;
+}
 void __cbi_pad(struct __cbi_sink *to, int c, int count) { while (count > 0) { __cbi_put(to, c); count--; } }
 void __cbi_text(struct __cbi_sink *to, const char *s, int width, int most, int left) { int n = 0; int k; if (!s) { s = "(null)"; if (most >= 0 && most < 6) s = ""; } while ((most < 0 || n < most) && s[n]) n++; if (!left) __cbi_pad(to, ' ', width - n); for (k = 0; k < n; k++) __cbi_put(to, s[k]); if (left) __cbi_pad(to, ' ', width - n); }
 void __cbi_number(struct __cbi_sink *to, const char *digits, int count, const char *sign, int flags, int width, int most) {
