@@ -1,7 +1,8 @@
 """Looks at tools/cbi-port: what it takes does as gcc makes it, and what is written by hand; what it refuses is told by line.
 
 A program of ports_table says behind its text what it does: `refused LINE WORDS`, or what it reads, its words, what it
-writes and its status (or trap), and files that it may open. Without these it writes nothing and ends with 0.
+writes and its status (or trap), and files that it may open. Without these it writes nothing and ends with 0. `memory cells` or `memory bytes` says
+how its memory is kept.
 """
 import ast
 import os
@@ -46,6 +47,7 @@ class Due:
         written = re.search(r"(?s)/\* writes\n(.*?)(status|trap) (-?\d+) \*/", text)
         self.output = written[1].encode() if written else b""
         self.status = int(written[3]) if written and written[2] == "status" else 0
+        self.memory = (re.search(r"(?m)^/\* memory (cells|bytes) \*/$", text) or ["", ""])[1]
         self.trap = int(written[3]) if written and written[2] == "trap" else None
 
 
@@ -95,6 +97,8 @@ class Programs(Case):
                     if memory == "bytes" and due.trap is not None:
                         continue
                     ported = cbi_port.port([os.path.join(TABLE, name)], args=due.words, memory=memory, named=due.named)
+                    if memory == "auto" and due.memory:
+                        self.assertEqual("bytes" if any("as bytes" in it for it in ported.liberties) else "cells", due.memory, name)
                     self.hold(name, text, ported)
 
     def test_lines(self):
@@ -110,6 +114,16 @@ class Programs(Case):
             for word in set(re.findall(r"\bprintf\(\"[^\"]*\"", row)):
                 self.assertIn(word, rows[number - 1])
         self.assertEqual(cbi_port.read_map(ported.map_text()), (ported.lines, ported.added))
+
+
+    def test_lines_of_copies(self):
+        """The copies of a function that gives memory have its lines: six types are asked of `xmalloc`."""
+        name = os.path.join(TABLE, "memory_by_wrappers.c")
+        ported = cbi_port.port([name])
+        rows = ported.text.decode("latin-1").split("\n")
+        made = [row for row, line in zip(rows, ported.lines) if line == cbi_port.Line(name, 11, False) and "p = " in row]
+        self.assertEqual(len(made), 6, made)
+        self.assertFalse([it for it in ported.added if "xmalloc" in it])
 
 
 class Worked(Case):
@@ -229,6 +243,12 @@ class Files(Case):
                 ported = cbi_port.port([name], args=args, memory=memory, named=named)
                 checked = check.compare([name], [], ported, [("given", given)], CBI, args, TURNS, named)
                 self.assertEqual(checked.equal, 1, f"{memory} {args}: {checked.differences}")
+
+    def test_names_of_functions_of_floats(self):
+        """A variable that has the name of a function of floats brings none of the prelude's functions of floats in; a call does."""
+        for body, due in (("int log = getchar(); printf(\"%d\\n\", log);", False), ("printf(\"%d\\n\", (int) sqrt(getchar()));", True)):
+            name = self.write("named.c", "#include <math.h>\n#include <stdio.h>\nint main(void)\n{\n    " + body + "\n    return 0;\n}\n")
+            self.assertEqual("double" in cbi_port.port([name]).text.decode(), due, body)
 
     def test_not_there(self):
         with self.assertRaises(cbi_port.Refused) as caught:

@@ -36,6 +36,7 @@ class Body:
         self.defined_labels: Set[str] = set()
         self.lengths = False
         self.outer_names: Set[str] = set()  # what is declared `extern` within the function
+        self.last_member: Dict[str, str] = {}  # which member of a union was used last, by the way to it
         self.dead = 0              # within what a constant says is never evaluated
 
     def put(self, text: str) -> None:

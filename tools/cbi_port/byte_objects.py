@@ -119,7 +119,7 @@ class ByteObjects(Objects):
         text, level = moved(outer.text, outer.level, member.at)
         return Place(member.type, text, level, outer.pure, memory=True, member=member if member.bits is not None else None)
 
-    def within(self, place: Place, write: bool) -> Place:
+    def within(self, place: Place, what: str) -> Place:
         return place
 
     def element(self, place: Place, index: Value, node: Any = None) -> Optional[Place]:

@@ -33,6 +33,9 @@ class Calls(Operators):
             if symbol.kind == "function":
                 if self.function.dead and not symbol.defined and symbol.unit != "prelude":
                     return self.nowhere(symbol.type)
+                if symbol in self.makers_of_text.known:
+                    made: Value = self.makers_of_text.call(symbol, arguments, node)
+                    return made
                 self.use(symbol)
                 return self.called(symbol.text, symbol, symbol.type, arguments, node, used)
         value = self.value(node.name)

@@ -5,6 +5,7 @@ from cbi_port.conversions import number
 from cbi_port.scopes import Symbol
 from cbi_port.types import (CHAR, INT, UCHAR, Array, CType, Function, Int, List_, Member, Pointer, Struct, Void,
                             is_complete, is_long, is_open, is_whole, same, size_of, spelled, spread, to_function)
+from cbi_port.unions import ADVICE, CHANGED, HELPERS, READ, STORED, TOUCHED
 from cbi_port.values import ADD, ASSIGN, BITAND, EQUAL, ORDER, POSTFIX, TIMES, UNARY, Place, Value, prefixed
 
 
@@ -189,30 +190,34 @@ class Cells:
 
     def union_member(self, outer: Place, member: Member, struct: Struct, node: Any) -> Place:
         program = self.program
-        if outer.union is not None or isinstance(member.type, Array) or member.bits is not None or not self.has_tag(struct):
-            raise program.refuse(node, f"`{member.name}` of {struct!r}, of which parts are looked at", "a struct with a member for each kind of value", True)
+        if outer.union is not None or not program.unions.keeps(struct, member):
+            raise program.refuse(node, f"`{member.name}` of {struct!r}, of which parts are looked at", ADVICE, True)
         number_ = struct.members.index(member) + 1
         pointer = outer.pointer or f"&{outer.text}"
         return Place(member.type, outer.text, outer.level, outer.pure, union=(struct, number_, pointer, self.member_name(member), []))
 
-    def has_tag(self, union: Struct) -> bool:
-        """Whether it is known elsewhere which member a union has: a struct around it has a number, and at most one member is one."""
-        numbers = sum(1 for member in union.members if isinstance(member.type, Int))
-        outside = [struct for struct in self.program.structs if any(member.type is union for member in struct.members)]
-        return numbers <= 1 and bool(outside) and all(any(isinstance(member.type, Int) for member in struct.members) for struct in outside)
-
-    def within(self, place: Place, write: bool) -> Place:
-        """A member of a union as a place that may be read, or written."""
+    def within(self, place: Place, what: str) -> Place:
+        """A member of a union as a place with which is done what is said."""
         if place.union is None:
+            if what in (STORED, CHANGED):
+                self.program.unions.moved(place.text)
             return place
         struct, number_, pointer, name, way = place.union
-        what = f"cbi_{'put' if write else 'get'}_{struct.tag}_{name}"
-        self.program.union_helpers.add((struct, number_, write))
+        if isinstance(place.type, Array) and not way:
+            what = TOUCHED
+        self.program.unions.note(struct, struct.members[number_ - 1].name, pointer, what)
+        helper = HELPERS[what]
+        call = f"cbi_{helper}_{struct.tag}_{name}"
+        self.program.union_helpers.add((struct, number_, helper))
         if way:
-            text = f"{what}({pointer})->" + ".".join(self.member_name(member) for member, _ in way)
+            text = f"{call}({pointer})->" + ".".join(self.member_name(member) for member, _ in way)
             return Place(place.type, text, POSTFIX, place.pure, member=place.member, stored=way[-1][1])
-        stored = name in struct.forward and isinstance(place.type, Pointer) and not to_function(place.type)
-        return Place(place.type, f"*{what}({pointer})", UNARY, place.pure, pointer=f"{what}({pointer})", stored=stored)
+        inner = innermost(place.type)[0]
+        stored = struct.members[number_ - 1].name in struct.forward and isinstance(inner, Pointer) and not to_function(inner)
+        if what == TOUCHED:
+            cast = f"({self.spell(Pointer(inner))})(void *)" if stored else ""
+            return Place(place.type, f"{cast}{call}({pointer})", UNARY if cast else POSTFIX, place.pure, pointer="flat")
+        return Place(place.type, f"*{call}({pointer})", UNARY, place.pure, pointer=f"{call}({pointer})", stored=stored)
 
     def element(self, place: Place, index: Value, node: Any = None) -> Optional[Place]:
         """An element of an array that is a place; None where it must go by a pointer."""
@@ -223,7 +228,7 @@ class Cells:
 
     def pin(self, place: Place) -> Tuple[str, Place]:
         """A place that can be named twice, and what is done first for it."""
-        place = self.within(place, True)
+        place = self.within(place, CHANGED)
         if place.pure:
             return "", place
         pointer = self.address(place)
@@ -233,7 +238,7 @@ class Cells:
     # Loading and storing.
 
     def load(self, place: Place, node: Any = None) -> Value:
-        place = self.within(place, False)
+        place = self.within(place, READ)
         type_ = place.type
         if isinstance(type_, Array):
             return self.decayed(place)
@@ -269,7 +274,7 @@ class Cells:
 
     def store(self, place: Place, value: Value, used: bool) -> Value:
         """Stores a value that was converted to the place's type."""
-        place = self.within(place, True)
+        place = self.within(place, STORED)
         text = f"{place.text} = {value.at(ASSIGN)}"
         result = Value(place.type, text, ASSIGN, pure=False)
         if not used:
@@ -302,6 +307,7 @@ class Cells:
     def copy(self, place: Place, value: Value, used: bool, node: Any = None) -> Value:
         """Stores a struct, a union or a number of 64 bits."""
         target = self.load_place(place)
+        self.program.unions.forget(target)
         if is_long(place.type):
             if value.constant is not None:
                 bits = value.constant & ((1 << 64) - 1)
@@ -311,7 +317,7 @@ class Cells:
 
     def load_place(self, place: Place) -> str:
         """A pointer to a place that is to be stored to."""
-        place = self.within(place, True)
+        place = self.within(place, STORED)
         return place.pointer or f"&{place.at(UNARY)}"
 
     def copier(self, struct: Struct) -> str:
@@ -373,7 +379,7 @@ class Cells:
                 return value._replace(type=type_)
             return Value(type_, prefixed("(void *)", value.text, value.level), UNARY, pure=value.pure)
         if isinstance(from_.to, Void):
-            if like_char(type_.to):
+            if like_char(type_.to) and not self.program.in_prelude:  # which takes characters alone
                 self.program.from_generic.append(self.program.place_of(node) if node is not None else -1)
             if implicit:
                 return value._replace(type=type_)

@@ -86,6 +86,7 @@ class Context:
     function_numbers: Dict[Symbol, int]
     dispatchers: Dict[Any, Tuple[str, Function, List[CType]]]
     label_owner: Any
+    makers_of_text: Any         # Wrappers
 
     def value(self, node: Any, used: bool = True) -> Value:
         raise NotImplementedError

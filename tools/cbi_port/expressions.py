@@ -8,6 +8,7 @@ from cbi_port.scopes import BUILTIN, Symbol, plain_name
 from cbi_port.trees import kind, leading
 from cbi_port.types import (BOOL, INT, UCHAR, UINT, VOID, Array, CType, Function, Int, Pointer, Struct, Void,
                             common, is_complete, is_float, is_long, is_open, is_pointer, promoted, same, size_of, spelled)
+from cbi_port.unions import CHANGED
 from cbi_port.values import ASSIGN, BITAND, COMMA, COND, POSTFIX, UNARY, Leaf, Place, Value, prefixed
 
 LONG_NAMES = {"+": "add", "-": "sub", "*": "mul", "/": "div", "%": "rem", "&": "and", "|": "or", "^": "xor", "<<": "shl", ">>": "shr"}
@@ -196,7 +197,7 @@ class Expressions(Places):
         if isinstance(type_, (Void, Struct, Array)):
             raise self.refuse(node, f"`{sign}{sign}` of a `{spelled(type_)}`", "a number or a pointer")
         if natural:
-            place = self.model.within(place, True)
+            place = self.model.within(place, CHANGED)
             if is_pointer(type_) and not is_complete(type_.to):
                 raise self.refuse(node, f"a moved `{spelled(type_)}`", "a pointer to a complete type", True)
             text = f"{place.at(POSTFIX)}{sign}{sign}" if behind else prefixed(sign + sign, place.text, place.level)
@@ -314,13 +315,13 @@ class Expressions(Places):
         if is_pointer(type_):
             natural = not place.memory and not self.model.in_bytes and not place.stored and not isinstance(type_.to, (Void, Array, Function))
             if natural and is_complete(type_.to):
-                place = self.model.within(place, True)
+                place = self.model.within(place, CHANGED)
                 return Value(type_, f"{place.text} {sign}= {self.index(value).at(ASSIGN)}", ASSIGN, pure=False)
         elif not isinstance(type_, Int):
             raise self.refuse(node, f"`{sign}=` of a `{spelled(type_)}`", "a number on the left: a member, an element or a variable of a type of numbers")
         elif isinstance(value.type, Int) and not is_float(value.type) and not is_float(type_) and not place.memory and place.member is None and not is_long(value.type) and (
                 type_.rank >= 3 and type_.size == 4 or type_.size == 1 and type_.rank == 1 and (type_ != UCHAR or sign in "+-*&|^")):
-            place = self.model.within(place, True)
+            place = self.model.within(place, CHANGED)
             text = f"{place.text} {sign}= {self.promoted(value).at(ASSIGN)}"
             if type_ == UCHAR and used:
                 return Value(type_, f"({text}) & 255", BITAND, pure=False, raw=f"({text})")

@@ -74,13 +74,14 @@ class Helpers:
             self.main_wrapper(main, start, call, rows)
         for parts in sheet.parts.values():
             parts[:] = [self.resolved(text.replace("\x05", start)) for text in parts]
+        sheet.apart[:] = [(file, self.resolved(text)) for file, text in sheet.apart]
         sheet.tail[:] = [self.resolved(text) for text in sheet.tail]
         self.tails = [self.resolved(text) for text in self.tails]
-        every = [symbol for symbol, _, _ in program.definitions + [it for it in program.waiting if it[0].unit == "prelude"]]
+        every = [symbol for symbol, _, _ in program.definitions + [it for it in program.waiting if it[0].unit == "prelude" or it[0].object is not None]]
         protos = [program.signature(symbol.text, symbol.type, symbol.type.parameters, [""] * len(symbol.type.parameters)) + ";"
                   for symbol in every if symbol.emitted and symbol.text != "main"]
         protos = [re.sub(r" ([,)])", r"\1", text) for text in protos]
-        body = " ".join(text for parts in sheet.parts.values() for text in parts) + " ".join(sheet.tail + self.tails + protos + program.globals_text)
+        body = " ".join(text for parts in sheet.parts.values() for text in parts) + " ".join([text for _, text in sheet.apart] + sheet.tail + self.tails + protos + program.globals_text)
         structs = [model.spell_struct(struct) for struct in program.structs if self.mentioned(struct, body)] if not model.in_bytes else []
         raw = self.raw(body + " ".join(structs))
         raw_structs = [head for name, (head, tail) in raw.items() if name.startswith("struct ")]
@@ -163,8 +164,8 @@ class Helpers:
             self.add(self.sorter(name, type_, program.sort_call_with, True))
         for name, type_ in program.searchers.items():
             self.add(self.searcher(name, type_))
-        for struct, index, write in sorted(program.union_helpers, key=lambda it: (it[0].tag, it[1], it[2])):
-            self.add(model.union_function(struct, index, write))
+        for struct, index, way in sorted(program.union_helpers, key=lambda it: (it[0].tag, it[1], it[2])):
+            self.add(model.union_function(struct, index, way))
         cleared: Set[Struct] = set()
         while set(program.cleared) - cleared:
             for struct in [it for it in program.cleared if it not in cleared]:

@@ -43,6 +43,7 @@ class Jumps(Statements):
 
     def segment(self, number: int, falls: bool = True, node: Any = None) -> None:
         """Ends a segment, and begins another one."""
+        self.function.last_member.clear()
         flat = self.function.flat
         before = f"{flat} = {number}; " if falls else ""
         self.put(f"{before}}} if ({flat} == {number}) {{", node)

@@ -11,7 +11,7 @@ from cbi_port.scopes import Symbol
 from cbi_port.gnu_calls import OVERFLOWS, GnuCalls
 from cbi_port.scan_calls import ScanCalls
 from cbi_port.system import TOLD, VARIABLES
-from cbi_port.trees import kind
+from cbi_port.trees import kind, without_casts
 from cbi_port.types import (CHAR, INT, LONG, UINT, VOID, Array, CType, Function, Int, Pointer, Struct, Void, is_float, is_long,
                             is_pointer, same, size_of, spelled, to_function)
 from cbi_port.values import ASSIGN, POSTFIX, UNARY, Value, prefixed
@@ -342,7 +342,7 @@ class TypedCalls(ScanCalls):
         return Value(Pointer(VOID), text, POSTFIX, pure=False, fresh=fresh)
 
     def call_free(self, node: Any, arguments: Sequence[Any], used: bool) -> Value:
-        value = self.program.value(arguments[0])
+        value = self.program.value(without_casts(arguments[0]))
         if isinstance(value.type, Int):
             value = self.program.converted(value, Pointer(VOID), True, node)
         return Value(VOID, f"{'cbi_free' if self.program.keeps_sizes else 'free'}({value.at(ASSIGN)})", POSTFIX, pure=False)

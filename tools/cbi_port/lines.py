@@ -46,9 +46,15 @@ class Sheet:
         self.parts: Dict[str, List[str]] = {first: []}
         self.head: List[str] = []
         self.tail: List[str] = []
+        self.apart: List[Tuple[str, str]] = []  # texts whose lines another one has already, and their files
 
     def put(self, file: str, text: str) -> None:
         self.parts.setdefault(file, []).append(text)
+
+    def mentions(self, name: str) -> bool:
+        """Whether a name stands in what was written so far."""
+        word = re.compile(rf"\b{re.escape(name)}\b")
+        return any(word.search(text) for texts in [*self.parts.values(), [it for _, it in self.apart], self.tail] for text in texts)
 
     def take_back(self, file: str) -> None:
         """Leaves the last text of a file out."""
@@ -64,9 +70,9 @@ class Sheet:
             out.append(re.sub("[ \t]+$", "", "".join(now)))
             now.clear()
             lines.append(line)
-        for file, texts in self.parts.items():
+        for file, texts in [*self.parts.items(), *((file, [text]) for file, text in self.apart)]:
             at = 1
-            used = file == self.first
+            used = texts is self.parts[self.first]
             for text in texts:
                 place = 0
                 for found in MARK.finditer(text):

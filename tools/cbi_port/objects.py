@@ -228,17 +228,17 @@ class Objects(Cells):
             inner = f"{to}[cbi_n] = {from_}[cbi_n];"
         return f"for (cbi_n = 0; cbi_n < {count}; cbi_n++) {inner}"
 
-    def union_function(self, struct: Struct, index: int, write: bool) -> Tuple[str, str]:
-        """What gives the place of a union's member, which the union then has, or must have."""
+    def union_function(self, struct: Struct, index: int, way: str) -> Tuple[str, str]:
+        """What gives the place of a union's member: one that the union then has (`put`), must have (`get`), or both (`use`)."""
         member = struct.members[index - 1]
-        name = self.member_name(member)
-        stored = member.name in struct.forward and isinstance(member.type, Pointer) and not to_function(member.type)
-        word = "void **" if stored else self.declare(Pointer(member.type), "") if not to_function(member.type) else "int *"
-        what = f"{word}cbi_{'put' if write else 'get'}_{struct.tag}_{name}(struct {struct.tag} *cbi_at)"
+        name, inner = self.member_name(member), innermost(member.type)[0]
+        stored = member.name in struct.forward and isinstance(inner, Pointer) and not to_function(inner)
+        word = "void **" if stored else self.declare(Pointer(member.type), "") if not to_function(inner) else "int *"
+        what = f"{word}cbi_{way}_{struct.tag}_{name}(struct {struct.tag} *cbi_at)"
         # One that was made zero as a whole, of which cbi_is is 0, has each member's zero.
-        check = f"cbi_at->cbi_is = {index};" if write else f"if (cbi_at->cbi_is != {index}) if (cbi_at->cbi_is) cbi_other_kind();"
-        cast = f"({word.strip()})(void *)" if stored else ""
-        return what + ";", f"{what} {{ {check} return {cast}&cbi_at->{name}; }}"
+        rows = [f"if (cbi_at->cbi_is != {index}) if (cbi_at->cbi_is) cbi_other_kind();"] * (way != "put") + [f"cbi_at->cbi_is = {index};"] * (way != "get")
+        cast = f"({word.strip()})(void *)" if stored and not isinstance(member.type, Array) else ""
+        return what + ";", f"{what} {{ {' '.join(rows)} return {cast}{'&' * (not isinstance(member.type, Array))}cbi_at->{name}; }}"
 
     # Memory of the library.
 

@@ -14,6 +14,8 @@ from cbi_port.reader import HEADERS, Unit, prelude_index, read_prelude
 from cbi_port.scopes import TAKEN, Names, Scope, Symbol, plain_name
 from cbi_port.system import Named, asked
 from cbi_port.trees import declared_outside, gives_value, holds_open, kind, names_under_address
+from cbi_port.unions import Unions
+from cbi_port.wrappers import OBJECT, Wrappers
 from cbi_port.types import (INT, VOID, Array, CType, Function, Int, Pointer, Struct, Void, is_complete, is_whole,
                             spelled, to_function)
 
@@ -38,7 +40,8 @@ class Program(Jumps, Library):
         self.names.used |= {token.text for token in tokens if token.kind == "name"}
         self.words = {plain_name(token.text) for token in tokens if token.kind == "name" and not token.file.startswith(HEADERS)}
         self.tags.used = set(TAKEN)
-        self.floats = bool(self.words & {"float", "double", *forms.FLOAT_NAMES}) or any(
+        called = {plain_name(token.text) for token, after in zip(tokens, tokens[1:]) if token.kind == "name" and after.text == "("}
+        self.floats = bool(self.words & {"float", "double"} | self.words & called & set(forms.FLOAT_NAMES)) or any(
             token.kind == "number" and token.text[:2] not in ("0x", "0X") and re.search("[.eE]", token.text) for token in tokens)
         self.asked = asked(tokens, self.words, args, stderr, named)
         self.liberties.update(dict.fromkeys(self.asked.told))
@@ -61,6 +64,7 @@ class Program(Jumps, Library):
         self.searchers: Dict[str, CType] = {}
         self.sort_call = self.sort_call_with = ""
         self.union_helpers: Set[Any] = set()
+        self.unions = Unions(self)
         self.later: List[Any] = []
         self.from_generic: List[int] = []
         self.to_generic: List[int] = []
@@ -68,6 +72,7 @@ class Program(Jumps, Library):
         self.globals_text: List[str] = []
         self.library_names: Set[str] = set()
         self.wrappers: Dict[str, Symbol] = {}
+        self.makers_of_text = Wrappers(self)
         self.exit_functions = bool(self.words & {"atexit"})
         self.wrapped: Set[str] = self.asked.wrapped
         self.keeps_sizes = "realloc" in self.words
@@ -274,6 +279,8 @@ class Program(Jumps, Library):
         type_ = symbol.type
         self.function = body = Body(symbol.name, type_.result)
         self.scope = Scope(self.scopes[unit.file])
+        if symbol.object is not None:
+            self.scope.names[OBJECT] = Symbol(OBJECT, "type", symbol.object)
         body.addressed = names_under_address(item)
         body.outer_names = declared_outside(item.body)
         self.last_place = max(self.place_of(item.decl), 0)
@@ -303,6 +310,8 @@ class Program(Jumps, Library):
         symbol.emitted = True
         if symbol.unit == "prelude":
             self.sheet.tail.append(bare(text))
+        elif symbol.object is not None or symbol in self.makers_of_text.known:
+            self.sheet.apart.append((token.file, text))
         else:
             self.sheet.put(token.file, text)
 
@@ -360,6 +369,8 @@ class Program(Jumps, Library):
             if unit.tree is not None:
                 self.survey(unit)
         self.begin_main()
+        if not self.model.in_bytes:
+            self.makers_of_text.find()
         for unit in self.units:
             if unit.tree is not None:
                 self.unit = unit
@@ -400,7 +411,7 @@ class Program(Jumps, Library):
 
     def define_or_wait(self, symbol: Symbol, item: Any, unit: Unit) -> None:
         """A static function of a header waits until it is called; one that nobody calls may be left out."""
-        if symbol.static and not self.is_users(item):
+        if symbol.static and not self.is_users(item) or symbol in self.makers_of_text.known:
             self.waiting.append((symbol, item, unit))
             return
         if symbol.static and self.mentions_of(symbol.name) < 2:
@@ -443,6 +454,7 @@ class Program(Jumps, Library):
         while more:
             more = False
             self.plan_helpers()
+            self.makers_of_text.generic_ones()
             for symbol, item, unit in list(self.waiting):
                 if symbol.used and id(item) not in done:
                     done.add(id(item))
@@ -474,6 +486,7 @@ class Program(Jumps, Library):
                 self.problems.append(Refusal(symbol.at, f"`{symbol.name}`, which isn't defined", DEFINITION))
         if not self.model.in_bytes and self.from_generic and self.to_generic:
             self.problems.append(Refusal(max(self.to_generic[0], 0), "a reckoned `char *` that becomes a `void *`", "a pointer to what is there", True))
+        self.problems.extend(self.unions.problems())
         self.in_prelude = False
 
     def plan_helpers(self) -> None:

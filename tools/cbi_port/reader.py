@@ -54,7 +54,7 @@ def preprocessor() -> List[str]:
 def flags_of(options: Sequence[str]) -> List[str]:
     """The options by which a text is read: no header of the machine, and nothing that says which machine it is."""
     return ["-m32", "-std=gnu99", "-nostdinc", "-x", "c", "-w", *(f"-U{name}" for name in MACHINE), "-D__CBI__=1", "-D__STDC_IEC_559__=1",
-            "-D__STDC_ISO_10646__=201706L", *options, "-I", HEADERS]
+            "-D__STDC_ISO_10646__=201706L", "-imacros", os.path.join(PRELUDE, "bison.h"), *options, "-I", HEADERS]
 
 
 def preprocessed(file: str, options: Sequence[str], missing: List[Problem]) -> str:

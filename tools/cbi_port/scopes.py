@@ -39,6 +39,7 @@ class Symbol:
         self.lengths: Any = None   # of an array whose length is found out as the program runs
         self.open: Any = None      # the type of such an array; `type` is that of a pointer to its elements
         self.quals = PLAIN         # how it is qualified, or the type that it names
+        self.object: Any = None    # of a copy of a function that gives memory: the type of what it is for
         self.at = -1
 
 

@@ -97,10 +97,12 @@ class Statements(Initialisers):
         value = self.truth(self.value(node.cond))
         dead = (value.constant == 0, value.constant is not None and value.constant != 0)
         self.put(f"if ({self.condition_text(value)})", node)
-        begun = len(self.function.out)
+        begun, before = len(self.function.out), dict(self.function.last_member)
         self.function.dead += dead[0]
         self.body(node.iftrue) if node.iftrue is not None else self.put(";")
         self.function.dead += dead[1] - dead[0]
+        if node.iffalse is not None or ends_by_itself([node.iftrue]):
+            self.function.last_member = before
         if node.iffalse is not None:
             bare = self.function.out[begun:begun + 1] not in ([], ["{"])  # nothing stands there where the branch was refused
             if kind(node.iftrue) != "Compound" and bare and self.holds_if(node.iftrue):
@@ -421,6 +423,7 @@ class Statements(Initialisers):
             self.put("}")
 
     def grouped(self, rest: List[Any], how: Any) -> None:
+        self.function.last_member.clear()
         self.function.loops.append(how)
         outer, self.scope = self.scope, Scope(self.scope) if how[0] == "chain" else self.scope
         for item in rest:

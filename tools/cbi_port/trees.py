@@ -9,6 +9,13 @@ def kind(node: Any) -> str:
     return type(node).__name__
 
 
+def without_casts(node: Any) -> Any:
+    """What is cast to a pointer, and cast again."""
+    while kind(node) == "Cast" and kind(node.to_type.type) == "PtrDecl":
+        node = node.expr
+    return node
+
+
 def holds(node: Any, wanted: Any) -> bool:
     """Whether a statement has, somewhere in it, one that is wanted."""
     if node is None:
