@@ -67,7 +67,10 @@ class Comparison:
         if (due.output, due.status, due.stopped, got.stopped) == (got.output, got.status, "", ""):
             self.equal += 1
         else:
-            self.differences.append(check.told(name, due, got, self.native.strict, words, rest))
+            self.differences.append(check.told(name, due, got, lambda: self.sanitized(words, rest)))
+
+    def sanitized(self, words: List[str], rest: bytes) -> Optional[check.Ran]:
+        return check.run_native(self.native.strict, words, rest) if self.native.strict is not None else None
 
     def hangs(self, data: bytes) -> bool:
         """Whether gcc's build doesn't end either, in a time that is long beside that of the runs that ended."""
