@@ -1,18 +1,12 @@
 -- The text of the lines so far.
 use Rattle.std.proofs.Common.{◌≡◌, ℕ, ◌+◌, List, [], ◌∷◌, ◌++◌, length, refl, sym, ap, ◌∙◌, append_assoc, arith}
-use Rattle.std.specs.Prelude.{codes, map}
+use Rattle.std.specs.Prelude.{map}
 use Rattle.std.specs.List.{enumerate_from}
 use Rattle.std.proofs.lemmas.List.{append-nil}
 use Rattle.cbi_base.specs.Text.{line_of_fields, line_with_newline, text_of}
 use Rattle.flow.specs.declared.site.TableParts.{TableParts}
 use Rattle.association.specs.declared.suspect.Suspect.{Suspect}
-use Rattle.suspicious_lines.specs.Text.{lines_head, line_fields, suspicious_text}
-
--- texts of lines, one behind another
-pub lines-append : (xs ys : List (List (List ℕ))) → text_of (map line_of_fields (xs ++ ys)) ≡ text_of (map line_of_fields xs) ++ text_of (map line_of_fields ys)
-lines-append [] ys = refl
-lines-append (x ∷ xs) ys =
-    ap (λ t. line_with_newline (line_of_fields x) ++ t) (lines-append xs ys) ∙ sym (append_assoc (line_with_newline (line_of_fields x)) (text_of (map line_of_fields xs)) (text_of (map line_of_fields ys)))
+use Rattle.suspicious_lines.specs.Text.{line_fields, lines_head}
 
 abbrev rows_from : TableParts → ℕ → ℕ → ℕ → List Suspect → List (List (List ℕ))
 rows_from table failing successful number rows = map (λ e. line_fields table failing successful e.0 e.1) (enumerate_from number rows)
@@ -36,9 +30,6 @@ head_of failing successful places = line_with_newline (line_of_fields (lines_hea
 pub record IsTextSoFar (table : TableParts) (failing successful places : ℕ) (rows : List Suspect) (text : List ℕ) : Type 0 where
   pub text_is : text ≡ head_of failing successful places ++ lines_from table failing successful 1 rows
 
-pub text-start : (table : TableParts) (failing successful places : ℕ) (text : List ℕ) → text ≡ [] ++ head_of failing successful places → IsTextSoFar table failing successful places [] text
-text-start table failing successful places text is = record { text_is = is ∙ sym (append-nil (head_of failing successful places)) }
-
 pub text-more : (table : TableParts) (failing successful places : ℕ) (rows more : List Suspect) (s : Suspect) (number : ℕ) (text new : List ℕ) → more ≡ rows ++ s ∷ [] → number ≡ length rows + 1 → IsTextSoFar table failing successful places rows text
     → new ≡ text ++ line_of table failing successful number s → IsTextSoFar table failing successful places more new
 text-more table failing successful places rows more s number text new all is so_far now = record {
@@ -47,13 +38,6 @@ text-more table failing successful places rows more s number text new all is so_
       ∙ ap (λ t. head_of failing successful places ++ t) (sym (rows-push table failing successful 1 rows s number (omega (arith, is))))
       ∙ ap (λ (xs : List Suspect). head_of failing successful places ++ lines_from table failing successful 1 xs) (sym all);
 }
-
-pub text-end : (table : TableParts) (failing successful places : ℕ) (rows : List Suspect) (text new : List ℕ) → IsTextSoFar table failing successful places rows text → new ≡ text ++ line_with_newline (codes "end") → new ≡ suspicious_text table failing successful places rows
-text-end table failing successful places rows text new so_far now =
-    let end : List ℕ = line_with_newline (codes "end") in
-    let body = rows_from table failing successful 1 rows in
-    now ∙ ap (λ t. t ++ end) so_far.text_is ∙ append_assoc (head_of failing successful places) (text_of (map line_of_fields body)) end
-    ∙ ap (λ t. head_of failing successful places ++ t) (ap (λ t. text_of (map line_of_fields body) ++ t) (sym (append-nil end)) ∙ sym (lines-append body ((codes "end" ∷ []) ∷ [])))
 
 -- fields behind fields
 fields-append : (x : List ℕ) (xs : List (List ℕ)) (y : List ℕ) (ys : List (List ℕ)) → line_of_fields (x ∷ xs ++ y ∷ ys) ≡ line_of_fields (x ∷ xs) ++ 32 ∷ line_of_fields (y ∷ ys)
