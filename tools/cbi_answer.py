@@ -157,7 +157,7 @@ def suspicious(seen: Seen, wording: Wording) -> Iterator[Stated]:
         return order_of((found.a, found.b, found.c, found.d), failing, successful, KINDS[seen.table.sites[found.predicate].scheme], found.predicate)
 
     own = (with_leads(said, wording) for said in in_words(seen.lines.lines, wording))
-    return heapq.merge(own, sorted(reached(seen, wording), key=order), key=order)
+    return iter(heapq.merge(own, sorted(reached(seen, wording), key=order), key=order))
 
 
 def reached(seen: Seen, wording: Wording) -> Iterator[Stated]:

@@ -195,7 +195,7 @@ class Wrappers:
             return f"{at}{name}({', '.join(given)})"
 
         def fresh(to: Optional[CType]) -> str:
-            if goes_on(to) and any(is_sum(it) for it in arguments):
+            if to is not None and goes_on(to) and any(is_sum(it) for it in arguments):
                 raise program.refuse(node, "an array at a struct's end that goes on behind it", "a pointer to memory of malloc", True)
             made = self.copy_for(wrapper, to)
             return text(made.text, made.type)

@@ -1,0 +1,3 @@
+pub mod Strength
+pub mod Order
+pub mod Laws

@@ -1,0 +1,10 @@
+pub mod Members
+pub mod Finding
+pub mod Bounds
+pub mod Bests
+pub mod ListLemmas
+pub mod Standing
+pub mod LineTexts
+pub mod TotalLemmas
+pub mod Lawful
+pub mod Telling

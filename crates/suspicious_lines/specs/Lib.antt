@@ -1,0 +1,5 @@
+pub mod Suspects
+pub mod Listing
+pub mod Places
+pub mod Text
+pub mod Laws
