@@ -26,11 +26,11 @@ Each line is a change that turns the meaning of a function, or of a definition, 
 
 
 def lines_of(every: List[Body], found: Dict[Tuple[str, str], Outcome], page: Lines) -> Lines:
-    """The lines of each body, by crate and name: those of a try, or those that the page has of a body that wasn't tried."""
+    """The lines of each body, by crate and name: those of a try, or those that the page has of a body that was not tried or not refused."""
     made: Lines = {}
     for body in sorted(every, key=lambda it: (it.crate, it.name)):
         outcome = found.get((body.crate, body.name))
-        made[body.crate, body.name] = [row(body, it) for it in outcome.refusals] if outcome else page.get((body.crate, body.name), [])
+        made[body.crate, body.name] = [row(body, it) for it in outcome.refusals] if outcome and not outcome.fault else page.get((body.crate, body.name), [])
     return made
 
 
