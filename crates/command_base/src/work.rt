@@ -14,7 +14,7 @@ use crate::fault::Fault;
 use cbi_base::{Sink, Store};
 use std::alloc::Global;
 
-/// The text that a command makes for out, and what is told of it where it is done.
+/// The text that a command makes for out, and what it says on err when it is done.
 #[derive(Debug, Drop)]
 pub struct Made {
     pub text: Vec<u8>,

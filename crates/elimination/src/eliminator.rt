@@ -5,7 +5,7 @@ ghost use Rattle.elimination_tallies.specs.Leading.{IsLeader, NonePasses};
 ghost use Rattle.elimination_tallies.specs.Predicates.{predicates_in};
 ghost use Rattle.report_file.specs.declared.report.Entry.{Entry};
 ghost use Rattle.elimination.specs.declared.books.Slot.{Slot};
-ghost use Rattle.elimination_tallies.specs.Recount.{runs_of};
+ghost use Rattle.elimination_tallies.specs.Recount.{failing_runs, runs_of};
 ghost use Rattle.elimination.specs.Slots.{AreHolders, IsHeldToo};
 ghost use Rattle.elimination_tallies.specs.Tallies.{AreRecounts};
 
@@ -130,8 +130,8 @@ impl Eliminator {
         Some(row)
     }
 
-    // The policy's step after a leader.
-    fn step<L: Ledger>(&mut self, leader: u32, steps: &mut Steps<L>)
+    /// The policy's step after this leader. A step of the ledger is an entry of a run that is discarded or relabelled.
+    pub fn step<L: Ledger>(&mut self, leader: u32, steps: &mut Steps<L>)
         requires { leader < predicates_in self.old.branches }
         ensures after { self.new ≡ stepped_on self.old leader }
         ensures steps { steps.new ≡ steps.old + entries_taken self.old.branches self.old.policy leader self.old.runs }
@@ -146,6 +146,13 @@ impl Eliminator {
         ensures { result ≡ length self.now.runs }
     {
         self.books.left
+    }
+
+    /// How many failing runs are left.
+    pub fn failing_left(&self) -> u32
+        ensures { result ≡ failing_runs self.now.runs }
+    {
+        self.books.failing
     }
 
     /// The numbers of each predicate over the runs that are left.

@@ -1,4 +1,4 @@
-//! What is read off a syntax tree and a site table, by token: operators, places, strings, sites, bodies and named types.
+//! What lowering looks up in a syntax tree and a site table, by token: operators, places, strings, sites, bodies and named types.
 #![tactic(auto)]
 
 mod bodies;
