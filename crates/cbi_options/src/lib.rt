@@ -18,6 +18,6 @@ pub use schemes::{Mode, mode_in, schemes_or};
 pub use shares::{share_in, share_or};
 pub use word::Word;
 pub use words::{
-    BankWords, CardsWords, CollectWords, PairsWords, RankWords, RunWords, RunsWords, SessionWords,
-    StudyWords, TransformWords, WidenWords,
+    BankWords, BugsWords, CardsWords, CollectWords, LinesWords, PairsWords, RankWords, RunWords,
+    RunsWords, SessionWords, StudyWords, TransformWords, WidenWords,
 };

@@ -145,3 +145,29 @@ pub struct PairsWords {
     /// The name of the collection's file.
     pub collection: Word,
 }
+
+/// What `lines` is asked for.
+#[derive(Debug, Drop)]
+pub struct LinesWords {
+    /// From 1 to 1,000: so many lines are listed at most.
+    pub most: u32,
+    /// At most 100: a line is left out where one of its function, so many lines away at most, stands before it.
+    pub apart: u32,
+    /// The name of the program file.
+    pub program: Word,
+    /// The name of the collection's file.
+    pub collection: Word,
+}
+
+/// What `bugs` is asked for.
+#[derive(Debug, Drop)]
+pub struct BugsWords {
+    /// From 1 to 1,000: so many bugs are listed at most.
+    pub most: u32,
+    /// From 1 to 100: so many places a bug has at most.
+    pub also: u32,
+    /// The name of the program file.
+    pub program: Word,
+    /// The name of the collection's file.
+    pub collection: Word,
+}
