@@ -15,8 +15,8 @@ use crate::error::WordsError;
 use cbi_base::{Memory, Policy};
 use cbi_options::{
     BankWords, Bounds, BugsWords, CardsWords, CollectWords, Fault, Given, LinesWords, PairsWords,
-    RankWords, RunWords, RunsWords, SessionWords, StudyWords, TransformWords, WidenWords, Word, cut,
-    mode_in, number_in, number_or, policy_or, schemes_or, share_in, share_or,
+    RankWords, RunWords, RunsWords, SessionWords, StudyWords, TransformWords, WidenWords, Word,
+    cut, mode_in, number_in, number_or, policy_or, schemes_or, share_in, share_or,
 };
 use cbi_usage::{bad_value_line, usage};
 use std::alloc::Global;
