@@ -123,6 +123,31 @@ const PAIRS: [Row; 2] = [
     Row::Positional("COLL", "The collection's file"),
 ];
 
+/// What is said of how many lines or bugs are listed.
+const MOST: &str = "So many are listed at most, from 1 to 1000 [default: 10]";
+
+const LINES: [Row; 4] = [
+    Row::Option("most", "M", MOST),
+    Row::Option(
+        "apart",
+        "L",
+        "A line is left out where one of its function, at most so many lines away, stands before it, from 0 to 100 [default: 3]",
+    ),
+    Row::Positional("PROG", "The program file"),
+    Row::Positional("COLL", "The collection's file"),
+];
+
+const BUGS: [Row; 4] = [
+    Row::Option("most", "M", MOST),
+    Row::Option(
+        "also",
+        "K",
+        "So many places are listed of each bug at most, from 1 to 100 [default: 3]",
+    ),
+    Row::Positional("PROG", "The program file"),
+    Row::Positional("COLL", "The collection's file"),
+];
+
 const CARDS: [Row; 2] = [
     Row::Positional("PROG", "The program file"),
     Row::Positional("COLL", "The collection's file"),
@@ -212,7 +237,7 @@ fn command(
 /// A command: its name, what is said of it, its words, and its name behind the tool's.
 type Line = (&'static str, &'static str, &'static [Row], &'static str);
 
-const LINES: [Line; 11] = [
+const COMMANDS: [Line; 13] = [
     (
         "transform",
         "Compile a C text to a program file",
@@ -249,6 +274,18 @@ const LINES: [Line; 11] = [
         "Find the two predicates that point best together",
         &PAIRS,
         "cbi pairs",
+    ),
+    (
+        "lines",
+        "List suspicious lines, by the strength of their best predicates",
+        &LINES,
+        "cbi lines",
+    ),
+    (
+        "bugs",
+        "List bugs, each with the failing runs that it explains",
+        &BUGS,
+        "cbi bugs",
     ),
     (
         "cards",
@@ -289,7 +326,7 @@ fn with_line(
 
 fn tool_line(alloc: Global) -> Result<clap::Command<'static>, AllocError> {
     let mut tool = command(alloc, "cbi", "Cooperative bug isolation", &[])?;
-    for line in LINES {
+    for line in COMMANDS {
         tool = with_line(alloc, tool, line)?;
     }
     Ok(tool)
@@ -310,7 +347,7 @@ fn line_text(alloc: Global, line: Line) -> Result<String, Memory> {
 
 // The text that clap writes of the command, or of the tool, where the word names no command.
 fn text_of(alloc: Global, word: &str) -> Result<String, Memory> {
-    for line in LINES {
+    for line in COMMANDS {
         if line.0 == word {
             return line_text(alloc, line);
         }

@@ -6,8 +6,8 @@ use Rattle.cbi_options.specs.Options.{value_of}
 use Rattle.cbi_options.specs.Shares.{is_share}
 use Rattle.cbi_options.specs.Values.{is_taken_if_given, is_mode, is_number, is_policy, is_schemes}
 use Rattle.cbi_options.specs.declared.given.Given.{Given}
-use Rattle.cbi_words.specs.Reading.{bank_options, given_after, no_positional, only_positional, rank_options, run_options, runs_options, session_options}
-use Rattle.cbi_words.specs.Reading.{study_options, transform_options, two_words, widen_options}
+use Rattle.cbi_words.specs.Reading.{bank_options, bugs_options, given_after, lines_options, no_positional, only_positional, rank_options, run_options}
+use Rattle.cbi_words.specs.Reading.{runs_options, session_options, study_options, transform_options, two_words, widen_options}
 
 -- an option that doesn't take every value, and the values that it takes
 pub record Rule : Type 0 where
@@ -88,12 +88,32 @@ bad_widen given = do
   part ← value_of (codes "--part") given.options
   first_bad (record { name = codes "--part"; takes = is_share } ∷ []) given.options
 
+-- of `lines` with its program and its collection
+abbrev pub bad_lines : Given → Option (List ℕ)
+bad_lines given = do
+  files ← two_words given.positionals
+  first_bad (record { name = codes "--most"; takes = is_number 1 1000 } ∷ record { name = codes "--apart"; takes = is_number 0 100 } ∷ []) given.options
+
+-- of `bugs` with its program and its collection
+abbrev pub bad_bugs : Given → Option (List ℕ)
+bad_bugs given = do
+  files ← two_words given.positionals
+  first_bad (record { name = codes "--most"; takes = is_number 1 1000 } ∷ record { name = codes "--also"; takes = is_number 1 100 } ∷ []) given.options
+
+-- of the commands that list places
+unfoldable pub listing_bad_in : List ℕ → List (List ℕ) → Option (List ℕ)
+listing_bad_in name words =
+    if is_word name (codes "lines") then (given_after lines_options words >>= bad_lines)
+    else (if is_word name (codes "bugs") then (given_after bugs_options words >>= bad_bugs) else None)
+
 -- `cards` and `pairs` have no options
 unfoldable pub later_bad_in : List ℕ → List (List ℕ) → Option (List ℕ)
 later_bad_in name words =
     if is_word name (codes "session") then (given_after session_options words >>= bad_session)
     else (if is_word name (codes "widen") then (given_after widen_options words >>= bad_widen)
-    else (if is_word name (codes "runs") then (given_after runs_options words >>= bad_runs) else None))
+    else (if is_word name (codes "runs") then (given_after runs_options words >>= bad_runs)
+    else (if is_word name (codes "cards") then None
+    else (if is_word name (codes "pairs") then None else listing_bad_in name words))))
 
 -- `collect` takes every value of its options
 unfoldable pub bad_in : List ℕ → List (List ℕ) → Option (List ℕ)

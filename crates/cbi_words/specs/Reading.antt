@@ -9,7 +9,7 @@ use Rattle.cbi_options.specs.Schemes.{all_schemes, mode_wanted, schemes_or}
 use Rattle.cbi_options.specs.Shares.{share_or, share_wanted}
 use Rattle.cbi_options.specs.declared.given.Given.{Given}
 use Rattle.cbi_words.specs.declared.command.Command.{Command}
-use Rattle.cbi_words.specs.declared.command.Command.TheVariants.{Transform, Run, Bank, Collect, Runs, Rank, Study, Session, Widen, Cards, Pairs}
+use Rattle.cbi_words.specs.declared.command.Command.TheVariants.{Transform, Run, Bank, Collect, Runs, Rank, Study, Session, Widen, Cards, Pairs, Lines, Bugs}
 
 -- the one positional, where there is one alone
 abbrev pub only_positional : List (List ℕ) → Option (List ℕ)
@@ -168,9 +168,37 @@ pairs_of given = do
   files ← two_words given.positionals
   Some (Pairs (record { program = files.0; collection = files.1 }))
 
+-- `lines [--most M] [--apart L] PROG COLL`
+abbrev pub lines_options : List (List ℕ)
+lines_options = codes "--most" ∷ codes "--apart" ∷ []
+
+abbrev pub lines_of : Given → Option Command
+lines_of given = do
+  most ← number_or 10 1 1000 (value_of (codes "--most") given.options)
+  apart ← number_or 3 0 100 (value_of (codes "--apart") given.options)
+  files ← two_words given.positionals
+  Some (Lines (record { most = most; apart = apart; program = files.0; collection = files.1 }))
+
+-- `bugs [--most M] [--also K] PROG COLL`
+abbrev pub bugs_options : List (List ℕ)
+bugs_options = codes "--most" ∷ codes "--also" ∷ []
+
+abbrev pub bugs_of : Given → Option Command
+bugs_of given = do
+  most ← number_or 10 1 1000 (value_of (codes "--most") given.options)
+  also ← number_or 3 1 100 (value_of (codes "--also") given.options)
+  files ← two_words given.positionals
+  Some (Bugs (record { most = most; also = also; program = files.0; collection = files.1 }))
+
 -- what is given after a command with these options
 abbrev pub given_after : List (List ℕ) → List (List ℕ) → Option Given
 given_after options words = given_by_words None words >>= λ given. if are_asked options given then Some given else None
+
+-- the commands that list places, by their names, with the words that follow
+unfoldable pub listing_command_in : List ℕ → List (List ℕ) → Option Command
+listing_command_in name words =
+    if is_word name (codes "lines") then (given_after lines_options words >>= lines_of)
+    else (if is_word name (codes "bugs") then (given_after bugs_options words >>= bugs_of) else None)
 
 -- the commands that look on into collections, and the one that makes one at once, by their names, with the words that follow
 unfoldable pub later_command_in : List ℕ → List (List ℕ) → Option Command
@@ -179,7 +207,7 @@ later_command_in name words =
     else (if is_word name (codes "widen") then (given_after widen_options words >>= widen_of)
     else (if is_word name (codes "runs") then (given_after runs_options words >>= listed_runs_of)
     else (if is_word name (codes "cards") then (given_after no_options words >>= cards_of)
-    else (if is_word name (codes "pairs") then (given_after no_options words >>= pairs_of) else None))))
+    else (if is_word name (codes "pairs") then (given_after no_options words >>= pairs_of) else listing_command_in name words))))
 
 -- all commands, by their names
 unfoldable pub command_in : List ℕ → List (List ℕ) → Option Command

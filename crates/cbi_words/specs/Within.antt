@@ -2,7 +2,7 @@
 use Rattle.std.specs.Prelude.{◌≤◌}
 use Rattle.flow.specs.Sites.{MayPart, PartFits}
 use Rattle.cbi_words.specs.declared.command.Command.{Command}
-use Rattle.cbi_words.specs.declared.command.Command.TheVariants.{Transform, Run, Bank, Collect, Runs, Rank, Study, Session, Widen, Cards, Pairs}
+use Rattle.cbi_words.specs.declared.command.Command.TheVariants.{Transform, Run, Bank, Collect, Runs, Rank, Study, Session, Widen, Cards, Pairs, Lines, Bugs}
 
 abbrev pub IsWithin : Command → Type 0
 IsWithin (Transform words) = MayPart words.part
@@ -16,3 +16,5 @@ IsWithin (Session words) = Unit {0}
 IsWithin (Widen words) = PartFits words.part
 IsWithin (Cards words) = Unit {0}
 IsWithin (Pairs words) = Unit {0}
+IsWithin (Lines words) = ((1 ≤ words.most) × (words.most ≤ 1000)) × (words.apart ≤ 100)
+IsWithin (Bugs words) = ((1 ≤ words.most) × (words.most ≤ 1000)) × ((1 ≤ words.also) × (words.also ≤ 100))

@@ -1,6 +1,6 @@
 use cbi_options::{
-    BankWords, CardsWords, CollectWords, PairsWords, RankWords, RunWords, RunsWords, SessionWords,
-    StudyWords, TransformWords, WidenWords,
+    BankWords, BugsWords, CardsWords, CollectWords, LinesWords, PairsWords, RankWords, RunWords,
+    RunsWords, SessionWords, StudyWords, TransformWords, WidenWords,
 };
 
 /// What the words ask for. A command that isn't built has no variant.
@@ -28,4 +28,8 @@ pub enum Command {
     Cards(CardsWords),
     /// `pairs`: finds the best conjunction of two predicates.
     Pairs(PairsWords),
+    /// `lines`: lists suspicious lines, by the strength of their best predicates.
+    Lines(LinesWords),
+    /// `bugs`: lists bugs, each with the failing runs that it explains.
+    Bugs(BugsWords),
 }

@@ -4,19 +4,19 @@ ghost use Rattle.cbi_options.specs.Answers.{ReadAs};
 ghost use Rattle.cbi_options.specs.Options.{value_of};
 ghost use Rattle.cbi_options.specs.WordRule.{texts_of};
 ghost use Rattle.cbi_words.specs.Answers.{OnUsage};
-ghost use Rattle.cbi_words.specs.BadValue.{bad_bank, bad_in, bad_rank, bad_run, bad_runs, bad_session};
-ghost use Rattle.cbi_words.specs.BadValue.{bad_study, bad_transform, bad_value, bad_widen, later_bad_in};
-ghost use Rattle.cbi_words.specs.Reading.{bank_of, cards_of, collect_of, command_in, given_after, later_command_in, listed_runs_of, pairs_of, rank_of};
-ghost use Rattle.cbi_words.specs.Reading.{command_of_words, run_of, session_of, study_of, transform_of, widen_of};
+ghost use Rattle.cbi_words.specs.BadValue.{bad_bank, bad_bugs, bad_in, bad_lines, bad_rank, bad_run, bad_runs, bad_session};
+ghost use Rattle.cbi_words.specs.BadValue.{bad_study, bad_transform, bad_value, bad_widen, later_bad_in, listing_bad_in};
+ghost use Rattle.cbi_words.specs.Reading.{bank_of, bugs_of, cards_of, collect_of, command_in, given_after, later_command_in, lines_of, listed_runs_of};
+ghost use Rattle.cbi_words.specs.Reading.{command_of_words, listing_command_in, pairs_of, rank_of, run_of, session_of, study_of, transform_of, widen_of};
 ghost use Rattle.cbi_words.specs.Within.{IsWithin};
 
 use crate::command::Command;
 use crate::error::WordsError;
 use cbi_base::{Memory, Policy};
 use cbi_options::{
-    BankWords, Bounds, CardsWords, CollectWords, Fault, Given, PairsWords, RankWords, RunWords,
-    RunsWords, SessionWords, StudyWords, TransformWords, WidenWords, Word, cut, mode_in, number_in,
-    number_or, policy_or, schemes_or, share_in, share_or,
+    BankWords, Bounds, BugsWords, CardsWords, CollectWords, Fault, Given, LinesWords, PairsWords,
+    RankWords, RunWords, RunsWords, SessionWords, StudyWords, TransformWords, WidenWords, Word,
+    cut, mode_in, number_in, number_or, policy_or, schemes_or, share_in, share_or,
 };
 use cbi_usage::{bad_value_line, usage};
 use std::alloc::Global;
@@ -52,6 +52,24 @@ const RATES: Bounds = Bounds {
 const SEEDS: Bounds = Bounds {
     least: 0,
     most: 18446744073709551615,
+};
+
+/// The bounds of how many places are listed.
+const MOST: Bounds = Bounds {
+    least: 1,
+    most: 1000,
+};
+
+/// The bounds of how far apart listed lines are.
+const APART: Bounds = Bounds {
+    least: 0,
+    most: 100,
+};
+
+/// The bounds of how many places a bug has.
+const ALSO: Bounds = Bounds {
+    least: 1,
+    most: 100,
 };
 
 // What is given after `transform`.
@@ -325,6 +343,42 @@ fn pairs_of(given: &Given) -> Result<Command, Fault>
     }))
 }
 
+// What is given after `lines`.
+fn lines_of(given: &Given) -> Result<Command, Fault>
+    ensures reads { ReadAs result (lines_of given.now) (bad_lines given.now) }
+    ensures within { IfOk result IsWithin }
+{
+    let [program, collection] = given.positionals.as_slice() else {
+        return Err(Fault::Usage);
+    };
+    let most = number_or(given, "--most", 10, MOST)?;
+    let apart = number_or(given, "--apart", 3, APART)?;
+    Ok(Command::Lines(LinesWords {
+        most: most as u32,
+        apart: apart as u32,
+        program: program.try_clone()?,
+        collection: collection.try_clone()?,
+    }))
+}
+
+// What is given after `bugs`.
+fn bugs_of(given: &Given) -> Result<Command, Fault>
+    ensures reads { ReadAs result (bugs_of given.now) (bad_bugs given.now) }
+    ensures within { IfOk result IsWithin }
+{
+    let [program, collection] = given.positionals.as_slice() else {
+        return Err(Fault::Usage);
+    };
+    let most = number_or(given, "--most", 10, MOST)?;
+    let also = number_or(given, "--also", 3, ALSO)?;
+    Ok(Command::Bugs(BugsWords {
+        most: most as u32,
+        also: also as u32,
+        program: program.try_clone()?,
+        collection: collection.try_clone()?,
+    }))
+}
+
 // What the words give after a command with these options.
 fn asked(alloc: Global, options: &[&str], words: &[String]) -> Result<Given, Fault>
     ensures { ReadAs result (given_after (map (λ name. name.now) options.now) (texts_of words.now)) None }
@@ -405,6 +459,23 @@ fn later_command_in(alloc: Global, name: &str, words: &[String]) -> Result<Comma
     if name == "pairs" {
         let given = asked(alloc, &[], words)?;
         return pairs_of(&given);
+    }
+    listing_command_in(alloc, name, words)
+}
+
+// What is given after the name of a command that lists places.
+#[tactic(auto, unfolding(crate::specs::Reading::listing_command_in, crate::specs::BadValue::listing_bad_in))]
+fn listing_command_in(alloc: Global, name: &str, words: &[String]) -> Result<Command, Fault>
+    ensures reads { ReadAs result (listing_command_in name.now (texts_of words.now)) (listing_bad_in name.now (texts_of words.now)) }
+    ensures within { IfOk result IsWithin }
+{
+    if name == "lines" {
+        let given = asked(alloc, &["--most", "--apart"], words)?;
+        return lines_of(&given);
+    }
+    if name == "bugs" {
+        let given = asked(alloc, &["--most", "--also"], words)?;
+        return bugs_of(&given);
     }
     Err(Fault::Usage)
 }

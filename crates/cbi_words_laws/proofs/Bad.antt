@@ -13,8 +13,8 @@ use Rattle.cbi_options.specs.Schemes.{all_schemes, mode_wanted, schemes_or}
 use Rattle.cbi_options.specs.Shares.{is_share, share_or, share_wanted}
 use Rattle.cbi_options.specs.Values.{is_taken_if_given, is_mode, is_number, is_policy, is_schemes}
 use Rattle.cbi_words.specs.declared.command.Command.{Command}
-use Rattle.cbi_words.specs.BadValue.{Rule, bad_bank, bad_in, bad_rank, bad_run, bad_runs, bad_session, bad_study, bad_transform, bad_widen, first_bad, later_bad_in}
-use Rattle.cbi_words.specs.Reading.{bank_of, bank_options, command_in, given_after, later_command_in, listed_runs_of, no_positional, only_positional, rank_of, rank_options, run_of, run_options, runs_options, session_of, session_options, study_of, study_options, transform_of, transform_options, two_words, widen_of, widen_options}
+use Rattle.cbi_words.specs.BadValue.{Rule, bad_bank, bad_bugs, bad_in, bad_lines, bad_rank, bad_run, bad_runs, bad_session, bad_study, bad_transform, bad_widen, first_bad, later_bad_in, listing_bad_in}
+use Rattle.cbi_words.specs.Reading.{bank_of, bank_options, bugs_of, bugs_options, command_in, given_after, later_command_in, lines_of, lines_options, listed_runs_of, listing_command_in, no_positional, only_positional, rank_of, rank_options, run_of, run_options, runs_options, session_of, session_options, study_of, study_options, transform_of, transform_options, two_words, widen_of, widen_options}
 use Rattle.cbi_words_laws.specs.Laws.{BadValuesAreNoCommand}
 
 -- one of these options is given a value that it doesn't take
@@ -155,6 +155,22 @@ widen_none g option e = by (is_bad (record { name = codes "--part"; takes = is_s
     by (inl part) = then_none _ _ (λ whole. first_none _ _ (no_share_wanted (value_of (codes "--part") g.options) part))
     by (inr none) = absurd none
 
+lines_none : (g : Given) (option : List ℕ) → bad_lines g ≡ Some option → lines_of g ≡ None
+lines_none g option e = by (is_bad (record { name = codes "--most"; takes = is_number 1 1000 } ∷ record { name = codes "--apart"; takes = is_number 0 100 } ∷ []) g.options option (last (two_words g.positionals) _ option e))
+  where
+    by : (is_taken_if_given (is_number 1 1000) (value_of (codes "--most") g.options) ≡ false) ⊎ ((is_taken_if_given (is_number 0 100) (value_of (codes "--apart") g.options) ≡ false) ⊎ ⊥) → lines_of g ≡ None
+    by (inl most) = first_none _ _ (no_number_or 10 1 1000 (value_of (codes "--most") g.options) most)
+    by (inr (inl apart)) = then_none (number_or 10 1 1000 (value_of (codes "--most") g.options)) _ (λ most. first_none _ _ (no_number_or 3 0 100 (value_of (codes "--apart") g.options) apart))
+    by (inr (inr none)) = absurd none
+
+bugs_none : (g : Given) (option : List ℕ) → bad_bugs g ≡ Some option → bugs_of g ≡ None
+bugs_none g option e = by (is_bad (record { name = codes "--most"; takes = is_number 1 1000 } ∷ record { name = codes "--also"; takes = is_number 1 100 } ∷ []) g.options option (last (two_words g.positionals) _ option e))
+  where
+    by : (is_taken_if_given (is_number 1 1000) (value_of (codes "--most") g.options) ≡ false) ⊎ ((is_taken_if_given (is_number 1 100) (value_of (codes "--also") g.options) ≡ false) ⊎ ⊥) → bugs_of g ≡ None
+    by (inl most) = first_none _ _ (no_number_or 10 1 1000 (value_of (codes "--most") g.options) most)
+    by (inr (inl also)) = then_none (number_or 10 1 1000 (value_of (codes "--most") g.options)) _ (λ most. first_none _ _ (no_number_or 3 1 100 (value_of (codes "--also") g.options) also))
+    by (inr (inr none)) = absurd none
+
 -- by the command's name
 asked_none : (a : Option Given) (bad : Given → Option (List ℕ)) (f : Given → Option Command) (option : List ℕ) → ((g : Given) (option : List ℕ) → bad g ≡ Some option → f g ≡ None) →
     (a >>= bad) ≡ Some option → (a >>= f) ≡ None
@@ -166,12 +182,21 @@ by_name : (b : Bool) (x u : Option (List ℕ)) (y v : Option Command) (option : 
 by_name true x u y v option here there e = here e
 by_name false x u y v option here there e = there e
 
+listing_none : (name : List ℕ) (words : List (List ℕ)) (option : List ℕ) → listing_bad_in name words ≡ Some option → listing_command_in name words ≡ None
+unfolding listing_bad_in listing_command_in
+listing_none name words option e =
+    by_name (is_word name (codes "lines")) _ _ _ _ option (asked_none (given_after lines_options words) bad_lines lines_of option lines_none)
+    (by_name (is_word name (codes "bugs")) _ _ _ _ option (asked_none (given_after bugs_options words) bad_bugs bugs_of option bugs_none) (λ none. absurd cc)) e
+
 later_none : (name : List ℕ) (words : List (List ℕ)) (option : List ℕ) → later_bad_in name words ≡ Some option → later_command_in name words ≡ None
 unfolding later_bad_in later_command_in
 later_none name words option e =
     by_name (is_word name (codes "session")) _ _ _ _ option (asked_none (given_after session_options words) bad_session session_of option session_none)
     (by_name (is_word name (codes "widen")) _ _ _ _ option (asked_none (given_after widen_options words) bad_widen widen_of option widen_none)
-    (by_name (is_word name (codes "runs")) _ _ _ _ option (asked_none (given_after runs_options words) bad_runs listed_runs_of option runs_none) (λ none. absurd cc))) e
+    (by_name (is_word name (codes "runs")) _ _ _ _ option (asked_none (given_after runs_options words) bad_runs listed_runs_of option runs_none)
+    (by_name (is_word name (codes "cards")) _ _ _ _ option (λ none. absurd cc)
+    (by_name (is_word name (codes "pairs")) _ _ _ _ option (λ none. absurd cc)
+    (listing_none name words option))))) e
 
 command_none : (name : List ℕ) (words : List (List ℕ)) (option : List ℕ) → bad_in name words ≡ Some option → command_in name words ≡ None
 unfolding bad_in command_in

@@ -6,7 +6,7 @@ use Rattle.cbi_options.specs.declared.given.Given.{Given}
 use Rattle.cbi_options.specs.Options.{number_or, number_wanted, value_of}
 use Rattle.cbi_words.specs.declared.command.Command.{Command}
 use Rattle.cbi_words.specs.declared.command.Command.TheVariants.{Bank}
-use Rattle.cbi_words.specs.Reading.{bank_of, bank_options, cards_of, collect_of, collect_options, command_in, given_after, later_command_in, listed_runs_of, no_options, no_positional, pairs_of, rank_of, rank_options, run_of, run_options, runs_options, session_of, session_options, study_of, study_options, transform_of, transform_options, widen_of, widen_options}
+use Rattle.cbi_words.specs.Reading.{bank_of, bank_options, bugs_of, bugs_options, cards_of, collect_of, collect_options, command_in, given_after, later_command_in, lines_of, lines_options, listed_runs_of, listing_command_in, no_options, no_positional, pairs_of, rank_of, rank_options, run_of, run_options, runs_options, session_of, session_options, study_of, study_options, transform_of, transform_options, widen_of, widen_options}
 use Rattle.cbi_words_laws.specs.Laws.{CommandStays, CommandsTakeWhatIsSaid, SaySame}
 use Rattle.cbi_words_laws.proofs.Moving.{change_places}
 
@@ -48,6 +48,12 @@ cards_heeds g h positionals values = rw (positionals) refl
 pairs_heeds : Heeds pairs_of
 pairs_heeds g h positionals values = rw (positionals) refl
 
+lines_heeds : Heeds lines_of
+lines_heeds g h positionals values = rw (values (codes "--most"), values (codes "--apart"), positionals) refl
+
+bugs_heeds : Heeds bugs_of
+bugs_heeds g h positionals values = rw (values (codes "--most"), values (codes "--also"), positionals) refl
+
 -- `bank` takes no positional
 bank_with : List (List ℕ) → Given → Option Command
 bank_with words given = do
@@ -81,6 +87,12 @@ choose false x y u v e d = d
 abbrev pub Said : List (List ℕ) → List (List ℕ) → Type 0
 Said one two = (names : List (List ℕ)) → SaySame (given_after names one) (given_after names two)
 
+listing_same : (name : List ℕ) (one two : List (List ℕ)) → Said one two → listing_command_in name one ≡ listing_command_in name two
+unfolding listing_command_in
+listing_same name one two same =
+    choose (is_word name (codes "lines")) _ _ _ _ (bound lines_of (given_after lines_options one) (given_after lines_options two) lines_heeds (same lines_options))
+    (choose (is_word name (codes "bugs")) _ _ _ _ (bound bugs_of (given_after bugs_options one) (given_after bugs_options two) bugs_heeds (same bugs_options)) refl)
+
 later_same : (name : List ℕ) (one two : List (List ℕ)) → Said one two → later_command_in name one ≡ later_command_in name two
 unfolding later_command_in
 later_same name one two same =
@@ -88,7 +100,8 @@ later_same name one two same =
     (choose (is_word name (codes "widen")) _ _ _ _ (bound widen_of (given_after widen_options one) (given_after widen_options two) widen_heeds (same widen_options))
     (choose (is_word name (codes "runs")) _ _ _ _ (bound listed_runs_of (given_after runs_options one) (given_after runs_options two) runs_heeds (same runs_options))
     (choose (is_word name (codes "cards")) _ _ _ _ (bound cards_of (given_after no_options one) (given_after no_options two) cards_heeds (same no_options))
-    (choose (is_word name (codes "pairs")) _ _ _ _ (bound pairs_of (given_after no_options one) (given_after no_options two) pairs_heeds (same no_options)) refl))))
+    (choose (is_word name (codes "pairs")) _ _ _ _ (bound pairs_of (given_after no_options one) (given_after no_options two) pairs_heeds (same no_options))
+    (listing_same name one two same)))))
 
 command_same : (name : List ℕ) (one two : List (List ℕ)) → Said one two → command_in name one ≡ command_in name two
 unfolding command_in
