@@ -5,12 +5,13 @@ use Rattle.cbi_base.specs.declared.observation.Observation.{Observation}
 use Rattle.cbi_base.specs.Store.{Held}
 use Rattle.cbi_base.specs.declared.refusal.Refusal.{Refusal}
 use Rattle.cbi_words.specs.declared.command.Command.{Command}
-use Rattle.cbi_words.specs.declared.command.Command.TheVariants.{Transform, Run, Bank, Collect, Rank, Study, Session, Widen, Cards, Pairs, Runs}
+use Rattle.cbi_words.specs.declared.command.Command.TheVariants.{Transform, Run, Bank, Collect, Rank, Study, Session, Widen, Cards, Pairs, Lines, Bugs, Runs}
 use Rattle.study.specs.declared.ranked.StudyFault.TheVariants as faults
 use Rattle.command_base.specs.declared.fault.Fault.{Fault}
 use Rattle.command_base.specs.declared.fault.Fault.TheVariants as command_fault
 use Rattle.command_base.specs.declared.done.Done.{Done}
-use Rattle.command_base.specs.declared.done.Done.TheVariants.{Lines, Nothing, Added, Counted}
+use Rattle.command_base.specs.declared.done.Done.TheVariants as done
+use Rattle.command_base.specs.declared.done.Done.TheVariants.{Nothing, Added, Counted}
 use Rattle.command_base.specs.Faults.{WriteFaultOf}
 use Rattle.command_base.specs.Names.{AreHeld, IsFirstMissing, IsOneOf}
 use Rattle.command_base.specs.Outside.{IsUnmoved, Outside, Wrote, WroteWithin}
@@ -25,6 +26,8 @@ use Rattle.command_session.specs.Session.{IsReplayed, SessionRefused, SessionRef
 use Rattle.command_widen.specs.Widen.{IsWidened, WidenRefused, WidenRefusedBy, widen_names}
 use Rattle.command_cards.specs.Cards.{CardsRefused, CardsRefusedBy, IsDealt, cards_names}
 use Rattle.command_pairs.specs.Pairs.{IsPaired, PairsRefused, PairsRefusedBy, pairs_names}
+use Rattle.command_lines.specs.Lines.{AreLinesListed, LinesRefused, LinesRefusedBy, lines_names}
+use Rattle.command_bugs.specs.Bugs.{AreBugsListed, BugsRefused, BugsRefusedBy, bugs_names}
 use Rattle.command_runs.specs.Lists.{first_names}
 use Rattle.command_runs.specs.Runs.{AreRunsHeld, IsRunsMissing, IsRunsName, LeftByRuns, ListedRefused, ListedRefusedBy, RunsDone, RunsStopped, RunsTaken}
 
@@ -41,6 +44,8 @@ command_names (Some (Session words)) = session_names words
 command_names (Some (Widen words)) = widen_names words
 command_names (Some (Cards words)) = cards_names words
 command_names (Some (Pairs words)) = pairs_names words
+command_names (Some (Lines words)) = lines_names words
+command_names (Some (Bugs words)) = bugs_names words
 command_names (Some (Runs words)) = first_names words
 
 -- It reads this name: one that its words give, or for `runs` one that its lists give.
@@ -67,20 +72,22 @@ written_by command = None
 abbrev pub Did : {B : Type 0} → (told : B → List Observation) → Option Command → (before after : Outside B) → (said : Done) → Type 0
 Did told None before after said = ⊥
 Did told (Some (Transform words)) before after said = Wrote (IsTransformed before.held words) before after × (said ≡ Nothing)
-Did told (Some (Run words)) before after said = Ran told words before after × (said ≡ Lines)
+Did told (Some (Run words)) before after said = Ran told words before after × (said ≡ done.Lines)
 Did told (Some (Bank words)) before after said = Wrote (IsMadeText words) before after × (said ≡ Nothing)
 Did told (Some (Collect words)) before after said = Wrote (IsCollected before.held words said) before after
 Did told (Some (Rank words)) before after said = Wrote (IsRanked before.held words) before after × (said ≡ Nothing)
-Did told (Some (Study words)) before after said = StudyDone told words before after × (said ≡ Lines)
+Did told (Some (Study words)) before after said = StudyDone told words before after × (said ≡ done.Lines)
 Did told (Some (Session words)) before after said = Wrote (IsReplayed before.held words) before after × (said ≡ Nothing)
 Did told (Some (Widen words)) before after said = Wrote (IsWidened before.held words) before after × (said ≡ Nothing)
 Did told (Some (Cards words)) before after said = Wrote (IsDealt before.held words) before after × (said ≡ Nothing)
 Did told (Some (Pairs words)) before after said = Wrote (IsPaired before.held words) before after × (said ≡ Nothing)
+Did told (Some (Lines words)) before after said = Wrote (AreLinesListed before.held words) before after × (said ≡ Nothing)
+Did told (Some (Bugs words)) before after said = Wrote (AreBugsListed before.held words) before after × (said ≡ Nothing)
 Did told (Some (Runs words)) before after said = RunsDone told words before after said
 
 -- what err is told of it, of the lines of the watchers
 abbrev pub done_text : (said : Done) → (lines : List ℕ) → List ℕ
-done_text Lines lines = lines
+done_text done.Lines lines = lines
 done_text Nothing lines = []
 done_text (Added added repeated) lines = codes "added " ++ decimal added ++ codes " repeated " ++ decimal repeated ++ codes "\n"
 done_text (Counted runs failed succeeded neither) lines = lines ++ codes "runs " ++ decimal runs ++ codes " failed " ++ decimal failed
@@ -99,6 +106,8 @@ LeftOn told (Some (Session words)) before after = WroteWithin (IsReplayed before
 LeftOn told (Some (Widen words)) before after = WroteWithin (IsWidened before.held words) before after
 LeftOn told (Some (Cards words)) before after = WroteWithin (IsDealt before.held words) before after
 LeftOn told (Some (Pairs words)) before after = WroteWithin (IsPaired before.held words) before after
+LeftOn told (Some (Lines words)) before after = WroteWithin (AreLinesListed before.held words) before after
+LeftOn told (Some (Bugs words)) before after = WroteWithin (AreBugsListed before.held words) before after
 LeftOn told (Some (Runs words)) before after = RunsTaken told words before after
 
 -- what it leaves where memory is wanting before it is done
@@ -149,6 +158,8 @@ IsRefused (Some (Session words)) held = SessionRefused words held
 IsRefused (Some (Widen words)) held = WidenRefused words held
 IsRefused (Some (Cards words)) held = CardsRefused words held
 IsRefused (Some (Pairs words)) held = PairsRefused words held
+IsRefused (Some (Lines words)) held = LinesRefused words held
+IsRefused (Some (Bugs words)) held = BugsRefused words held
 IsRefused (Some (Runs words)) held = ListedRefused words held
 IsRefused command held = ⊥
 
@@ -163,6 +174,8 @@ IsRefusedBy (Some (Session words)) held refusal = SessionRefusedBy words held re
 IsRefusedBy (Some (Widen words)) held refusal = WidenRefusedBy words held refusal
 IsRefusedBy (Some (Cards words)) held refusal = CardsRefusedBy words held refusal
 IsRefusedBy (Some (Pairs words)) held refusal = PairsRefusedBy words held refusal
+IsRefusedBy (Some (Lines words)) held refusal = LinesRefusedBy words held refusal
+IsRefusedBy (Some (Bugs words)) held refusal = BugsRefusedBy words held refusal
 IsRefusedBy (Some (Runs words)) held refusal = ListedRefusedBy words held refusal
 IsRefusedBy command held refusal = ⊥
 

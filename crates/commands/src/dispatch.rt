@@ -21,8 +21,10 @@ use cbi_base::{Sink, Store};
 use cbi_words::Command;
 use command_bank::make_bank;
 use command_base::{Done, Fault, do_work};
+use command_bugs::BugsCall;
 use command_cards::CardsCall;
 use command_collect::CollectCall;
+use command_lines::LinesCall;
 use command_pairs::PairsCall;
 use command_rank::RankCall;
 use command_run::run_file;
@@ -83,6 +85,8 @@ pub fn obey<S: Store, O: Sink>(
         Command::Widen(words) => do_work(alloc, &WidenCall { words }, store, out),
         Command::Cards(words) => do_work(alloc, &CardsCall { words }, store, out),
         Command::Pairs(words) => do_work(alloc, &PairsCall { words }, store, out),
+        Command::Lines(words) => do_work(alloc, &LinesCall { words }, store, out),
+        Command::Bugs(words) => do_work(alloc, &BugsCall { words }, store, out),
         Command::Runs(words) => make_runs(alloc, &words, store, out, probes),
     }
 }

@@ -6,25 +6,31 @@ use Rattle.c_types_expressions.specs.declared.walk.Walk.{Walk}
 use Rattle.collector.specs.declared.collection.Bundle.{Bundle}
 use Rattle.session_edits.specs.Spelling.{SpellsEdits}
 use Rattle.affinity.specs.Text.{AreCardsOf}
+use Rattle.suspicious_lines.specs.Text.{AreLinesOf}
+use Rattle.bug_rounds.specs.Text.{AreBugsOf}
 use Rattle.cbi_options.specs.declared.words.TransformWords.{TransformWords}
 use Rattle.cbi_options.specs.declared.words.RankWords.{RankWords}
 use Rattle.cbi_options.specs.declared.words.CardsWords.{CardsWords}
 use Rattle.cbi_options.specs.declared.words.PairsWords.{PairsWords}
+use Rattle.cbi_options.specs.declared.words.LinesWords.{LinesWords}
+use Rattle.cbi_options.specs.declared.words.BugsWords.{BugsWords}
 use Rattle.cbi_options.specs.declared.words.SessionWords.{SessionWords}
-use Rattle.cbi_words.specs.declared.command.Command.TheVariants.{Rank, Cards, Pairs, Session}
+use Rattle.cbi_words.specs.declared.command.Command.TheVariants.{Rank, Cards, Pairs, Lines, Bugs, Session}
 use Rattle.command_transform.specs.Transform.{IsFileOf, plan_of}
 use Rattle.command_collect.specs.Collect.{AreSpelled, reports_in}
 use Rattle.command_rank.specs.Rank.{IsRanked}
 use Rattle.command_cards.specs.Cards.{IsDealt}
 use Rattle.command_pairs.specs.Pairs.{IsPaired}
+use Rattle.command_lines.specs.Lines.{AreLinesListed}
+use Rattle.command_bugs.specs.Bugs.{AreBugsListed}
 use Rattle.command_session.specs.Session.{IsReplayed, id_of}
 use Rattle.headline.specs.Chain.{Made, meant_report, meant_run, meant_table}
 use Rattle.headline.specs.Handed.{IsCollectionOf, by_number}
-use Rattle.headline.specs.Headline.{ASessionIsTheHeadline, CardsAreOfMeantRuns, IsPairOf, PairsAreOfMeantRuns, TheCommandsAreTheHeadline, adds_and_ranks}
+use Rattle.headline.specs.Headline.{ASessionIsTheHeadline, BugsAreOfMeantRuns, CardsAreOfMeantRuns, IsPairOf, LinesAreOfMeantRuns, PairsAreOfMeantRuns, TheCommandsAreTheHeadline, adds_and_ranks}
 use Rattle.executable.specs.Call.{Call}
 use Rattle.headline.specs.Listed.{TheRankingOfRunsIsTheElimination}
 use Rattle.executable.specs.Closed.{IsElimination, IsEliminationOfLines, OfMeantRuns}
-use Rattle.executable.specs.Steps.{Collects, Deals, Finds, Leave, Ranks, Replays, RunsListed, Transforms}
+use Rattle.executable.specs.Steps.{Collects, Deals, Finds, Leave, ListsBugs, ListsLines, Ranks, Replays, RunsListed, Transforms}
 use Rattle.executable.proofs.Leaving.{HeldRuns, collect-left, file-of, held-runs, list-left}
 use Rattle.executable.proofs.Reading.{done-of, put-out, read-stands}
 
@@ -85,6 +91,24 @@ module _ (text : List ℕ) (t : TransformWords) (runs : List Call) (texts : List
         of-runs _ (λ is held. law t text file collect.out pairs.out held.made (Some pairs.before) w is.compiled.tree is.compiled.known is is.compiled.accepted (collection-of held) done
         (read-stands pairs.before w.program file done.texts.program call.reads done.are_texts.program_read)
         (read-stands pairs.before w.collection collect.out done.texts.collection call.reads_collection done.are_texts.collection_read))
+
+    pub lists-lines : LinesAreOfMeantRuns → (w : LinesWords) (lines : Call) → ListsLines w file collect.out lines
+        → OfMeantRuns text runs (λ tree known made. AreLinesOf (meant_table tree known (plan_of t)) (map (meant_run tree known (plan_of t)) made) w.most w.apart lines.out)
+    lists-lines law w lines call =
+        let d = done-of (Lines w) lines call.succeeds in
+        let done : AreLinesListed (Some lines.before) w lines.out = put-out (AreLinesListed (Some lines.before) w) call.succeeds.is_call.taken lines.out d.1.0.out in
+        of-runs _ (λ is held. law t text file collect.out lines.out held.made (Some lines.before) w is.compiled.tree is.compiled.known is is.compiled.accepted (collection-of held) done
+        (read-stands lines.before w.program file done.texts.program call.reads done.are_texts.program_read)
+        (read-stands lines.before w.collection collect.out done.texts.collection call.reads_collection done.are_texts.collection_read))
+
+    pub lists-bugs : BugsAreOfMeantRuns → (w : BugsWords) (bugs : Call) (work : Work) → ListsBugs w file collect.out bugs
+        → OfMeantRuns text runs (λ tree known made. AreBugsOf (meant_table tree known (plan_of t)) (map (meant_report tree known (plan_of t) file work) made) w.most w.also bugs.out)
+    lists-bugs law w bugs work call =
+        let d = done-of (Bugs w) bugs call.succeeds in
+        let done : AreBugsListed (Some bugs.before) w bugs.out = put-out (AreBugsListed (Some bugs.before) w) call.succeeds.is_call.taken bugs.out d.1.0.out in
+        of-runs _ (λ is held. law t text file collect.out bugs.out held.made (Some bugs.before) w work is.compiled.tree is.compiled.known is is.compiled.accepted (collection-of held) done
+        (read-stands bugs.before w.program file done.texts.program call.reads done.are_texts.program_read)
+        (read-stands bugs.before w.collection collect.out done.texts.collection call.reads_collection done.are_texts.collection_read))
 
 -- the ranking of the runs of a list
 pub ranks-lines : TheRankingOfRunsIsTheElimination → (text : List ℕ) (t : TransformWords) (r : RankWords) (transform listed rank : Call) → Transforms t text transform → RunsListed transform.out listed

@@ -5,7 +5,7 @@ use Rattle.std.proofs.lemmas.List.{length-map}
 use Rattle.std.proofs.lemmas.Option.{none-some, same_Some}
 use Rattle.cbi_base.specs.declared.observation.Observation.{Observation}
 use Rattle.cbi_words.specs.declared.command.Command.{Command}
-use Rattle.cbi_words.specs.declared.command.Command.TheVariants.{Transform, Run, Bank, Collect, Rank, Study, Session, Widen, Cards, Pairs, Runs}
+use Rattle.cbi_words.specs.declared.command.Command.TheVariants.{Transform, Run, Bank, Collect, Rank, Study, Session, Widen, Cards, Pairs, Lines, Bugs, Runs}
 use Rattle.cbi_options.specs.declared.words.RunsWords.{RunsWords}
 use Rattle.cbi_options.specs.declared.words.StudyWords.{StudyWords}
 use Rattle.command_base.specs.declared.done.Done.{Done}
@@ -81,6 +81,8 @@ module _ {B : Type 0} (told : B → List Observation) where
   did-told (Some (Widen words)) before after said did = (wrote-told _ before after did.0, did.1)
   did-told (Some (Cards words)) before after said did = (wrote-told _ before after did.0, did.1)
   did-told (Some (Pairs words)) before after said did = (wrote-told _ before after did.0, did.1)
+  did-told (Some (Lines words)) before after said did = (wrote-told _ before after did.0, did.1)
+  did-told (Some (Bugs words)) before after said did = (wrote-told _ before after did.0, did.1)
   did-told (Some (Runs words)) before after said did = record {
     out = record { text = did.out.text; is_due = runs-told words before after said did.out.text did.out.is_due; took = did.out.took };
     held = did.held;

@@ -8,6 +8,8 @@ use Rattle.collector.specs.declared.collection.Bundle.{Bundle}
 use Rattle.session_edits.specs.Spelling.{SpellsEdits}
 use Rattle.ranking.specs.Ranked.{IsRankingOf}
 use Rattle.affinity.specs.Text.{AreCardsOf}
+use Rattle.suspicious_lines.specs.Text.{AreLinesOf}
+use Rattle.bug_rounds.specs.Text.{AreBugsOf}
 use Rattle.compiler.specs.Accepted.{IsAccepted}
 use Rattle.compiler.specs.declared.plan.Plan.{Plan}
 use Rattle.study_runs.specs.declared.plan.StudyPlan.{StudyPlan}
@@ -17,6 +19,8 @@ use Rattle.cbi_options.specs.declared.words.TransformWords.{TransformWords}
 use Rattle.cbi_options.specs.declared.words.RankWords.{RankWords}
 use Rattle.cbi_options.specs.declared.words.CardsWords.{CardsWords}
 use Rattle.cbi_options.specs.declared.words.PairsWords.{PairsWords}
+use Rattle.cbi_options.specs.declared.words.LinesWords.{LinesWords}
+use Rattle.cbi_options.specs.declared.words.BugsWords.{BugsWords}
 use Rattle.cbi_options.specs.declared.words.SessionWords.{SessionWords}
 use Rattle.cbi_options.specs.declared.words.StudyWords.{StudyWords}
 use Rattle.command_transform.specs.Transform.{plan_of}
@@ -29,7 +33,7 @@ use Rattle.headline.specs.Handed.{by_number}
 use Rattle.headline.specs.Headline.{IsPairOf, adds_and_ranks}
 use Rattle.executable.specs.Call.{Call}
 use Rattle.executable.specs.Runs.{AllMake, AreRunsOfLines}
-use Rattle.executable.specs.Steps.{Collects, Deals, Finds, Leave, Ranks, Replays, RunsListed, Studies, Transforms}
+use Rattle.executable.specs.Steps.{Collects, Deals, Finds, Leave, ListsBugs, ListsLines, Ranks, Replays, RunsListed, Studies, Transforms}
 
 -- The text is accepted, the calls made these runs, and of them, each number once, as the text means them, this holds.
 pub record OfMeantRuns (text : List ℕ) (calls : List Call) (P : SourceTree → Walk → List Made → Type 0) : Type 0 where
@@ -65,6 +69,22 @@ ThePairsOfCallsAreOfMeantRuns =
     (text : List ℕ) (t : TransformWords) (w : PairsWords) (runs : List Call) (texts : List (List ℕ)) (transform collect pairs : Call) →
     Transforms t text transform → Leave transform.out runs texts → Collects transform.out texts collect → Finds w transform.out collect.out pairs →
     OfMeantRuns text runs (λ tree known made. IsPairOf (meant_table tree known (plan_of t)) (map (meant_run tree known (plan_of t)) made) pairs.out)
+
+-- So with `lines`.
+abbrev pub TheLinesOfCallsAreOfMeantRuns : Type 0
+TheLinesOfCallsAreOfMeantRuns =
+    (text : List ℕ) (t : TransformWords) (w : LinesWords) (runs : List Call) (texts : List (List ℕ)) (transform collect lines : Call) →
+    Transforms t text transform → Leave transform.out runs texts → Collects transform.out texts collect → ListsLines w transform.out collect.out lines →
+    OfMeantRuns text runs (λ tree known made.
+    AreLinesOf (meant_table tree known (plan_of t)) (map (meant_run tree known (plan_of t)) made) w.most w.apart lines.out)
+
+-- So with `bugs`: no bug depends on a run's work.
+abbrev pub TheBugsOfCallsAreOfMeantRuns : Type 0
+TheBugsOfCallsAreOfMeantRuns =
+    (text : List ℕ) (t : TransformWords) (w : BugsWords) (runs : List Call) (texts : List (List ℕ)) (transform collect bugs : Call) (work : Work) →
+    Transforms t text transform → Leave transform.out runs texts → Collects transform.out texts collect → ListsBugs w transform.out collect.out bugs →
+    OfMeantRuns text runs (λ tree known made.
+    AreBugsOf (meant_table tree known (plan_of t)) (map (meant_report tree known (plan_of t) transform.out work) made) w.most w.also bugs.out)
 
 -- So with `session` in place of `collect` and `rank`, where its edits add the reports of the texts, one text after another, and then ask for a ranking.
 abbrev pub ASessionOfCallsIsTheHeadline : Type 0

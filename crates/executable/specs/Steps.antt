@@ -9,10 +9,12 @@ use Rattle.cbi_options.specs.declared.words.CollectWords.{CollectWords}
 use Rattle.cbi_options.specs.declared.words.RankWords.{RankWords}
 use Rattle.cbi_options.specs.declared.words.CardsWords.{CardsWords}
 use Rattle.cbi_options.specs.declared.words.PairsWords.{PairsWords}
+use Rattle.cbi_options.specs.declared.words.LinesWords.{LinesWords}
+use Rattle.cbi_options.specs.declared.words.BugsWords.{BugsWords}
 use Rattle.cbi_options.specs.declared.words.SessionWords.{SessionWords}
 use Rattle.cbi_options.specs.declared.words.StudyWords.{StudyWords}
 use Rattle.cbi_words.specs.declared.command.Command.{Command}
-use Rattle.cbi_words.specs.declared.command.Command.TheVariants.{Transform, Run, Collect, Runs, Rank, Study, Session, Cards, Pairs}
+use Rattle.cbi_words.specs.declared.command.Command.TheVariants.{Transform, Run, Collect, Runs, Rank, Study, Session, Cards, Pairs, Lines, Bugs}
 use Rattle.command_inputs.specs.Collections.{file_limit}
 use Rattle.executable.specs.Call.{Call, IsCall, command_of}
 
@@ -70,7 +72,7 @@ pub record RunsListed (program : List ℕ) (call : Call) : Type 0 where
   pub succeeds : Succeeds (Runs words) call
   pub reads : Stands call.before words.program program
 
--- `rank`, `cards` and `pairs` of this collection for this program
+-- `rank`, `cards`, `pairs`, `lines` and `bugs` of this collection for this program
 pub record Ranks (words : RankWords) (program collection : List ℕ) (call : Call) : Type 0 where
   pub succeeds : Succeeds (Rank words) call
   pub reads : Stands call.before words.program program
@@ -83,6 +85,16 @@ pub record Deals (words : CardsWords) (program collection : List ℕ) (call : Ca
 
 pub record Finds (words : PairsWords) (program collection : List ℕ) (call : Call) : Type 0 where
   pub succeeds : Succeeds (Pairs words) call
+  pub reads : Stands call.before words.program program
+  pub reads_collection : Stands call.before words.collection collection
+
+pub record ListsLines (words : LinesWords) (program collection : List ℕ) (call : Call) : Type 0 where
+  pub succeeds : Succeeds (Lines words) call
+  pub reads : Stands call.before words.program program
+  pub reads_collection : Stands call.before words.collection collection
+
+pub record ListsBugs (words : BugsWords) (program collection : List ℕ) (call : Call) : Type 0 where
+  pub succeeds : Succeeds (Bugs words) call
   pub reads : Stands call.before words.program program
   pub reads_collection : Stands call.before words.collection collection
 

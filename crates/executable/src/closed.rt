@@ -2,16 +2,19 @@
 ghost use Rattle.executable.specs.Closed.{
   ASessionOfCallsIsTheHeadline,
   AStudyIsTheHeadline,
+  TheBugsOfCallsAreOfMeantRuns,
   TheCardsOfCallsAreOfMeantRuns,
   TheExecutableIsTheHeadline,
+  TheLinesOfCallsAreOfMeantRuns,
   ThePairsOfCallsAreOfMeantRuns,
   TheRunsOfAListAreTheHeadline,
 };
 ghost use Rattle.executable.specs.Shares.{AFarmOfCallsIsTheHeadline};
 
 use headline::{
-    a_farm_is_the_elimination, a_session_is_the_headline, cards_are_of_meant_runs,
-    pairs_are_of_meant_runs, the_commands_are_the_headline, the_ranking_of_runs_is_the_elimination,
+    a_farm_is_the_elimination, a_session_is_the_headline, bugs_are_of_meant_runs,
+    cards_are_of_meant_runs, lines_are_of_meant_runs, pairs_are_of_meant_runs,
+    the_commands_are_the_headline, the_ranking_of_runs_is_the_elimination,
 };
 use std::alloc::Global;
 use study_runs::one_made_run;
@@ -38,6 +41,20 @@ pub fn pairs_of_calls_are_of_meant_runs(alloc: Global)
     ensures { ThePairsOfCallsAreOfMeantRuns }
 {
     pairs_are_of_meant_runs(alloc);
+}
+
+/// So are the suspicious lines.
+pub fn lines_of_calls_are_of_meant_runs(alloc: Global)
+    ensures { TheLinesOfCallsAreOfMeantRuns }
+{
+    lines_are_of_meant_runs(alloc);
+}
+
+/// So are the bugs.
+pub fn bugs_of_calls_are_of_meant_runs(alloc: Global)
+    ensures { TheBugsOfCallsAreOfMeantRuns }
+{
+    bugs_are_of_meant_runs(alloc);
 }
 
 /// So is the ranking that a session puts out which adds the reports of such texts and then asks for it.

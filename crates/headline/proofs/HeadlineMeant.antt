@@ -1,4 +1,4 @@
--- From the reports of runs to what cards, pairs and sessions say of the runs as the text means them.
+-- From the reports of runs to what cards, pairs and suspicious lines say of the runs as the text means them.
 use Rattle.std.proofs.Common.{◌≡◌, ℕ, Bool, true, false, ◌&&◌, cond, List, [], ◌∷◌, map, ap, ap₂, subst, ◌∙◌, refl}
 use Rattle.std.specs.Prelude.{filter}
 use Rattle.cbi_base.specs.declared.outcome.Work.{Work}
@@ -18,6 +18,7 @@ use Rattle.affinity.specs.declared.dealing.Card.{Card}
 use Rattle.affinity.specs.Cards.{AreCards, IsCard, IsLeastOf, failing_true, is_failing_true}
 use Rattle.affinity.specs.Near.{AreNear}
 use Rattle.affinity.specs.Text.{AreCardsOf}
+use Rattle.suspicious_lines.specs.Text.{AreLinesOf}
 use Rattle.compiler.specs.Accepted.{IsAccepted}
 use Rattle.compiler.specs.Compiled.{IsCompiled}
 use Rattle.compiler.specs.declared.plan.Plan.{Plan}
@@ -28,13 +29,13 @@ use Rattle.headline.proofs.Chaining.{OneProgram}
 use Rattle.headline.proofs.Ranking.{run-means, runs-mean, table-means}
 
 -- what a card sees of two lists of reports is the same
-abbrev AreSeenAlike : List Report → List Report → Type 0
+abbrev pub AreSeenAlike : List Report → List Report → Type 0
 AreSeenAlike [] [] = Unit {0}
 AreSeenAlike [] (y ∷ ys) = ⊥
 AreSeenAlike (x ∷ xs) [] = ⊥
 AreSeenAlike (x ∷ xs) (y ∷ ys) = (x.run ≡ y.run) × (run_of_report x ≡ run_of_report y) × AreSeenAlike xs ys
 
-seen-runs : (xs ys : List Report) → AreSeenAlike xs ys → runs_of xs ≡ runs_of ys
+pub seen-runs : (xs ys : List Report) → AreSeenAlike xs ys → runs_of xs ≡ runs_of ys
 seen-runs [] [] alike = refl
 seen-runs [] (y ∷ ys) alike = absurd alike
 seen-runs (x ∷ xs) [] alike = absurd alike
@@ -48,7 +49,7 @@ module _ (branches : List Bool) (p : ℕ) where
   failing-by true x y xs ys same rest = ap₂ (λ (n : ℕ) ns. n ∷ ns) same rest
   failing-by false x y xs ys same rest = rest
 
-  seen-failing : (xs ys : List Report) → AreSeenAlike xs ys → failing_true branches xs p ≡ failing_true branches ys p
+  pub seen-failing : (xs ys : List Report) → AreSeenAlike xs ys → failing_true branches xs p ≡ failing_true branches ys p
   seen-failing [] [] alike = refl
   seen-failing [] (y ∷ ys) alike = absurd alike
   seen-failing (x ∷ xs) [] alike = absurd alike
@@ -84,7 +85,7 @@ dealt-alike table xs ys text alike are = record {
 
 module _ (one_ending : OneEnding) (one_program : OneProgram) (one_tree : OneTree) (one_known : OneKnown) (text file : List ℕ) (by : Plan) (p : ProgramParts) (compiled : IsCompiled text by p) (spells : SpellsProgram file p)
     (tree : SourceTree) (known : Walk) (accepted : IsAccepted text tree known) where
-  reports-seen : (work : Work) (made : List Made) (reports : List Report) → AreReportsOf file made reports → AreSeenAlike reports (map (meant_report tree known by file work) made)
+  pub reports-seen : (work : Work) (made : List Made) (reports : List Report) → AreReportsOf file made reports → AreSeenAlike reports (map (meant_report tree known by file work) made)
   reports-seen work [] [] are = tt
   reports-seen work [] (r ∷ reports) are = absurd are
   reports-seen work (one ∷ made) [] are = absurd are
@@ -105,3 +106,9 @@ module _ (one_ending : OneEnding) (one_program : OneProgram) (one_tree : OneTree
   pairs-meaning made reports q pairs also are paired =
       subst (λ t. IsPairOf t (map (meant_run tree known by) made) pairs) (table-means one_ending one_program one_tree one_known text file by p compiled spells tree known accepted q also)
       (subst (λ runs. IsPairOf (table_of q) runs pairs) (runs-mean one_ending one_program one_tree one_known text file by p compiled spells tree known accepted made reports are) paired)
+
+  pub lines-meaning : (made : List Made) (reports : List Report) (q : ProgramParts) (most apart : ℕ) (lines : List ℕ) → SpellsProgram file q → AreReportsOf file made reports
+      → AreLinesOf (table_of q) (runs_of reports) most apart lines → AreLinesOf (meant_table tree known by) (map (meant_run tree known by) made) most apart lines
+  lines-meaning made reports q most apart lines also are listed =
+      subst (λ t. AreLinesOf t (map (meant_run tree known by) made) most apart lines) (table-means one_ending one_program one_tree one_known text file by p compiled spells tree known accepted q also)
+      (subst (λ runs. AreLinesOf (table_of q) runs most apart lines) (runs-mean one_ending one_program one_tree one_known text file by p compiled spells tree known accepted made reports are) listed)

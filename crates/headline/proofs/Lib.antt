@@ -3,6 +3,7 @@ pub mod CallReports
 pub mod Chaining
 pub mod Farming
 pub mod Firsts
+pub mod HeadlineBugs
 pub mod HeadlineEdits
 pub mod HeadlineMeant
 pub mod HeadlineRuns

@@ -15,6 +15,8 @@ use Rattle.affinity.specs.Text.{AreCardsOf}
 use Rattle.compound.specs.declared.chosen.PairResult.{PairResult}
 use Rattle.compound.specs.Found.{IsFound}
 use Rattle.compound.specs.Text.{pairs_text}
+use Rattle.suspicious_lines.specs.Text.{AreLinesOf}
+use Rattle.bug_rounds.specs.Text.{AreBugsOf}
 use Rattle.session_edits.specs.declared.edit.Edit.{Edit}
 use Rattle.session_edits.specs.declared.edit.Edit.TheVariants.{Add, Rank}
 use Rattle.session_edits.specs.Spelling.{SpellsEdits}
@@ -28,6 +30,10 @@ use Rattle.cbi_options.specs.declared.words.CardsWords.{CardsWords}
 use Rattle.command_cards.specs.Cards.{IsDealt}
 use Rattle.cbi_options.specs.declared.words.PairsWords.{PairsWords}
 use Rattle.command_pairs.specs.Pairs.{IsPaired}
+use Rattle.cbi_options.specs.declared.words.LinesWords.{LinesWords}
+use Rattle.command_lines.specs.Lines.{AreLinesListed}
+use Rattle.cbi_options.specs.declared.words.BugsWords.{BugsWords}
+use Rattle.command_bugs.specs.Bugs.{AreBugsListed}
 use Rattle.cbi_options.specs.declared.words.SessionWords.{SessionWords}
 use Rattle.command_session.specs.Session.{IsReplayed, id_of}
 use Rattle.headline.specs.Chain.{AreReportsOf, Made, meant_report, meant_run, meant_table}
@@ -69,6 +75,22 @@ PairsAreOfMeantRuns =
     (tree : SourceTree) (known : Walk) → IsFileOf words text file → IsAccepted text tree known → IsCollectionOf file made collection →
     (paired : IsPaired held w pairs) → paired.texts.program ≡ file → paired.texts.collection ≡ collection →
     IsPairOf (meant_table tree known (plan_of words)) (map (meant_run tree known (plan_of words)) (by_number made)) pairs
+
+-- What `lines` writes of such a collection are the suspicious lines of these runs as the text means them.
+abbrev pub LinesAreOfMeantRuns : Type 0
+LinesAreOfMeantRuns =
+    (words : TransformWords) (text file collection lines : List ℕ) (made : List Made) (held : Option Held) (w : LinesWords)
+    (tree : SourceTree) (known : Walk) → IsFileOf words text file → IsAccepted text tree known → IsCollectionOf file made collection →
+    (listed : AreLinesListed held w lines) → listed.texts.program ≡ file → listed.texts.collection ≡ collection →
+    AreLinesOf (meant_table tree known (plan_of words)) (map (meant_run tree known (plan_of words)) (by_number made)) w.most w.apart lines
+
+-- What `bugs` writes of such a collection are the bugs of these runs as the text means them. No bug depends on a run's work.
+abbrev pub BugsAreOfMeantRuns : Type 0
+BugsAreOfMeantRuns =
+    (words : TransformWords) (text file collection bugs : List ℕ) (made : List Made) (held : Option Held) (w : BugsWords) (work : Work)
+    (tree : SourceTree) (known : Walk) → IsFileOf words text file → IsAccepted text tree known → IsCollectionOf file made collection →
+    (listed : AreBugsListed held w bugs) → listed.texts.program ≡ file → listed.texts.collection ≡ collection →
+    AreBugsOf (meant_table tree known (plan_of words)) (map (meant_report tree known (plan_of words) file work) (by_number made)) w.most w.also bugs
 
 -- these reports are added, one after another, and then one ranking is asked for
 abbrev pub adds_and_ranks : List Report → List Edit

@@ -2,8 +2,10 @@
 ghost use Rattle.headline.specs.Headline.{
   ASessionIsTheHeadline,
   ASessionOfACollectionIsTheHeadline,
+  BugsAreOfMeantRuns,
   CardsAreOfMeantRuns,
   CollectionsHoldTheirRuns,
+  LinesAreOfMeantRuns,
   PairsAreOfMeantRuns,
   TheCommandsAreTheHeadline,
 };
@@ -50,6 +52,26 @@ pub fn cards_are_of_meant_runs(alloc: Global)
 /// The best pair of a collection is that of its runs as the text means them.
 pub fn pairs_are_of_meant_runs(alloc: Global)
     ensures { PairsAreOfMeantRuns }
+{
+    collections_hold_their_runs(alloc);
+    one_program(alloc);
+    one_ending();
+    one_accepted_text();
+}
+
+/// The suspicious lines of a collection are those of its runs as the text means them.
+pub fn lines_are_of_meant_runs(alloc: Global)
+    ensures { LinesAreOfMeantRuns }
+{
+    collections_hold_their_runs(alloc);
+    one_program(alloc);
+    one_ending();
+    one_accepted_text();
+}
+
+/// The bugs of a collection are those of its runs as the text means them.
+pub fn bugs_are_of_meant_runs(alloc: Global)
+    ensures { BugsAreOfMeantRuns }
 {
     collections_hold_their_runs(alloc);
     one_program(alloc);

@@ -12,8 +12,9 @@ mod unrefused;
 
 pub use farm::a_farm_is_the_elimination;
 pub use headline::{
-    a_session_is_the_headline, cards_are_of_meant_runs, collections_hold_their_runs,
-    pairs_are_of_meant_runs, the_commands_are_the_headline,
+    a_session_is_the_headline, bugs_are_of_meant_runs, cards_are_of_meant_runs,
+    collections_hold_their_runs, lines_are_of_meant_runs, pairs_are_of_meant_runs,
+    the_commands_are_the_headline,
 };
 pub use laws::{
     a_ranking_of_runs_is_the_elimination, a_study_is_its_chain,
