@@ -1,5 +1,5 @@
-//! Program files, banks, lists of names, reports and collections as they are read, written and grown, the numbers of rankings, eliminations, cards and
-//! suspicious lines, as the rows of files ask for them.
+//! Program files, banks, lists of names, reports and collections as they are read, written and grown, the numbers of rankings, eliminations, cards,
+//! suspicious lines and bugs, as the rows of files ask for them.
 #![tactic(auto)]
 
 mod bytes;
