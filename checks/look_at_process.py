@@ -7,6 +7,7 @@ import sys
 import unittest
 
 sys.dont_write_bytecode = True
+import look_at_process_bugs  # noqa: E402
 import look_at_process_collections  # noqa: E402
 import look_at_process_files  # noqa: E402
 import look_at_process_lists  # noqa: E402
@@ -19,6 +20,7 @@ from look_at_process_base import HAS_FULL, Looks  # noqa: E402
 MODULES = (
     look_at_process_files,
     look_at_process_collections,
+    look_at_process_bugs,
     look_at_process_texts,
     look_at_process_samples,
     look_at_process_studies,

@@ -1,4 +1,4 @@
-"""Looks at collections of reports, and at what is made of them: rankings, pairs, cards, sessions, and a part's collection widened."""
+"""Looks at collections of reports, and at what is made of them: rankings, pairs, lines, bugs, cards, sessions, and a part's collection widened."""
 from look_at_process_base import EDITS, HEADER, THREE, Ended, Process
 
 
@@ -58,6 +58,18 @@ class Findings(Process):
 
     def test_a_program_without_predicates_has_no_pairs(self) -> None:
         self.look(self.call("pairs", "first", "runs"), 0, "pairs 0 counted 0 skipped 0\nbest none\n", "")
+
+    def test_runs_that_all_pass_have_no_lines_and_no_bugs(self) -> None:
+        self.look(self.call("lines", "first", "runs"), 0, "lines 0 2 0\nend\n", "")
+        self.look(self.call("bugs", "first", "runs"), 0, "bugs 0 2\nrest 0\nend\n", "")
+
+    def test_a_file_that_is_no_collection_has_no_lines_and_no_bugs(self) -> None:
+        for command in ("lines", "bugs"):
+            self.look(self.call(command, "first", "first"), 5, "", "cbi: refusal 27 BadCollection file 1 line 1\n", f"{command}: a program")
+            due = f"cbi: refusal 23 Foreign ours {self.identity('upper')} theirs {self.identity('first')}\n"
+            self.look(self.call(command, "upper", "runs"), 5, "", due, f"{command}: a collection of another program")
+            self.write("strange", self.read("runs").replace(b"end\n", b"site 7 1 0 0\nend\n"))
+            self.look(self.call(command, "first", "strange"), 5, "", "cbi: refusal 29 NoSite run 5 site 7\n", f"{command}: a site that isn't there")
 
     def test_cards_without_leaders_are_their_end(self) -> None:
         self.look(self.call("cards", "first", "runs"), 0, "end\n", "")

@@ -1,7 +1,7 @@
 """Looks at words, at files that are missing or damaged, and at runs of program files."""
 from look_at_process_base import NONE, SIX, THREE, Process
 
-COMMANDS = ("transform", "run", "bank", "collect", "runs", "rank", "pairs", "cards", "session", "widen", "study")
+COMMANDS = ("transform", "run", "bank", "collect", "runs", "rank", "pairs", "lines", "bugs", "cards", "session", "widen", "study")
 
 
 class Words(Process):
@@ -29,6 +29,21 @@ class Words(Process):
     def test_a_policy_that_is_none_is_told_with_its_option(self) -> None:
         self.collect_two()
         self.look(self.call("rank", "--policy", "some", "first", "runs"), 2, "", "cbi: bad value of --policy\n")
+
+    def test_a_number_of_lines_or_bugs_out_of_bounds_is_told_with_its_option(self) -> None:
+        self.collect_two()
+        for command, option, *numbers in (
+            ("lines", "--most", "0", "1001"), ("lines", "--apart", "101", "-1"), ("bugs", "--most", "0", "1001"), ("bugs", "--also", "0", "101"),
+        ):
+            for number in numbers:
+                self.look(self.call(command, f"{option}={number}", "first", "runs"), 2, "", f"cbi: bad value of {option}\n", f"{command} {option}={number}")
+
+    def test_numbers_of_lines_and_bugs_at_their_bounds_are_taken(self) -> None:
+        self.collect_two()
+        for words in (("--most", "1", "--apart", "0"), ("--most", "1000", "--apart", "100")):
+            self.look(self.call("lines", *words, "first", "runs"), 0, "lines 0 2 0\nend\n", "", " ".join(words))
+        for words in (("--most", "1", "--also", "1"), ("--most", "1000", "--also", "100")):
+            self.look(self.call("bugs", *words, "first", "runs"), 0, "bugs 0 2\nrest 0\nend\n", "", " ".join(words))
 
     def test_a_study_of_no_runs_is_told_with_its_option(self) -> None:
         self.write("six.c", SIX)
@@ -64,7 +79,8 @@ class Missing(Process):
         self.look_missing("missing", "collect", "--program", "first", "missing", "other")
 
     def test_the_program_is_read_before_the_collection(self) -> None:
-        self.look_missing("missing", "rank", "missing", "other")
+        for command in ("rank", "lines", "bugs"):
+            self.look_missing("missing", command, "missing", "other")
 
     def test_a_folder_in_place_of_a_file_is_a_read_fault(self) -> None:
         self.look_missing(".", "run", ".")

@@ -48,6 +48,12 @@ class Streams(Process):
     def test_pairs_are_found_without_an_err_and_not_without_an_out(self) -> None:
         self.look_both("pairs", "first", "runs")
 
+    def test_lines_are_listed_without_an_err_and_not_without_an_out(self) -> None:
+        self.look_both("lines", "first", "runs")
+
+    def test_bugs_are_listed_without_an_err_and_not_without_an_out(self) -> None:
+        self.look_both("bugs", "first", "runs")
+
     def test_cards_are_dealt_without_an_err_and_not_without_an_out(self) -> None:
         self.look_both("cards", "first", "runs")
 

@@ -5,6 +5,7 @@ ghost use Rattle.report_file.specs.Report.{IsReport};
 
 use crate::card_rows::tell_cards;
 use crate::finding::program;
+use crate::line_rows::tell_lines;
 use crate::session_rows::tell_session;
 use cases_rows::{Page, expect, expect_rest, has_head};
 use cbi_base::{Policy, ProgramId};
@@ -222,6 +223,7 @@ fn tell_collection(row: &str, table: &SiteTable, collection: &Collection, told: 
         tell_ranking(row, table, collection, (policy, ranking), told);
     }
     tell_cards(row, table, collection, told);
+    tell_lines(row, table, collection, told);
     several
 }
 

@@ -25,10 +25,11 @@ use program_file::read_program;
 ///   the next run, another label, a run that is taken away; what that gives, how many reports are held, and what is written.
 /// - `ranks`: under each policy the predicates that the elimination of the text's runs lists, as the reference does; how many runs are left behind the last,
 ///   and the four numbers that are kept of predicate 0; and the ranking; and the cards, with those near each predicate as the reference has them;
-///   and of a session that takes these runs its leader with its numbers, and the numbers of predicate 0.
+///   and the suspicious lines, ten at most and more than three lines apart, and the bugs, ten at most with three places each at most; and of a session that
+///   takes these runs its leader with its numbers, and the numbers of predicate 0.
 /// - `throws SEED COUNT`: so many collections of thrown runs, under each policy and near each predicate as the reference; so many eliminations at
 ///   least list several leaders.
-const FORM: [Head; 46] = [
+const FORM: [Head; 48] = [
     ("program is ", Rest::Some, Place::Given),
     ("program each ", Rest::Named, Place::Given),
     ("program end", Rest::Way, Place::Given),
@@ -72,6 +73,8 @@ const FORM: [Head; 46] = [
     ("left ", Rest::Some, Place::Any),
     ("ranking ", Rest::Named, Place::Any),
     ("cards", Rest::Way, Place::Any),
+    ("suspicious lines", Rest::Way, Place::Any),
+    ("bugs", Rest::Way, Place::Any),
     ("session ", Rest::Some, Place::Any),
     ("throws ", Rest::Numbers, Place::Given),
     ("several from ", Rest::Number, Place::Any),
@@ -83,7 +86,7 @@ const KINDS: [&str; 8] = [
 ];
 
 /// What must come.
-const DUE: [&str; 16] = [
+const DUE: [&str; 18] = [
     "bad ",
     "same",
     "writes",
@@ -98,6 +101,8 @@ const DUE: [&str; 16] = [
     "left ",
     "ranking ",
     "cards",
+    "suspicious lines",
+    "bugs",
     "session ",
     "several from ",
 ];
