@@ -4,6 +4,7 @@ use Rattle.std.proofs.Common.{Option, Some, None, Bool, true, false}
 use Rattle.std.specs.Prelude.{is_some, slice_get, if◌then◌else◌}
 use Rattle.std.proofs.lemmas.Bool.{cases_lt, false≢true}
 use Rattle.std.proofs.lemmas.List.{append-nil}
+use Rattle.std.proofs.lemmas.Option.{same_Some}
 use Rattle.base_lists.proofs.Numbers.{same_number}
 use Rattle.c_syntax.specs.declared.parts.Param.{Param}
 use Rattle.c_syntax.specs.ExprTree as e
@@ -17,7 +18,7 @@ use Rattle.c_types_rules.specs.TypeTree.{TypeTree}
 use Rattle.c_types.specs.Answers.{type_at}
 use Rattle.c_types_expressions.specs.declared.walk.Walk.{Walk}
 use Rattle.c_types_walk.specs.ItemWalk.{listed_params}
-use Rattle.c_meaning.specs.Words.{signature_of, token_of}
+use Rattle.c_meaning.specs.Words.{main_of, signature_of, token_of}
 use Rattle.c_types_faults.specs.Events.{Calls, Other, Event, Value, Initialises, Variable, Opens, Closes, Struct, Names as Naming, Defines}
 use Rattle.c_types_faults.specs.Events.{construct_at, declaration_events, entries_events, events_of, expr_events, exprs_events, for_start_events, initial_events}
 use Rattle.c_types_faults.specs.Events.{item_events, items_events, links_events, optional_events, params_events, postfix_events, scope_events, start_events}
@@ -315,11 +316,13 @@ module _ (w v : Walk) where
   type_same token (Defines ∷ es) h g = type_same token es h g
 
 pub forced : (t : SourceTree) (w v : Walk) (a b : List Typed) → TextTyped w t a → TextTyped v t b → AreAlike t w v a b
-forced t w v a b (c, h) (d, g) =
+forced t w v a b (c, h, globals, main) (d, g, as_many, same_main) =
     let r = items_forced w v 0 t.items empty_context c d a b h.0 g.0 in
     let structs : w.structs ≡ v.structs = h.1 ∙ ap (λ (y : Context). y.structs) r.0 ∙ sym g.1 in (
       r.1.0,
       structs,
+      globals ∙ sym as_many,
+      same_Some (main_of w) (main_of v) (sym main ∙ same_main),
       λ token k. type_same w v token (events_of t) k r.1.1.0,
       λ number less. r.1.1.1 structs number (omega arith) (omega (arith, less)),
     )

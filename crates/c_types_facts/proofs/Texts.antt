@@ -1,5 +1,5 @@
 -- A text as a whole: what is noted of it is what its declarations say.
-use Rattle.std.proofs.Common.{◌≡◌, ℕ, zero, suc, ◌-◌, refl, ap, subst, sym, ◌∙◌, arith, List, [], ◌∷◌, length, map, replicate, Option, Some, None, false}
+use Rattle.std.proofs.Common.{◌≡◌, ℕ, zero, suc, ◌+◌, ◌-◌, refl, ap, subst, sym, ◌∙◌, arith, List, [], ◌∷◌, length, map, replicate, Option, Some, None, true, false}
 use Rattle.std.specs.Prelude.{is_some, option_and_then, option_map, slice_get}
 use Rattle.std.proofs.lemmas.List.{length-replicate}
 use Rattle.c_types_expressions.proofs.Giving.{Gives as GivesIn}
@@ -9,6 +9,9 @@ use Rattle.c_types_rules.specs.declared.fault.FaultKind.{FaultKind}
 use Rattle.c_types_rules.specs.TypeTree.{TypeTree}
 use Rattle.c_types.specs.Answers.{declared_at, place_at, variable_at, variable_of}
 use Rattle.c_types.specs.Fault.{ends_with, last_fault, walk_tree}
+use Rattle.c_types.specs.Parts.{Part, Expression, Use, Declared, Begins, parts_of}
+use Rattle.c_types.proofs.Noted.{Seen, noting, noting_all, plainly, seen}
+use Rattle.c_types.proofs.NotedItems.{text_notes}
 use Rattle.c_types_expressions.specs.declared.walk.Walk.{Walk}
 use Rattle.c_types_expressions.specs.Words.{empty_walk, Walked, Fine, Done}
 use Rattle.c_types_faults.specs.Events.{events_of}
@@ -19,9 +22,10 @@ use Rattle.c_types_faults.proofs.NotedTexts.{before, text_left}
 use Rattle.c_types_faults.specs.Context.{Context, empty_context}
 use Rattle.c_types_faults.proofs.Files.{Files}
 use Rattle.c_types_faults.proofs.Telling.{shown}
+use Rattle.c_types_faults.proofs.Mains.{begins_in_main}
 use Rattle.c_types_faults.proofs.Texts.{begins}
 use Rattle.c_types_facts.specs.Statements.{Typed}
-use Rattle.c_types_facts.specs.Texts.{ItemsTyped, TextTyped, type_in, typed_token, typed_type}
+use Rattle.c_types_facts.specs.Texts.{ItemsTyped, TextTyped, globals_in, type_in, typed_token, typed_type}
 use Rattle.c_types_facts.proofs.Filing.{Filed, follows_here}
 use Rattle.c_types_facts.proofs.Items.{items_log}
 use Rattle.c_types_facts.proofs.Logs.{Says, log_stands}
@@ -41,6 +45,23 @@ text_logs t = and_then (items_log t.items 0 empty_context (empty_walk (length t.
 given : {A : Type 0} {Q : A → Walk → Type 0} {m : Walked A} {a : A} {v : Walk} → Gives m Q → m ≡ Fine a v → Q a v
 given {Q = Q} h e = subst (GivesIn Q) e h.by
 
+-- the globals are counted
+
+counted_behind : (ps : List Part) (s : Seen) → (noting_all ps s).globals ≡ globals_in ps + s.globals
+counted_behind [] s = omega arith
+counted_behind (Expression token ∷ ps) s = counted_behind ps (noting (Expression token) s)
+counted_behind (Use token ∷ ps) s = counted_behind ps (noting (Use token) s)
+counted_behind (Declared true token name ∷ ps) s = omega (arith, counted_behind ps (noting (Declared true token name) s))
+counted_behind (Declared false token name ∷ ps) s = counted_behind ps (noting (Declared false token name) s)
+counted_behind (Begins ∷ ps) s = counted_behind ps (noting Begins s)
+
+globals_counted : (t : SourceTree) (known : Walk) → walk_tree t ≡ Fine tt known → known.globals ≡ globals_in (parts_of t)
+globals_counted t known e = omega (
+  arith,
+  ap (λ (s : Seen). s.globals) (text_notes t known e).0,
+  counted_behind (parts_of t) (plainly (seen (empty_walk (length t.lines)))),
+)
+
 -- of all variables, in their order, the tokens of their names and their types
 pub record Whole (t : SourceTree) (known : Walk) : Type 0 where
   pub own : List Typed
@@ -58,7 +79,12 @@ whole t known shaped e =
     (λ k h. omega (arith, (l.within k h).1, length-replicate {A = Option TypeTree} (length t.lines) None))) in
     record {
       own = f.own;
-      typed = (told.0, (f.holds known says (follows_here known), sym told.1.0.knows.structs));
+      typed = (
+        told.0,
+        (f.holds known says (follows_here known), sym told.1.0.knows.structs),
+        globals_counted t known e,
+        begins_in_main t known shaped e,
+      );
       types = f.declared;
       starts = f.starts;
     }

@@ -1,5 +1,5 @@
 -- What is noted of a text is what its declarations say: the types of its expressions and variables, and the signatures of its functions (C99 6.7, 6.9).
-use Rattle.std.specs.Prelude.{◌≡◌, ℕ, ◌+◌, true, List, [], ◌∷◌, ◌++◌, length, map, Option, Some, None, option_and_then, option_map, slice_get, is_some, ◌<◌}
+use Rattle.std.specs.Prelude.{◌≡◌, ℕ, ◌+◌, true, List, [], ◌∷◌, ◌++◌, length, map, Option, Some, None, option_and_then, option_map, slice_get, is_some, ◌<◌, codes}
 use Rattle.c_syntax.specs.declared.parts.Param.{Param}
 use Rattle.c_syntax.specs.declared.parts.ParamName.{ParamName}
 use Rattle.c_syntax.specs.Words.{EntryList, ItemTree, SourceTree}
@@ -9,9 +9,11 @@ use Rattle.c_types_rules.specs.declared.layout.StructType.{StructType}
 use Rattle.c_types_rules.specs.Words.{cells_of, TypeTree}
 use Rattle.c_types_expressions.specs.declared.walk.Walk.{Walk}
 use Rattle.c_types_walk.specs.ItemWalk.{listed_params}
-use Rattle.c_meaning.specs.Words.{Signature, computed_type, signature_of}
+use Rattle.c_meaning.specs.Words.{Signature, computed_type, main_of, signature_of}
 use Rattle.sites.specs.Table.{defined_by, functions_of}
 use Rattle.c_types.specs.Answers.{type_at}
+use Rattle.c_types.specs.Parts.{Part, Declared, parts_of}
+use Rattle.c_types_faults.specs.NotedCalls.{name_number}
 use Rattle.c_types_faults.specs.Events.{construct_at, events_of}
 use Rattle.c_types_faults.specs.Context.{Context, empty_context, inner_context}
 use Rattle.c_types_faults.specs.Functions.{Formal, FunctionGives, Names, PrototypeGives, with_formals}
@@ -61,16 +63,29 @@ module _ (w : Walk) where
   ItemsTyped number c (x ∷ xs) after own = (next : Context) × ((a : List Typed) × ((b : List Typed) × (ItemTyped number c x next a
       × (ItemsTyped (number + length (defined_by x)) next xs after b × (own ≡ a ++ b)))))
 
--- Behind `empty_context` the items declare these variables, the types noted are those of the declarations, and the structs are those that are defined.
+-- how many variables these parts declare at file scope
+abbrev pub globals_in : List Part → ℕ
+globals_in [] = 0
+globals_in (Declared true token name ∷ parts) = 1 + globals_in parts
+globals_in (part ∷ parts) = globals_in parts
+
+-- a run begins in the function named `main` (5.1.2.2.1): it has the number of that definition
+abbrev pub BeginsInMain : Walk → SourceTree → Type 0
+BeginsInMain w t = name_number (codes "main") 0 (functions_of t) ≡ Some (main_of w)
+
+-- Behind `empty_context` the items declare these variables, the types noted are those of the declarations, the structs are those that are defined, the
+-- globals are as many as stand at file scope, and a run begins in `main`.
 abbrev pub TextTyped : Walk → SourceTree → List Typed → Type 0
-TextTyped w t own = (c : Context) × (ItemsTyped w 0 empty_context t.items c own × (w.structs ≡ c.structs))
+TextTyped w t own = (c : Context) × (ItemsTyped w 0 empty_context t.items c own × (w.structs ≡ c.structs)) × (w.globals ≡ globals_in (parts_of t))
+    × BeginsInMain w t
 
 -- the type of the variable at the place, if there is one
 abbrev pub type_in : List Typed → Option ℕ → Option TypeTree
 type_in own place = option_and_then (λ p. option_map typed_type (slice_get own p)) place
 
--- Two notes agree: on the variables, the structs, the types of expressions, and the signatures of the functions that are defined.
+-- Two notes agree: on the variables, the structs, the number of globals, the function that a run begins in, the types of expressions, and the signatures
+-- of the functions that are defined.
 abbrev pub AreAlike : SourceTree → Walk → Walk → List Typed → List Typed → Type 0
-AreAlike t w v a b = (a ≡ b) × (w.structs ≡ v.structs)
+AreAlike t w v a b = (a ≡ b) × (w.structs ≡ v.structs) × (w.globals ≡ v.globals) × (main_of w ≡ main_of v)
     × ((token : ℕ) → is_some (construct_at token (events_of t)) ≡ true → type_at w token ≡ type_at v token)
     × ((number : ℕ) → number < length (functions_of t) → signature_of w (slice_get w.definitions number) ≡ signature_of v (slice_get v.definitions number))

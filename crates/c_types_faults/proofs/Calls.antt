@@ -99,7 +99,7 @@ module _ (s : SourceTree) (z : Walk) (shaped : IsShaped s) (w : walk_tree s ≡ 
   as_defined number place h = slice_get-map function_of z.definitions number ∙ (functions_numbered s z w place number).0 h
 
   -- a declared function has the number of its name
-  number_at : (name : List ℕ) (index : ℕ) → slice_get (view z).functions index ≡ Some name
+  pub number_at : (name : List ℕ) (index : ℕ) → slice_get (view z).functions index ≡ Some name
       → note_at z.defined_as index ≡ name_number name 0 (functions_of s)
   number_at name index h = by (name_number name 0 (functions_of s)) refl
     where

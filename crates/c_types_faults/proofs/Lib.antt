@@ -43,3 +43,4 @@ pub mod Calls
 pub mod Scopes
 pub mod Types
 mod Examples
+pub mod Mains

@@ -155,6 +155,7 @@ pub record Ends (t : SourceTree) (w : Walk) : Type 0 where
   pub has : DefinesMain t after
   pub files : Files after (shown w)
   pub defined : first_undefined 0 w.functions_at w.defined_as ≡ None
+  pub main : has_main w ≡ true
   pub does : ItemsDo t.items (before t) (view w)
 
 module _ (t : SourceTree) (c : Context) (w : Walk) (k : Files c (shown w)) (n : Notes (events_of t) (empty_walk (length t.lines)) w)
@@ -187,15 +188,15 @@ module _ (t : SourceTree) (c : Context) (w : Walk) (k : Files c (shown w)) (n : 
   none_before token g e s earlier less u = false≢true (sym u.1.2 ∙ sym (defined_as_listed t.items c g u.0)
       ∙ defined_before t w s does c k token e earlier u.0 less u.1.0 u.1.1)
 
-  undefined_tells : (o : Option ℕ) → first_undefined 0 w.functions_at w.defined_as ≡ o → ItemsGive empty_context t.items c → DefinesMain t c
-      → Tells (ends_with (undefined_at o) w) (λ (d : Done) v. Ends t v) (TextBreaks t)
-  undefined_tells None e g m = record { by = record { after = c; gives = g; has = m; files = k; defined = e; does = does } }
-  undefined_tells (Some token) e g m = record { by = inr (c, (g, inr (m, (refl, (calls_undefined token g e, none_before token g e))))) }
+  undefined_tells : (o : Option ℕ) → first_undefined 0 w.functions_at w.defined_as ≡ o → has_main w ≡ true → ItemsGive empty_context t.items c
+      → DefinesMain t c → Tells (ends_with (undefined_at o) w) (λ (d : Done) v. Ends t v) (TextBreaks t)
+  undefined_tells None e h g m = record { by = record { after = c; gives = g; has = m; files = k; defined = e; main = h; does = does } }
+  undefined_tells (Some token) e h g m = record { by = inr (c, (g, inr (m, (refl, (calls_undefined token g e, none_before token g e))))) }
 
   main_tells : (b : Bool) → has_main w ≡ b → ItemsGive empty_context t.items c
       → Tells (ends_with (if b then undefined_at (first_undefined 0 w.functions_at w.defined_as) else Some (fault.NoMain, length t.lines)) w)
       (λ (d : Done) v. Ends t v) (TextBreaks t)
-  main_tells true e g = undefined_tells (first_undefined 0 w.functions_at w.defined_as) refl g (main_of t c g (has_its_main c w k e))
+  main_tells true e g = undefined_tells (first_undefined 0 w.functions_at w.defined_as) refl e g (main_of t c g (has_its_main c w k e))
   main_tells false e g = record { by = inr (c, (g, inl (refl, refl, λ m. no_main c w k e (m.0, defined_as_listed t.items c g (codes "main") ∙ m.1)))) }
 
 text_tells : (t : SourceTree) → Tells (walk_tree t) (λ (d : Done) v. Ends t v) (TextBreaks t)
@@ -230,3 +231,6 @@ accepted_text t known s h =
         λ token name q f. sym (defined_as_listed t.items r.after r.gives name) ∙ calls_defined t known s r.does r.after r.files r.defined token name q f,
       ),
     )
+
+pub accepted_main : (t : SourceTree) (known : Walk) → walk_tree t ≡ Fine tt known → has_main known ≡ true
+accepted_main t known h = let r : Ends t known = told_fine (text_tells t) h in r.main

@@ -4,3 +4,6 @@ pub mod Told
 mod Constructs
 mod Leaving
 mod Ordered
+mod Calm
+mod Plain
+mod Branches

@@ -1,3 +1,4 @@
 pub mod Partners
 pub mod Told
 pub mod Constructs
+pub mod Words

@@ -1,6 +1,6 @@
 ghost use Rattle.std.specs.Prelude.{◌≡◌, ℕ, ℤ, ◌+◌, true, List, ◌++◌, length, map};
 ghost use Rattle.std.specs.List.{AllByRecursion};
-ghost use Rattle.c_syntax.specs.Words.{ItemTree, SourceTree, ItemAt, item_kinds, IsShaped};
+ghost use Rattle.c_syntax.specs.Words.{ItemTree, SourceTree, ItemAt, item_kinds, IsShaped, ShapedItem};
 ghost use Rattle.c_types_rules.specs.TypeTree.{TypeTree};
 ghost use Rattle.c_types.specs.Fault.{walk_tree};
 ghost use Rattle.c_types_expressions.specs.Walked.{Fine};
@@ -13,6 +13,7 @@ ghost use Rattle.sites.specs.Standing.{item_spots};
 ghost use Rattle.sites_laws.specs.Constructs.{AreAll, AreMadeBy, SpotsRise, body_events, item_constructs, numbers_in, values_in};
 ghost use Rattle.sites_laws.specs.Partners.{partners_in};
 ghost use Rattle.sites_laws.specs.Told.{ItemTold};
+ghost use Rattle.sites_laws.specs.Words.{AreBranchesOf};
 
 /// In a tree of the grammar without a fault, a new value of a variable is compared, at the own token of an expression or the
 /// `=` of an initialiser, with each other variable of the type whose scope holds the token by the span of the part that
@@ -40,4 +41,10 @@ pub fn spots_are_those_of_constructs()
     ensures constants { (x : ItemTree) → values_in (item_spots x) ≡ numbers_in (item_constructs x) }
     ensures whole { (x : ItemTree) → AreAll (item_constructs x) (body_events x) }
     ensures rise { (x : ItemTree) (at : ℕ) → ItemAt at x → SpotsRise at (at + length (item_kinds x)) (item_spots x) }
+{}
+
+/// A function has as many branches of statements as its tokens have words for them: one at each `if`, one at each `do`, one at each
+/// `while` that isn't that of a `do`, and one at each `for` with a condition.
+pub fn branches_are_those_of_words()
+    ensures { (x : ItemTree) → ShapedItem x → AreBranchesOf (item_kinds x) (item_spots x) }
 {}

@@ -4,5 +4,6 @@
 mod laws;
 
 pub use laws::{
-    partners_are_in_scope, sites_are_where_the_tree_says, spots_are_those_of_constructs,
+    branches_are_those_of_words, partners_are_in_scope, sites_are_where_the_tree_says,
+    spots_are_those_of_constructs,
 };
