@@ -46,11 +46,14 @@ class Manual(Case):
         return set(self.call("bash", "-c", script)[0].split())
 
     def test_bash_offers_what_fits(self):
-        self.assertEqual(self.completed("cbi", ""), {"transform", "run", "bank", "collect", "runs", "rank", "pairs", "cards", "session", "widen", "study"})
+        self.assertEqual(self.completed("cbi", ""), {"transform", "run", "bank", "collect", "runs", "rank", "pairs", "lines", "bugs", "cards", "session", "widen", "study"})
         self.assertEqual(self.completed("cbi", "transform", "--mode", ""), {"plain", "full", "sampled"})
         self.assertEqual(self.completed("cbi", "rank", "--p"), {"--policy"})
         self.assertEqual(self.completed("cbi", "session", "--p"), {"--program", "--policy"})
         self.assertEqual(self.completed("cbi", "widen", "--"), {"--whole", "--part"})
+        self.assertEqual(self.completed("cbi", "lines", "--"), {"--most", "--apart"})
+        self.assertEqual(self.completed("cbi", "bugs", "--"), {"--most", "--also"})
+        self.assertEqual(self.completed("cbi", "bugs", "--also", ""), set())
         self.assertEqual(self.completed("cbi", "runs", "--"), {"--inputs", "--expect", "--rate", "--seed", "--first", "--turns"})
         self.assertEqual(self.completed("cbi-show", "--format", "s"), {"sarif"})
         self.assertEqual(self.completed("cbi-port", "--memory", ""), {"auto", "cells", "bytes"})
@@ -60,6 +63,6 @@ class Manual(Case):
     def test_fish_offers_what_fits(self):
         if not shutil.which("fish"):
             self.skipTest("there is no fish here")
-        for line, due in (("cbi ru", {"run", "runs"}), ("cbi runs --f", {"--first"}), ("cbi transform --mode ", {"plain", "full", "sampled"}), ("cbi-hunt --hangs ", {"neither", "fail"}), ("cbi-show --format s", {"sarif"}), ("cbi-port --memory b", {"bytes"})):
+        for line, due in (("cbi ru", {"run", "runs"}), ("cbi runs --f", {"--first"}), ("cbi lines --a", {"--apart"}), ("cbi bugs --a", {"--also"}), ("cbi transform --mode ", {"plain", "full", "sampled"}), ("cbi-hunt --hangs ", {"neither", "fail"}), ("cbi-show --format s", {"sarif"}), ("cbi-port --memory b", {"bytes"})):
             out, _ = self.call("fish", "--no-config", "-c", f"source {TOOLS}/completions/cbi.fish; complete -C '{line}'")
             self.assertEqual({found.split("\t")[0] for found in out.split("\n") if found}, due, line)

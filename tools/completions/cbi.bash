@@ -21,7 +21,7 @@ _cbi_value() {
     --format) value='text html sarif quickfix' ;;
     --memory) value='auto cells bytes' ;;
     --rate) value='1 2 5 10 20 50 100 1000' ;;
-    --part | --parts | --turns | --run | --runs | --first | --count | --seed | --stream | --jobs | --oracle | --oracle-shell | --oracle-timeout | --mutate | --neighbours | --args | -D | -U) value=' ' ;;
+    --part | --parts | --turns | --run | --runs | --first | --count | --seed | --stream | --jobs | --oracle | --oracle-shell | --oracle-timeout | --mutate | --neighbours | --most | --apart | --also | --args | -D | -U) value=' ' ;;
     --bank | --input | --expect | --report | --program | --whole | --inputs | --keep | --hunt | --html | --farm | --cbi | --source | --lines | --cards | --pairs | --reports | --output | --sites | --tool | --since | -I | -include | -o) ;;
     *) return 1 ;;
     esac
@@ -41,7 +41,7 @@ _cbi_options() {
 
 _cbi() {
     if [ "$COMP_CWORD" -eq 1 ]; then
-        _cbi_offer 'transform run bank collect runs rank pairs cards session widen study'
+        _cbi_offer 'transform run bank collect runs rank pairs lines bugs cards session widen study'
         return
     fi
     case ${COMP_WORDS[1]} in
@@ -52,6 +52,8 @@ _cbi() {
     runs) _cbi_options '--inputs --expect --rate --seed --first --turns' ;;
     rank) _cbi_options '--policy' ;;
     pairs | cards) _cbi_options '' ;;
+    lines) _cbi_options '--most --apart' ;;
+    bugs) _cbi_options '--most --also' ;;
     session) _cbi_options '--program --policy' ;;
     widen) _cbi_options '--whole --part' ;;
     study) _cbi_options '--runs --seed --rate --turns --policy' ;;

@@ -9,7 +9,7 @@ function __cbi_first
     test (count (commandline -opc)) -eq 1
 end
 
-for command in transform run bank collect runs rank pairs cards session widen study
+for command in transform run bank collect runs rank pairs lines bugs cards session widen study
     complete -c cbi -n __cbi_first -f -a $command
 end
 complete -c cbi -n '__cbi_command transform' -l mode -x -a 'plain full sampled'
@@ -29,6 +29,9 @@ complete -c cbi -n '__cbi_command collect session' -l program -r
 complete -c cbi -n '__cbi_command runs' -l inputs -r
 complete -c cbi -n '__cbi_command runs' -l first -x
 complete -c cbi -n '__cbi_command rank session study' -l policy -x -a 'all failing relabel'
+complete -c cbi -n '__cbi_command lines bugs' -l most -x
+complete -c cbi -n '__cbi_command lines' -l apart -x
+complete -c cbi -n '__cbi_command bugs' -l also -x
 complete -c cbi -n '__cbi_command widen' -l whole -r
 complete -c cbi -n '__cbi_command study' -l runs -x
 
