@@ -1,10 +1,12 @@
 ghost use Rattle.std.specs.Prelude.{◌≡◌, true, Some, IfOk};
 ghost use Rattle.std.specs.List.{find, list_any};
+ghost use Rattle.bug_rounds.specs.Rounds.{is_own};
 ghost use Rattle.bug_rounds.specs.Live.{failing_numbers, is_own_number, others_among};
 
 use cbi_base::Memory;
 use collector::Collection;
 use elimination_tallies::{Numbers, fails, is_true, report_after};
+use report_file::Report;
 use std::alloc::Global;
 
 /// The numbers of the failing runs of a collection.
@@ -23,9 +25,15 @@ pub fn failing_numbers(alloc: Global, collection: &Collection) -> Result<Vec<u32
     Ok(live)
 }
 
-// Whether the report with this number is of a leader's own run: a failing one in which the leader was true. Of the numbers only the kinds of the sites are
-// looked at.
-fn is_own(collection: &Collection, numbers: &Numbers, leader: u32, run: u32) -> bool
+// Whether a report is of a leader's own run: a failing one in which the leader was true. Of the numbers only the kinds of the sites are looked at.
+fn is_own(numbers: &Numbers, leader: u32, report: &Report) -> bool
+    ensures { result ≡ is_own numbers.now.branches leader report.now }
+{
+    fails(report.label) && is_true(leader, numbers, report.entries.as_slice())
+}
+
+// Whether the report with this number is of a leader's own run.
+fn is_own_number(collection: &Collection, numbers: &Numbers, leader: u32, run: u32) -> bool
     requires { numbers.now.branches ≡ collection.now.branches }
     ensures { result ≡ is_own_number collection.now.branches collection.now.reports leader run }
 {
@@ -33,8 +41,10 @@ fn is_own(collection: &Collection, numbers: &Numbers, leader: u32, run: u32) -> 
     let Some(report) = report_after(collection, run.saturating_sub(1)) else {
         return false;
     };
-    let own = fails(report.label) && is_true(leader, numbers, report.entries.as_slice());
-    report.run == run && own
+    if report.run != run {
+        return false;
+    }
+    is_own(numbers, leader, report)
 }
 
 /// The number of the first of these runs that is a leader's own, where there is one.
@@ -44,7 +54,7 @@ pub fn first_own(collection: &Collection, numbers: &Numbers, leader: u32, live: 
     ensures { find (is_own_number collection.now.branches collection.now.reports leader) live.now ≡ Some result }
 {
     for run in live {
-        if is_own(collection, numbers, leader, *run) {
+        if is_own_number(collection, numbers, leader, *run) {
             return *run;
         }
     }
@@ -64,7 +74,7 @@ pub fn others(
 {
     let mut left = Vec::new(alloc);
     for run in live {
-        if !is_own(collection, numbers, leader, *run) {
+        if !is_own_number(collection, numbers, leader, *run) {
             left.push(*run)?;
         }
     }

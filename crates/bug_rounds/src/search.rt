@@ -1,6 +1,6 @@
-ghost use Rattle.std.specs.Prelude.{◌≡◌, ◌<◌, ◌≤◌, true, false, IfOk, IfNone, IfSome};
+ghost use Rattle.std.specs.Prelude.{◌≡◌, ◌<◌, ◌≤◌, [], true, false, IfOk, IfNone, IfSome};
 ghost use Rattle.collector.specs.Sites.{branches_of};
-ghost use Rattle.elimination_tallies.specs.Recount.{runs_of};
+ghost use Rattle.elimination_tallies.specs.Recount.{failing_runs, runs_of};
 ghost use Rattle.suspicious_lines.specs.Suspects.{successful_runs, suspects_of};
 ghost use Rattle.bug_rounds.specs.Search.{AreFound, IsNextBug, IsRoundDone, IsSearch, IsSearchStart};
 
@@ -109,6 +109,7 @@ fn round<L: Ledger>(
     ensures last { IfOk result (λ more. more ≡ false → (search.new ≡ search.old) × (suspects_of table.now search.old.eliminator.runs ≡ [])) }
     ensures done { IfOk result (λ more. more ≡ true → IsRoundDone table.now also collection.now.reports search.old search.new) }
 {
+    let _sites = table.sites();
     let Some(bug) = next_bug(alloc, collection, table, also, search)? else {
         return Ok(false);
     };
@@ -119,6 +120,18 @@ fn round<L: Ledger>(
     search.live = left;
     search.eliminator.step(leader, steps);
     Ok(true)
+}
+
+// What a search has found.
+fn found(search: Search) -> Found
+    ensures bugs { result.bugs ≡ search.bugs.items }
+    ensures rest { result.rest ≡ failing_runs search.eliminator.runs }
+{
+    let rest = search.eliminator.failing_left();
+    Found {
+        bugs: Seq::from_vec(search.bugs),
+        rest,
+    }
 }
 
 // At most so many rounds.
@@ -136,16 +149,13 @@ fn rounds<L: Ledger>(
     requires search { IsSearchStart table.now collection.now.reports search }
     ensures { IfOk result (AreFound table.now collection.now.reports most also) }
 {
-    let _held = collection.reports_held();
+    collection.keeps();
     for _round in 0..most {
         if !round(alloc, collection, table, also, &mut search, steps)? {
-            break;
+            return Ok(found(search));
         }
     }
-    Ok(Found {
-        bugs: Seq::from_vec(search.bugs),
-        rest: search.eliminator.failing_left(),
-    })
+    Ok(found(search))
 }
 
 /// At most so many bugs over the runs of a collection, of which so many are successful, each bug with at most so many places. Nobody counts the steps of the
