@@ -1,4 +1,4 @@
-use Rattle.std.proofs.Common.{◌+◌, ◌∙◌, arith, subst, sym, take}
+use Rattle.std.proofs.Common.{◌+◌, [], ◌∷◌, ◌++◌, ◌∙◌, ap, arith, subst, sym, take}
 use Rattle.std.specs.Prelude.{All}
 use Rattle.std.proofs.lemmas.List.{length-take-le, take_all, take_more}
 use Rattle.bug_rounds.specs.declared.bug.Bug.{Bug}
@@ -10,7 +10,7 @@ pub loop-bug-preserved : goal.loop-bug-preserved
 loop-bug-preserved c =
     let i = c.loop-bug.bug-index in
     let bugs = c.as_slice-bug-items.result.now in (
-      bug-text-more c.args.table.now c.args.totals.failing c.args.totals.successful (take i bugs) (take (i + 1) bugs) _ c.loop-bug.number c.loop-bug.out.items c.push_bug.new.out.items (take_more bugs i _ c.loop-bug-test.true)
+      bug-text-more c.args.table.now c.args.totals.failing c.args.totals.successful (take i bugs) (take (i + 1) bugs) c.bug-item.result c.loop-bug.number c.loop-bug.out.items c.push_bug.new.out.items (take_more bugs i c.bug-item.result c.loop-bug-test.true ∙ ap (λ (b : Bug). take i bugs ++ b ∷ []) (sym c.bug-item.is))
           (omega (arith, c.loop-bug.invariant.1, length-take-le i bugs (omega (arith, c.loop-bug-test.true)))) c.loop-bug.invariant.0 c.in_ok-push_bug.ensures,
       omega (arith, c.loop-bug.invariant.1),
     )
