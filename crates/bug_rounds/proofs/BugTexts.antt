@@ -12,6 +12,30 @@ use Rattle.suspicious_lines.proofs.LineTexts.{line-joined}
 use Rattle.bug_rounds.specs.declared.bug.Bug.{Bug}
 use Rattle.bug_rounds.specs.Text.{also_fields, bug_fields, bug_rows, bugs_head, bugs_rows, bugs_text, rest_fields}
 
+-- a line that is written field by field
+abbrev pub spaced_fields : List (List ℕ) → List ℕ
+spaced_fields [] = []
+spaced_fields (x ∷ more) = (32 ∷ x) ++ spaced_fields more
+
+spaced-push : (xs : List (List ℕ)) (y : List ℕ) → spaced_fields (xs ++ y ∷ []) ≡ spaced_fields xs ++ 32 ∷ y
+spaced-push [] y = append-nil (32 ∷ y)
+spaced-push (x ∷ more) y = ap (λ t. (32 ∷ x) ++ t) (spaced-push more y) ∙ sym (append_assoc (32 ∷ x) (spaced_fields more) (32 ∷ y))
+
+spaced-line : (x : List ℕ) (xs : List (List ℕ)) → spaced_fields (x ∷ xs) ≡ 32 ∷ line_of_fields (x ∷ xs)
+spaced-line x [] = append-nil (32 ∷ x)
+spaced-line x (y ∷ more) = ap (λ t. (32 ∷ x) ++ t) (spaced-line y more)
+
+pub field-more : (out old new : List ℕ) (xs : List (List ℕ)) (y : List ℕ) → old ≡ out ++ spaced_fields xs → new ≡ old ++ 32 ∷ y → new ≡ out ++ spaced_fields (xs ++ y ∷ [])
+field-more out old new xs y so_far now =
+    now ∙ ap (λ t. t ++ 32 ∷ y) so_far ∙ append_assoc out (spaced_fields xs) (32 ∷ y) ∙ ap (λ t. out ++ t) (sym (spaced-push xs y))
+
+pub line-ended : (out old new x : List ℕ) (xs : List (List ℕ)) → old ≡ out ++ spaced_fields (x ∷ xs) → new ≡ old ++ 10 ∷ [] → new ≡ out ++ 32 ∷ line_with_newline (line_of_fields (x ∷ xs))
+line-ended out old new x xs so_far now =
+    now ∙ ap (λ t. t ++ 10 ∷ []) so_far ∙ append_assoc out (spaced_fields (x ∷ xs)) (10 ∷ []) ∙ ap (λ t. out ++ (t ++ 10 ∷ [])) (spaced-line x xs)
+
+pub no-field : (out : List ℕ) → out ≡ out ++ spaced_fields []
+no-field out = sym (append-nil out)
+
 -- the other places so far
 abbrev pub also_lines : TableParts → ℕ → ℕ → List Suspect → List ℕ
 also_lines table failing successful others = text_of (map line_of_fields (map (also_fields table failing successful) others))

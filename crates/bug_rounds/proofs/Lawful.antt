@@ -1,6 +1,6 @@
 -- Laws of bugs.
 use Rattle.std.proofs.Common.{◌≡◌, ℕ, zero, suc, ◌+◌, ◌≤◌, Bool, true, false, not, ◌&&◌, cond, List, [], ◌∷◌, ◌++◌, length, refl, sym, ap, subst, ◌∙◌, append_assoc, arith}
-use Rattle.std.specs.Prelude.{All, Contains, IsPermutation, filter, slice_index_or, sum_by}
+use Rattle.std.specs.Prelude.{Contains, IsPermutation, filter, slice_index_or, sum_by}
 use Rattle.std.proofs.lemmas.Bool.{and_parts}
 use Rattle.std.proofs.lemmas.List.Elements.{All-contains, Contains-get_or}
 use Rattle.std.proofs.lemmas.List.Sorted.{Contains-permutation, IsPermutation-append_right, IsPermutation-filter_both, IsPermutation-refl, IsPermutation-sym, IsPermutation-trans, sum_by-IsPermutation}
@@ -34,7 +34,7 @@ bug-same : (b c : Bug) → b.leader ≡ c.leader → b.first ≡ c.first → b.o
 bug-same b c leader first others failing =
     let one : b ≡ record b { leader = c.leader } = ap (λ (x : Suspect). record b { leader = x }) leader in
     let two : record b { leader = c.leader } ≡ record b { leader = c.leader; first = c.first } = ap (λ (n : ℕ). record b { leader = c.leader; first = n }) first in
-    let three : record b { leader = c.leader; first = c.first } ≡ record c { failing = b.failing } = ap (λ (xs : List Suspect). record { leader = c.leader; first = c.first; others = xs; failing = b.failing }) others in
+    let three : record b { leader = c.leader; first = c.first } ≡ record c { failing = b.failing } = ap (λ (xs : List Suspect). record c { others = xs; failing = b.failing }) others in
     let four : record c { failing = b.failing } ≡ c = ap (λ (n : ℕ). record c { failing = n }) failing in
     one ∙ two ∙ three ∙ four
 
@@ -79,9 +79,9 @@ one-text-of-bugs table reports most also one other a b =
 
 -- the same reports in another order
 record AreSameReports (xs ys : List Report) : Type 0 where
-  sums : (f : Report → ℕ) → sum_by f xs ≡ sum_by f ys
-  there : (r : Report) → Contains xs r → Contains ys r
-  back : (r : Report) → Contains ys r → Contains xs r
+  pub sums : (f : Report → ℕ) → sum_by f xs ≡ sum_by f ys
+  pub there : (r : Report) → Contains xs r → Contains ys r
+  pub back : (r : Report) → Contains ys r → Contains xs r
 
 any-order-reports : (xs ys : List Report) → IsPermutation xs ys → AreSameReports xs ys
 any-order-reports xs ys order = record {
@@ -210,7 +210,7 @@ bugs-parts branches reports (b ∷ more) =
     let later = runs_of_bugs branches left more in
     let rest = failing_reports (left_behind branches left more) in
     subst (IsPermutation (failing_reports reports)) (sym (append_assoc own later rest))
-    (IsPermutation-trans (failing_reports reports) (own ++ failing_reports left) (own ++ later ++ rest) (round-parts branches p reports) (IsPermutation-append_right own (failing_reports left) (later ++ rest) (bugs-parts branches left more)))
+    (IsPermutation-trans (failing_reports reports) (own ++ failing_reports left) (own ++ (later ++ rest)) (round-parts branches p reports) (IsPermutation-append_right own (failing_reports left) (later ++ rest) (bugs-parts branches left more)))
 
 -- the first bug and the first line
 pub first-line : (table : TableParts) (reports : List Report) (also most apart more : ℕ) (b : Bug) (bugs : List Bug) (line : Suspect) (lines : List Suspect) → AreRounds table also (suc most) reports (b ∷ bugs)

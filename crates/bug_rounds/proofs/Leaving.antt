@@ -1,8 +1,8 @@
 -- What rounds leave of the reports, and the numbers of the failing ones among these.
-use Rattle.std.proofs.Common.{◌≡◌, ℕ, ◌+◌, ◌<◌, ◌≤◌, inl, inr, Bool, true, false, not, ◌&&◌, cond, List, [], ◌∷◌, ◌++◌, length, refl, sym, ap, subst, ◌∙◌, arith}
+use Rattle.std.proofs.Common.{◌≡◌, ℕ, ◌+◌, ◌≤◌, Bool, true, false, not, ◌&&◌, cond, List, [], ◌∷◌, ◌++◌, length, refl, sym, ap, subst, ◌∙◌, arith}
 use Rattle.std.specs.Prelude.{All, filter, map}
 use Rattle.std.proofs.lemmas.List.{length-map}
-use Rattle.std.proofs.lemmas.List.Elements.{All-cons, All-filter, All-head, All-map, All-nil, All-tail, All-weaker}
+use Rattle.std.proofs.lemmas.List.Elements.{All-cons, All-filter, All-head, All-nil, All-tail, All-weaker}
 use Rattle.std.proofs.lemmas.List.Filters.{length-filter_both}
 use Rattle.std.proofs.lemmas.List.Sums.{sum_by-cons}
 use Rattle.cbi_base.specs.declared.policy.Policy.TheVariants.{Failing}
@@ -12,7 +12,7 @@ use Rattle.report_file.specs.declared.label.Label.TheVariants.{Fail, Pass, Uncou
 use Rattle.report_file.specs.declared.report.Report.{Report}
 use Rattle.elimination_tallies.specs.declared.labelled.LabelledRun.{LabelledRun}
 use Rattle.elimination_tallies.specs.Recount.{is_failing, is_successful, is_true, run_of_report, runs_of}
-use Rattle.elimination.specs.Elimination.{is_taken, runs_after_leader}
+use Rattle.elimination.specs.Elimination.{runs_after_leader}
 use Rattle.affinity.specs.Cards.{failing_true}
 use Rattle.suspicious_lines.specs.Suspects.{successful_runs}
 use Rattle.bug_rounds.specs.declared.bug.Bug.{Bug}

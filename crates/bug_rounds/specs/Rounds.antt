@@ -20,10 +20,11 @@ is_own branches leader r = is_taken branches Failing leader (run_of_report r)
 abbrev pub left_by : List Bool → ℕ → List Report → List Report
 left_by branches leader reports = filter (λ (r : Report). not (is_own branches leader r)) reports
 
--- one round: its leader is the best suspect of these runs, behind it stand the next ones, each more than three lines apart from those before it in its function;
--- and the least number of the leader's own runs
+-- one round: its leader is the best suspect of these runs; behind it stand the next ones, in one function each more than three lines from those before it; and
+-- the least number of the leader's own runs
 pub record IsRound (table : TableParts) (also : ℕ) (reports : List Report) (bug : Bug) : Type 0 where
-  pub listed : AreListed (failing_runs (runs_of reports)) (successful_runs (runs_of reports)) 3 also (suspects_of table (runs_of reports)) (bug.leader ∷ bug.others)
+  pub listed : AreListed (failing_runs (runs_of reports)) (successful_runs (runs_of reports)) 3 also (suspects_of table (runs_of reports))
+      (bug.leader ∷ bug.others)
   pub failing : bug.failing ≡ failing_runs (runs_of reports)
   pub first : IsLeastOf (failing_true (branches_of table.sites) reports bug.leader.predicate) bug.first
 

@@ -12,8 +12,8 @@ use std::marker::Brand;
 use std::sync::ledger::Blank;
 use suspicious_lines::totals_of;
 
-/// The text of at most so many bugs by the runs of the collection, over the sites of the table: each with its leader and at most so many places of its round, the
-/// leader's own among them.
+/// The text of at most so many bugs by the runs of the collection, over the sites of the table: each with at most so many places of its round, the leader's own
+/// among them.
 pub fn bugs_of(
     alloc: Global,
     collection: &Collection,

@@ -15,7 +15,8 @@ pub fn rounds_are_of_elimination()
     ensures successful { SuccessfulRunsStay }
 {}
 
-/// Each failing run is an own run of exactly one bug, or left; the first bug's leader is the first suspicious line; and each bug names the least of its own runs.
+/// Each failing run is an own run of exactly one bug, or left; the first bug's leader is the first suspicious line; and each bug names the least of its own
+/// runs.
 pub fn bugs_share_the_failing_runs()
     ensures parts { EachFailingRunIsInOneBugOrLeft }
     ensures line { FirstBugIsTheFirstLine }

@@ -110,7 +110,8 @@ fn round<L: Ledger>(
     ensures done { IfOk result (λ more. more ≡ true → IsRoundDone table.now also collection.now.reports search.old search.new) }
 {
     let _sites = table.sites();
-    let Some(bug) = next_bug(alloc, collection, table, also, search)? else {
+    let next = next_bug(alloc, collection, table, also, search)?;
+    let Some(bug) = next else {
         return Ok(false);
     };
     let leader = bug.leader.predicate;
@@ -123,7 +124,7 @@ fn round<L: Ledger>(
 }
 
 // What a search has found.
-fn found(search: Search) -> Found
+fn found_by(search: Search) -> Found
     ensures bugs { result.bugs ≡ search.bugs.items }
     ensures rest { result.rest ≡ failing_runs search.eliminator.runs }
 {
@@ -151,11 +152,12 @@ fn rounds<L: Ledger>(
 {
     collection.keeps();
     for _round in 0..most {
-        if !round(alloc, collection, table, also, &mut search, steps)? {
-            return Ok(found(search));
+        let more = round(alloc, collection, table, also, &mut search, steps)?;
+        if !more {
+            return Ok(found_by(search));
         }
     }
-    Ok(found(search))
+    Ok(found_by(search))
 }
 
 /// At most so many bugs over the runs of a collection, of which so many are successful, each bug with at most so many places. Nobody counts the steps of the

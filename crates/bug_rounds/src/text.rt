@@ -3,7 +3,7 @@ ghost use Rattle.cbi_base.specs.Text.{line_of_fields, line_with_newline, text_of
 ghost use Rattle.flow.specs.Predicates.{predicate_text};
 ghost use Rattle.suspicious_lines.specs.Text.{IsShown, number_fields, place_fields, strength_field};
 ghost use Rattle.bug_rounds.specs.declared.bug.Bug.{Bug};
-ghost use Rattle.bug_rounds.specs.Text.{IsBugShown, also_fields, bug_fields, bug_rows, bugs_head, bugs_text, rest_fields};
+ghost use Rattle.bug_rounds.specs.Text.{IsBugShown, also_fields, bug_rows, bugs_head, bugs_text, rest_fields};
 
 use crate::bug::Bug;
 use crate::search::Found;
@@ -124,7 +124,8 @@ fn push_bug(
     };
     push_front(out, table, number, &bug.leader)?;
     push_back(alloc, out, table, totals, &bug.leader, bug.first)?;
-    push_others(alloc, out, table, totals, bug.others.as_slice())
+    push_others(alloc, out, table, totals, bug.others.as_slice())?;
+    Ok(())
 }
 
 // The last lines.

@@ -1,4 +1,4 @@
-use Rattle.std.proofs.Common.{◌≡◌, ◌∙◌, ◌-◌, ◌<◌, ap, arith, subst, sym}
+use Rattle.std.proofs.Common.{◌∙◌, ap, arith, sym}
 use Rattle.elimination_tallies.proofs.RunLemmas.{collection-rises}
 use Rattle.elimination_tallies.specs.Runs.{reports_after}
 use Rattle.bug_rounds.specs.Rounds.{is_own}
