@@ -117,7 +117,7 @@ def thinned(found: List[Counted], apart: int) -> List[Counted]:
 
 
 def lines_of(program: str, collection: str, most: int = 10, apart: int = 3) -> str:
-    """What `lines` is to write."""
+    """The text of suspicious lines."""
     runs = read_runs(collection)
     failing, passing = [run for run in runs if run.fails], [run for run in runs if not run.fails]
     found = best_first(read_predicates(program), failing, passing)
@@ -129,7 +129,7 @@ def lines_of(program: str, collection: str, most: int = 10, apart: int = 3) -> s
 
 
 def bugs_of(program: str, collection: str, most: int = 10, also: int = 3) -> str:
-    """What `bugs` is to write."""
+    """The text of bugs."""
     runs, predicates = read_runs(collection), read_predicates(program)
     live, passing = [run for run in runs if run.fails], [run for run in runs if not run.fails]
     text = [f"bugs {len(live)} {len(passing)}"]

@@ -1,4 +1,4 @@
-"""Looks at suspicious lines and at bugs: worked examples, and thrown collections, over which both are counted anew by `bugs_counted`."""
+"""Looks at suspicious lines and at bugs: worked examples, and random collections, over which `bugs_counted` counts both anew."""
 import os
 from random import Random
 from typing import Dict, Iterator, List, NamedTuple, Tuple
@@ -7,8 +7,8 @@ import bugs_counted
 from look_at_process_base import TOP, Process
 
 ROWS = os.path.join(TOP, "crates", "cases_commands", "data", "bugs.txt")
-# How many collections are thrown, and how many runs one of them has at most.
-THROWN = 200
+# How many random collections there are, and how many runs one of them has at most.
+COLLECTIONS = 200
 RUNS = 24
 BY = {"lines": bugs_counted.lines_of, "bugs": bugs_counted.bugs_of}
 # Few names, few lines and few sites, so that many predicates are as strong as each other, and many places near.
@@ -16,7 +16,7 @@ FUNCTIONS = ("main", "find", "store")
 
 
 class Row(NamedTuple):
-    """A call of a worked example, with its files and what out is to take."""
+    """A call of a worked example, with its files and the expected output."""
 
     name: str
     words: List[str]
@@ -32,7 +32,7 @@ def blocks_of(text: str) -> List[List[str]]:
 
 
 def calls_of(lines: List[str]) -> Iterator[Tuple[List[str], str]]:
-    """The words of each call of a row that passes, with what out is to take."""
+    """The words of each call of a row that passes, with the expected output."""
     words: List[str] = []
     text: List[str] = []
     for line in [*lines, "then"]:
@@ -47,7 +47,7 @@ def calls_of(lines: List[str]) -> Iterator[Tuple[List[str], str]]:
 
 
 def rows_of(page: str) -> Iterator[Row]:
-    """The calls of the page of rows that write something: those with a status aren't looked at here."""
+    """The calls of a page of rows that end with status 0; the others are no examples of counting."""
     texts: Dict[str, str] = {}
     for head, *lines in blocks_of(page):
         kind, name = head.split(" ", 1)
@@ -65,7 +65,7 @@ def options_of(words: List[str]) -> Dict[str, int]:
     return {word[2:]: int(spread[at + 1]) for at, word in enumerate(spread) if word.startswith("--")}
 
 
-def throw_program(chance: Random) -> str:
+def random_program(chance: Random) -> str:
     """A program of one to eight sites, of all schemes."""
     sites = []
     for token in range(chance.randint(1, 8)):
@@ -78,7 +78,7 @@ def throw_program(chance: Random) -> str:
     return "\n".join([*head, *functions, "main 0", f"sites {len(sites)}", *sites, *nodes, "end", ""])
 
 
-def throw_sites(chance: Random, sites: List[str]) -> List[str]:
+def random_sites(chance: Random, sites: List[str]) -> List[str]:
     """The lines of what a run observed: some of these sites, by their schemes."""
     lines = []
     for site, scheme in enumerate(sites):
@@ -88,25 +88,25 @@ def throw_sites(chance: Random, sites: List[str]) -> List[str]:
     return lines
 
 
-def throw_collection(chance: Random, program: str, identity: str) -> str:
+def random_collection(chance: Random, program: str, identity: str) -> str:
     """A collection of a few runs, of which some fail, some pass, and some count as neither."""
     sites = [line.split()[1] for line in program.splitlines() if line.startswith("site ")]
     labels = chance.choice((("fail", "pass"), ("fail", "pass", "none"), ("fail", "fail", "pass"), ("fail",), ("pass",)))
     lines = ["cbi-collection 2", f"program {identity}"]
     for run in sorted(chance.sample(range(1, 1000), chance.randint(0, RUNS))):
         lines.append(f"run {run} ended 0 label {chance.choice(labels)} work 0 0 0")
-        lines += throw_sites(chance, sites)
+        lines += random_sites(chance, sites)
     return "\n".join([*lines, "end", ""])
 
 
 class Bugs(Process):
     """Calls of `lines` and `bugs`."""
 
-    def call_on(self, words: List[str], program: str, collection: str, due: str, what: str) -> None:
-        """Looks whether a call on these files writes what is due."""
+    def call_on(self, words: List[str], program: str, collection: str, expected: str, what: str) -> None:
+        """Looks whether a call on these files writes the expected output."""
         self.write("prog", program)
         self.write("coll", collection)
-        self.look(self.call(*words), 0, due, "", what)
+        self.look(self.call(*words), 0, expected, "", what)
 
     def worked(self) -> List[Row]:
         with open(ROWS, encoding="ascii") as file:
@@ -123,13 +123,13 @@ class Bugs(Process):
         for row in self.worked():
             self.call_on(row.words, row.program, row.collection, row.out, f"{row.name}: {' '.join(row.words)}")
 
-    def test_thrown_collections_have_the_lines_and_the_bugs_that_are_counted_anew(self) -> None:
-        for seed in range(THROWN):
+    def test_random_collections_have_the_lines_and_the_bugs_that_plain_counting_finds(self) -> None:
+        for seed in range(COLLECTIONS):
             chance = Random(seed)
-            program = throw_program(chance)
+            program = random_program(chance)
             self.write("prog", program)
-            collection = throw_collection(chance, program, self.identity("prog"))
+            collection = random_collection(chance, program, self.identity("prog"))
             most = chance.choice((1, 2, 10, 1000))
             for command, word, value in (("lines", "apart", chance.choice((0, 1, 3, 4, 100))), ("bugs", "also", chance.choice((1, 2, 3, 100)))):
-                due = BY[command](program, collection, **{"most": most, word: value})
-                self.call_on([command, "--most", str(most), f"--{word}", str(value), "prog", "coll"], program, collection, due, f"{command} of the collection {seed}")
+                expected = BY[command](program, collection, **{"most": most, word: value})
+                self.call_on([command, "--most", str(most), f"--{word}", str(value), "prog", "coll"], program, collection, expected, f"{command} of the collection {seed}")
