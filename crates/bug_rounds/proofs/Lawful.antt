@@ -22,7 +22,7 @@ use Rattle.suspicious_lines.proofs.ListLemmas.{one-list}
 use Rattle.suspicious_lines.proofs.Members.{filter-keeps, filter-member, map-member, member-map, no-member}
 use Rattle.bug_rounds.specs.declared.bug.Bug.{Bug}
 use Rattle.bug_rounds.specs.Laws.{NamesItsFirstRun, failing_reports, runs_of_bugs}
-use Rattle.bug_rounds.specs.Rounds.{AreRounds, IsRound, is_own_run, left_behind, left_by}
+use Rattle.bug_rounds.specs.Rounds.{AreRounds, IsRound, is_own_run, left_behind, reports_left_by}
 use Rattle.bug_rounds.specs.Text.{AreBugsOf, bugs_text}
 use Rattle.bug_rounds.proofs.Searching.{listed-first}
 
@@ -68,8 +68,8 @@ one-rounds table also (suc most) reports (b ∷ more) [] a c = absurd (no-round 
 one-rounds table also (suc most) reports (b ∷ more) (c ∷ rest) x y =
     let bs = branches_of table.sites in
     let same = one-round table also reports b c x.0 y.0 in
-    let there : AreRounds table also most (left_by bs b.leader.predicate reports) rest = subst (λ (d : Bug). AreRounds table also most (left_by bs d.leader.predicate reports) rest) (sym same) y.1 in
-    ap (λ (d : Bug). d ∷ more) same ∙ ap (λ (ds : List Bug). c ∷ ds) (one-rounds table also most (left_by bs b.leader.predicate reports) more rest x.1 there)
+    let there : AreRounds table also most (reports_left_by bs b.leader.predicate reports) rest = subst (λ (d : Bug). AreRounds table also most (reports_left_by bs d.leader.predicate reports) rest) (sym same) y.1 in
+    ap (λ (d : Bug). d ∷ more) same ∙ ap (λ (ds : List Bug). c ∷ ds) (one-rounds table also most (reports_left_by bs b.leader.predicate reports) more rest x.1 there)
 
 pub one-text-of-bugs : (table : TableParts) (reports : List Report) (most also : ℕ) (one other : List ℕ) → AreBugsOf table reports most also one → AreBugsOf table reports most also other → one ≡ other
 one-text-of-bugs table reports most also one other a b =
@@ -149,13 +149,13 @@ same-rounds table also (suc most) xs ys [] same is = sym (same-suspects table (r
 same-rounds table also (suc most) xs ys (b ∷ more) same is =
     let bs = branches_of table.sites in
     let p = b.leader.predicate in
-    (same-round table also xs ys b same is.0, same-rounds table also most (left_by bs p xs) (left_by bs p ys) more (same-filter (λ (r : Report). not (is_own_run bs p r)) xs ys same) is.1)
+    (same-round table also xs ys b same is.0, same-rounds table also most (reports_left_by bs p xs) (reports_left_by bs p ys) more (same-filter (λ (r : Report). not (is_own_run bs p r)) xs ys same) is.1)
 
 same-behind : (branches : List Bool) (xs ys : List Report) (bugs : List Bug) → AreSameReports xs ys → AreSameReports (left_behind branches xs bugs) (left_behind branches ys bugs)
 same-behind branches xs ys [] same = same
 same-behind branches xs ys (b ∷ more) same =
     let p = b.leader.predicate in
-    same-behind branches (left_by branches p xs) (left_by branches p ys) more (same-filter (λ (r : Report). not (is_own_run branches p r)) xs ys same)
+    same-behind branches (reports_left_by branches p xs) (reports_left_by branches p ys) more (same-filter (λ (r : Report). not (is_own_run branches p r)) xs ys same)
 
 pub any-order-of-bugs : (table : TableParts) (reports others : List Report) (most also : ℕ) (text : List ℕ) → IsPermutation reports others → AreBugsOf table reports most also text → AreBugsOf table others most also text
 any-order-of-bugs table reports others most also text order is =
@@ -194,7 +194,7 @@ either-first : (one other : Report → Bool) (reports : List Report) → filter 
 either-first one other [] = refl
 either-first one other (r ∷ more) = both-by one other r (filter other more) (filter one more) (one r) (other r) refl refl (either-first one other more)
 
-round-parts : (branches : List Bool) (p : ℕ) (reports : List Report) → IsPermutation (failing_reports reports) (filter (is_own_run branches p) reports ++ failing_reports (left_by branches p reports))
+round-parts : (branches : List Bool) (p : ℕ) (reports : List Report) → IsPermutation (failing_reports reports) (filter (is_own_run branches p) reports ++ failing_reports (reports_left_by branches p reports))
 round-parts branches p reports =
     let left : Report → Bool = λ r. not (is_own_run branches p r) in
     subst (λ (xs : List Report). IsPermutation (failing_reports reports) (filter (is_own_run branches p) reports ++ xs)) (either-first left (λ (r : Report). is_failing r.label) reports)
@@ -206,7 +206,7 @@ bugs-parts branches reports [] = IsPermutation-refl (failing_reports reports)
 bugs-parts branches reports (b ∷ more) =
     let p = b.leader.predicate in
     let own = filter (is_own_run branches p) reports in
-    let left = left_by branches p reports in
+    let left = reports_left_by branches p reports in
     let later = runs_of_bugs branches left more in
     let rest = failing_reports (left_behind branches left more) in
     subst (IsPermutation (failing_reports reports)) (sym (append_assoc own later rest))

@@ -17,7 +17,7 @@ use Rattle.affinity.specs.Cards.{failing_true}
 use Rattle.suspicious_lines.specs.Suspects.{successful_runs}
 use Rattle.bug_rounds.specs.declared.bug.Bug.{Bug}
 use Rattle.bug_rounds.specs.Live.{AreLive, AreRising, failing_numbers, is_own_number, others_among, own_among}
-use Rattle.bug_rounds.specs.Rounds.{is_own_run, left_behind, left_by}
+use Rattle.bug_rounds.specs.Rounds.{is_own_run, left_behind, reports_left_by}
 use Rattle.bug_rounds.proofs.Owned.{IsKnown, all-known, numbers-cons}
 
 -- what a round leaves is what a step of iterative elimination leaves
@@ -25,11 +25,11 @@ runs-by : (r : Report) (rest : List Report) (b : Bool) → runs_of (cond b (r �
 runs-by r rest true = refl
 runs-by r rest false = refl
 
-pub left-runs : (branches : List Bool) (leader : ℕ) (reports : List Report) → runs_of (left_by branches leader reports) ≡ runs_after_leader branches Failing leader (runs_of reports)
+pub left-runs : (branches : List Bool) (leader : ℕ) (reports : List Report) → runs_of (reports_left_by branches leader reports) ≡ runs_after_leader branches Failing leader (runs_of reports)
 left-runs branches leader [] = refl
 left-runs branches leader (r ∷ more) =
     let own = is_own_run branches leader r in
-    runs-by r (left_by branches leader more) (not own)
+    runs-by r (reports_left_by branches leader more) (not own)
     ∙ ap (λ (rs : List LabelledRun). cond (not own) (run_of_report r ∷ rs) rs) (left-runs branches leader more)
 
 -- the successful runs stay
@@ -40,38 +40,38 @@ stays-by r rest Fail false is = sum_by-cons (λ (x : LabelledRun). cond (is_succ
 stays-by r rest Pass b is = sum_by-cons (λ (x : LabelledRun). cond (is_successful x.label) 1 0) (run_of_report r) (runs_of rest) ∙ ap (λ l. cond (is_successful l) 1 0 + successful_runs (runs_of rest)) is
 stays-by r rest Uncounted b is = sum_by-cons (λ (x : LabelledRun). cond (is_successful x.label) 1 0) (run_of_report r) (runs_of rest) ∙ ap (λ l. cond (is_successful l) 1 0 + successful_runs (runs_of rest)) is
 
-pub left-successful : (branches : List Bool) (leader : ℕ) (reports : List Report) → successful_runs (runs_of (left_by branches leader reports)) ≡ successful_runs (runs_of reports)
+pub left-successful : (branches : List Bool) (leader : ℕ) (reports : List Report) → successful_runs (runs_of (reports_left_by branches leader reports)) ≡ successful_runs (runs_of reports)
 left-successful branches leader [] = refl
 left-successful branches leader (r ∷ more) =
-    stays-by r (left_by branches leader more) r.label (is_true branches leader (run_of_report r)) refl
+    stays-by r (reports_left_by branches leader more) r.label (is_true branches leader (run_of_report r)) refl
     ∙ ap (λ n. cond (is_successful r.label) 1 0 + n) (left-successful branches leader more)
     ∙ sym (sum_by-cons (λ (x : LabelledRun). cond (is_successful x.label) 1 0) (run_of_report r) (runs_of more))
 
 pub behind-successful : (branches : List Bool) (reports : List Report) (bugs : List Bug) → successful_runs (runs_of (left_behind branches reports bugs)) ≡ successful_runs (runs_of reports)
 behind-successful branches reports [] = refl
 behind-successful branches reports (b ∷ more) =
-    behind-successful branches (left_by branches b.leader.predicate reports) more ∙ left-successful branches b.leader.predicate reports
+    behind-successful branches (reports_left_by branches b.leader.predicate reports) more ∙ left-successful branches b.leader.predicate reports
 
 -- one more bug
-pub behind-push : (branches : List Bool) (reports : List Report) (bugs : List Bug) (b : Bug) → left_behind branches reports (bugs ++ b ∷ []) ≡ left_by branches b.leader.predicate (left_behind branches reports bugs)
+pub behind-push : (branches : List Bool) (reports : List Report) (bugs : List Bug) (b : Bug) → left_behind branches reports (bugs ++ b ∷ []) ≡ reports_left_by branches b.leader.predicate (left_behind branches reports bugs)
 behind-push branches reports [] b = refl
-behind-push branches reports (x ∷ more) b = behind-push branches (left_by branches x.leader.predicate reports) more b
+behind-push branches reports (x ∷ more) b = behind-push branches (reports_left_by branches x.leader.predicate reports) more b
 
 -- what holds of all reports holds of those left
 pub behind-all : (P : Report → Type 0) (branches : List Bool) (reports : List Report) (bugs : List Bug) → All P reports → All P (left_behind branches reports bugs)
 behind-all P branches reports [] all = all
 behind-all P branches reports (b ∷ more) all =
-    behind-all P branches (left_by branches b.leader.predicate reports) more (All-filter (λ (r : Report). not (is_own_run branches b.leader.predicate r)) P reports all)
+    behind-all P branches (reports_left_by branches b.leader.predicate reports) more (All-filter (λ (r : Report). not (is_own_run branches b.leader.predicate r)) P reports all)
 
 -- there are no more of them
-pub left-fewer : (branches : List Bool) (leader : ℕ) (reports : List Report) → length (left_by branches leader reports) ≤ length reports
+pub left-fewer : (branches : List Bool) (leader : ℕ) (reports : List Report) → length (reports_left_by branches leader reports) ≤ length reports
 left-fewer branches leader reports =
     omega (arith, length-filter_both (is_own_run branches leader) (λ (r : Report). not (is_own_run branches leader r)) (λ _. refl) reports)
 
 behind-fewer : (branches : List Bool) (reports : List Report) (bugs : List Bug) → length (left_behind branches reports bugs) ≤ length reports
 behind-fewer branches reports [] = omega arith
 behind-fewer branches reports (b ∷ more) =
-    omega (arith, behind-fewer branches (left_by branches b.leader.predicate reports) more, left-fewer branches b.leader.predicate reports)
+    omega (arith, behind-fewer branches (reports_left_by branches b.leader.predicate reports) more, left-fewer branches b.leader.predicate reports)
 
 -- their numbers rise
 lower-from : (from to : ℕ) (reports : List Report) → from ≤ to → RunsFrom to reports → RunsFrom from reports
@@ -89,7 +89,7 @@ filter-rises test from (r ∷ more) rise = rises-by from r (filter test more) (t
 behind-rises : (branches : List Bool) (from : ℕ) (reports : List Report) (bugs : List Bug) → RunsFrom from reports → RunsFrom from (left_behind branches reports bugs)
 behind-rises branches from reports [] rise = rise
 behind-rises branches from reports (b ∷ more) rise =
-    behind-rises branches from (left_by branches b.leader.predicate reports) more (filter-rises (λ (r : Report). not (is_own_run branches b.leader.predicate r)) from reports rise)
+    behind-rises branches from (reports_left_by branches b.leader.predicate reports) more (filter-rises (λ (r : Report). not (is_own_run branches b.leader.predicate r)) from reports rise)
 
 later-numbers : (from : ℕ) (reports : List Report) → RunsFrom from reports → All (λ m. from ≤ m) (map (λ (r : Report). r.run) reports)
 later-numbers from [] rise = All-nil (λ m. from ≤ m)
@@ -141,16 +141,16 @@ kept-numbers r rest true is = numbers-cons r rest true is
 kept-numbers r rest false is = refl
 
 others-first : (branches : List Bool) (reports : List Report) (leader : ℕ) (r : Report) (more : List Report) (f : Bool) → is_failing r.label ≡ f → is_own_number branches reports leader r.run ≡ is_own_run branches leader r
-    → others_among branches reports leader (failing_numbers more) ≡ failing_numbers (left_by branches leader more) → others_among branches reports leader (failing_numbers (r ∷ more)) ≡ failing_numbers (left_by branches leader (r ∷ more))
+    → others_among branches reports leader (failing_numbers more) ≡ failing_numbers (reports_left_by branches leader more) → others_among branches reports leader (failing_numbers (r ∷ more)) ≡ failing_numbers (reports_left_by branches leader (r ∷ more))
 others-first branches reports leader r more true is known rest =
     let ns = others_among branches reports leader (failing_numbers more) in
     ap (others_among branches reports leader) (numbers-cons r more true is) ∙ ap (λ b. cond (not b) (r.run ∷ ns) ns) known
-    ∙ ap (λ (ms : List ℕ). cond (not (is_own_run branches leader r)) (r.run ∷ ms) ms) rest ∙ sym (kept-numbers r (left_by branches leader more) (not (is_own_run branches leader r)) is)
+    ∙ ap (λ (ms : List ℕ). cond (not (is_own_run branches leader r)) (r.run ∷ ms) ms) rest ∙ sym (kept-numbers r (reports_left_by branches leader more) (not (is_own_run branches leader r)) is)
 others-first branches reports leader r more false is known rest =
-    ap (others_among branches reports leader) (numbers-cons r more false is) ∙ rest ∙ sym (numbers-cons r (left_by branches leader more) false is)
-    ∙ ap (λ b. failing_numbers (cond (not b) (r ∷ left_by branches leader more) (left_by branches leader more))) (sym (ap (λ b. b && is_true branches leader (run_of_report r)) is))
+    ap (others_among branches reports leader) (numbers-cons r more false is) ∙ rest ∙ sym (numbers-cons r (reports_left_by branches leader more) false is)
+    ∙ ap (λ b. failing_numbers (cond (not b) (r ∷ reports_left_by branches leader more) (reports_left_by branches leader more))) (sym (ap (λ b. b && is_true branches leader (run_of_report r)) is))
 
-pub others-are : (branches : List Bool) (reports : List Report) (leader : ℕ) (live : List Report) → All (IsKnown branches reports) live → others_among branches reports leader (failing_numbers live) ≡ failing_numbers (left_by branches leader live)
+pub others-are : (branches : List Bool) (reports : List Report) (leader : ℕ) (live : List Report) → All (IsKnown branches reports) live → others_among branches reports leader (failing_numbers live) ≡ failing_numbers (reports_left_by branches leader live)
 others-are branches reports leader [] known = refl
 others-are branches reports leader (r ∷ more) known =
     others-first branches reports leader r more (is_failing r.label) refl (All-head (IsKnown branches reports) r more known leader) (others-are branches reports leader more (All-tail (IsKnown branches reports) r more known))

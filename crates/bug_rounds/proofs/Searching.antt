@@ -32,7 +32,7 @@ use Rattle.bug_rounds.specs.declared.bug.Bug.{Bug}
 use Rattle.bug_rounds.specs.declared.search.Found.{Found}
 use Rattle.bug_rounds.specs.declared.search.Search.{Search}
 use Rattle.bug_rounds.specs.Live.{AreLive, failing_numbers, is_own_number, others_among, own_among}
-use Rattle.bug_rounds.specs.Rounds.{AreRounds, IsRound, left_behind, left_by}
+use Rattle.bug_rounds.specs.Rounds.{AreRounds, IsRound, left_behind, reports_left_by}
 use Rattle.bug_rounds.specs.Search.{AreFound, IsNextBug, IsRoundDone, IsSearch, IsSearchStart}
 use Rattle.bug_rounds.proofs.Leaving.{behind-all, behind-live, behind-push, behind-successful, left-runs, others-are, own-are}
 use Rattle.bug_rounds.proofs.Owned.{IsKnown, all-known, any-kept, least-found}
@@ -164,13 +164,13 @@ search-more table also most reports more fewer s new count so_far rise few done 
     let p = b.leader.predicate in
     let known = behind-all (IsKnown bs reports) bs reports s.bugs.items (all-known bs reports rise) in
     let own : own_among bs reports p s.live.items ≡ failing_true bs left p = ap (own_among bs reports p) so_far.live ∙ own-are bs reports p left known in
-    let after : left_behind bs reports new.bugs.items ≡ left_by bs p left = ap (left_behind bs reports) done.bugs ∙ behind-push bs reports s.bugs.items b in
+    let after : left_behind bs reports new.bugs.items ≡ reports_left_by bs p left = ap (left_behind bs reports) done.bugs ∙ behind-push bs reports s.bugs.items b in
     let round = next-listed table also reports left s b (runs-are table also most reports more s so_far) done.found own in record {
       eliminator = done.eliminator ∙ ap (λ (e : EliminatorState). stepped_on e p) so_far.eliminator ∙ ap (state_of bs) (sym (left-runs bs p left) ∙ ap (λ (rs : List Report). runs_of rs) (sym after));
       successful = done.successful ∙ so_far.successful;
       live = done.live ∙ ap (others_among bs reports p) so_far.live ∙ others-are bs reports p left known ∙ ap failing_numbers (sym after);
       all = λ rest is.
-          let there : AreRounds table also fewer (left_by bs p left) rest = subst (λ (rs : List Report). AreRounds table also fewer rs rest) after is in
+          let there : AreRounds table also fewer (reports_left_by bs p left) rest = subst (λ (rs : List Report). AreRounds table also fewer rs rest) after is in
           let here : AreRounds table also more left (b ∷ rest) = subst (λ n. AreRounds table also n left (b ∷ rest)) (sym count) (round, there) in
           subst (AreRounds table also most reports) (sym (ap (λ (xs : List Bug). xs ++ rest) done.bugs ∙ append_assoc s.bugs.items (b ∷ []) rest)) (so_far.all (b ∷ rest) here);
     }

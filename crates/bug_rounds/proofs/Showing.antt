@@ -15,7 +15,7 @@ use Rattle.suspicious_lines.proofs.Bounds.{suspects-shown}
 use Rattle.suspicious_lines.proofs.ListLemmas.{listed-all}
 use Rattle.bug_rounds.specs.declared.bug.Bug.{Bug}
 use Rattle.bug_rounds.specs.declared.search.Found.{Found}
-use Rattle.bug_rounds.specs.Rounds.{AreRounds, IsRound, left_by}
+use Rattle.bug_rounds.specs.Rounds.{AreRounds, IsRound, reports_left_by}
 use Rattle.bug_rounds.specs.Search.{AreFound}
 use Rattle.bug_rounds.specs.Text.{AreBugsOf, IsBugShown, bugs_text}
 use Rattle.bug_rounds.proofs.Leaving.{left-fewer, left-successful}
@@ -33,7 +33,7 @@ rounds-shown table also (suc most) reports (b ∷ more) fits few is =
     let bs = branches_of table.sites in
     let p = b.leader.predicate in
     All-cons (IsBugShown table (successful_runs (runs_of reports))) b more (round-shown table also reports b fits few is.0)
-    (subst (λ s. All (IsBugShown table s) more) (left-successful bs p reports) (rounds-shown table also most (left_by bs p reports) more fits (omega (arith, few, left-fewer bs p reports)) is.1))
+    (subst (λ s. All (IsBugShown table s) more) (left-successful bs p reports) (rounds-shown table also most (reports_left_by bs p reports) more fits (omega (arith, few, left-fewer bs p reports)) is.1))
 
 pub found-shown : (table : TableParts) (reports : List Report) (most also : ℕ) (found : Found) (successful : ℕ) → IsTable table → length reports ≤ 100000 → AreFound table reports most also found → successful ≡ successful_runs (runs_of reports) → All (IsBugShown table successful) found.bugs
 found-shown table reports most also found successful fits few is same =

@@ -10,18 +10,18 @@ use Rattle.association.specs.declared.suspect.Suspect.{Suspect}
 use Rattle.suspicious_lines.specs.Listing.{AreListed}
 use Rattle.suspicious_lines.specs.Suspects.{successful_runs, suspects_of}
 use Rattle.bug_rounds.specs.declared.bug.Bug.{Bug}
-use Rattle.bug_rounds.specs.Rounds.{AreRounds, IsRound, is_own_run, left_behind, left_by}
+use Rattle.bug_rounds.specs.Rounds.{AreRounds, IsRound, is_own_run, left_behind, reports_left_by}
 use Rattle.bug_rounds.specs.Text.{AreBugsOf}
 
 -- what a round leaves is what the step of iterative elimination leaves, where the leader's failing runs are discarded
 abbrev pub RoundsAreOfElimination : Type 0
 RoundsAreOfElimination = (branches : List Bool) (leader : ℕ) (reports : List Report)
-    → runs_of (left_by branches leader reports) ≡ runs_after_leader branches Failing leader (runs_of reports)
+    → runs_of (reports_left_by branches leader reports) ≡ runs_after_leader branches Failing leader (runs_of reports)
 
 -- the successful runs stay
 abbrev pub SuccessfulRunsStay : Type 0
 SuccessfulRunsStay = (branches : List Bool) (leader : ℕ) (reports : List Report)
-    → successful_runs (runs_of (left_by branches leader reports)) ≡ successful_runs (runs_of reports)
+    → successful_runs (runs_of (reports_left_by branches leader reports)) ≡ successful_runs (runs_of reports)
 
 -- there is one text
 abbrev pub OneTextOfBugs : Type 0
@@ -40,7 +40,7 @@ failing_reports reports = filter (λ (r : Report). is_failing r.label) reports
 abbrev pub runs_of_bugs : List Bool → List Report → List Bug → List Report
 runs_of_bugs branches reports [] = []
 runs_of_bugs branches reports (bug ∷ more) =
-    filter (is_own_run branches bug.leader.predicate) reports ++ runs_of_bugs branches (left_by branches bug.leader.predicate reports) more
+    filter (is_own_run branches bug.leader.predicate) reports ++ runs_of_bugs branches (reports_left_by branches bug.leader.predicate reports) more
 
 -- the own runs of all bugs and the failing runs that are left are the failing runs, each once
 abbrev pub EachFailingRunIsInOneBugOrLeft : Type 0

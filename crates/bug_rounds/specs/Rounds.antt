@@ -17,8 +17,8 @@ abbrev pub is_own_run : List Bool → ℕ → Report → Bool
 is_own_run branches leader r = is_taken branches Failing leader (run_of_report r)
 
 -- the reports of all but its own runs
-abbrev pub left_by : List Bool → ℕ → List Report → List Report
-left_by branches leader reports = filter (λ (r : Report). not (is_own_run branches leader r)) reports
+abbrev pub reports_left_by : List Bool → ℕ → List Report → List Report
+reports_left_by branches leader reports = filter (λ (r : Report). not (is_own_run branches leader r)) reports
 
 -- one round: its leader is the best suspect of these runs; behind it stand the next ones, in one function each more than three lines from those before it; and
 -- the least number of the leader's own runs
@@ -33,9 +33,9 @@ abbrev pub AreRounds : TableParts → ℕ → ℕ → List Report → List Bug �
 AreRounds table also zero reports bugs = bugs ≡ []
 AreRounds table also (suc most) reports [] = suspects_of table (runs_of reports) ≡ []
 AreRounds table also (suc most) reports (bug ∷ more) =
-    IsRound table also reports bug × AreRounds table also most (left_by (branches_of table.sites) bug.leader.predicate reports) more
+    IsRound table also reports bug × AreRounds table also most (reports_left_by (branches_of table.sites) bug.leader.predicate reports) more
 
 -- the reports that these bugs leave
 abbrev pub left_behind : List Bool → List Report → List Bug → List Report
 left_behind branches reports [] = reports
-left_behind branches reports (bug ∷ more) = left_behind branches (left_by branches bug.leader.predicate reports) more
+left_behind branches reports (bug ∷ more) = left_behind branches (reports_left_by branches bug.leader.predicate reports) more

@@ -22,7 +22,8 @@ pub fn variables_have_declared_types()
 /// In a tree of the grammar without a fault, what is noted is what the declarations say: each expression has at its own token the
 /// type of the operand that it is by the declarations that hold there, each variable has the type that its declaration gives it,
 /// each definition of a function has the types of its parameters and of its result, and the sizes of its variables, the globals are
-/// as many as are declared, and a run begins in `main`. The tree forces that: of two notes that both are what its declarations say, none differs from the other.
+/// as many as are declared, and a run begins in `main`. The tree forces that: of two notes that both are what its declarations say,
+/// none differs from the other.
 pub fn facts_are_those_of_the_declarations()
     ensures said { (t : SourceTree) (known : Walk) → IsShaped t → walk_tree t ≡ Fine tt known → (own : List Typed)
         × (TextTyped known t own × (known.declared_types ≡ map typed_type own) × (map start_of known.variables ≡ map typed_token own)) }

@@ -1,4 +1,4 @@
-//! What is noted of a checked text is what its declarations say: the types of its expressions and variables, the signatures of its functions, and in which a run begins.
+//! What is noted of a checked text is what its declarations say: the types of its expressions and variables, its functions' signatures, and where a run begins.
 #![tactic(auto)]
 
 mod laws;

@@ -15,7 +15,7 @@ use Rattle.affinity.specs.Cards.{IsLeastOf}
 use Rattle.suspicious_lines.specs.Listing.{AreListed}
 use Rattle.suspicious_lines.specs.Suspects.{successful_runs, suspects_of}
 use Rattle.bug_rounds.specs.declared.bug.Bug.{Bug}
-use Rattle.bug_rounds.specs.Rounds.{AreRounds, IsRound, is_own_run, left_behind, left_by}
+use Rattle.bug_rounds.specs.Rounds.{AreRounds, IsRound, is_own_run, left_behind, reports_left_by}
 use Rattle.bug_rounds.specs.Text.{AreBugsOf, bugs_text}
 use Rattle.compiler.specs.Accepted.{IsAccepted}
 use Rattle.compiler.specs.Compiled.{IsCompiled}
@@ -33,20 +33,20 @@ kept-alike false x y xs ys number run rest = rest
 
 module _ (branches : List Bool) where
   -- what a leader leaves of reports that are seen alike is seen alike
-  left-alike : (leader : ℕ) (xs ys : List Report) → AreSeenAlike xs ys → AreSeenAlike (left_by branches leader xs) (left_by branches leader ys)
+  left-alike : (leader : ℕ) (xs ys : List Report) → AreSeenAlike xs ys → AreSeenAlike (reports_left_by branches leader xs) (reports_left_by branches leader ys)
   left-alike leader [] [] alike = tt
   left-alike leader [] (y ∷ ys) alike = absurd alike
   left-alike leader (x ∷ xs) [] alike = absurd alike
   left-alike leader (x ∷ xs) (y ∷ ys) alike =
-      let others = left_by branches leader xs in
-      let rest = left_by branches leader ys in
+      let others = reports_left_by branches leader xs in
+      let rest = reports_left_by branches leader ys in
       subst (λ run. AreSeenAlike (cond (not (is_own_run branches leader x)) (x ∷ others) others) (cond (not (is_taken branches Failing leader run)) (y ∷ rest) rest)) alike.1
       (kept-alike (not (is_own_run branches leader x)) x y others rest alike.0 alike.1 (left-alike leader xs ys alike.2))
 
   left-behind-alike : (xs ys : List Report) (bugs : List Bug) → AreSeenAlike xs ys → AreSeenAlike (left_behind branches xs bugs) (left_behind branches ys bugs)
   left-behind-alike xs ys [] alike = alike
   left-behind-alike xs ys (bug ∷ more) alike =
-      left-behind-alike (left_by branches bug.leader.predicate xs) (left_by branches bug.leader.predicate ys) more (left-alike bug.leader.predicate xs ys alike)
+      left-behind-alike (reports_left_by branches bug.leader.predicate xs) (reports_left_by branches bug.leader.predicate ys) more (left-alike bug.leader.predicate xs ys alike)
 
 module _ (table : TableParts) (also : ℕ) where
   round-alike : (xs ys : List Report) (bug : Bug) → AreSeenAlike xs ys → IsRound table also xs bug → IsRound table also ys bug
@@ -62,7 +62,7 @@ module _ (table : TableParts) (also : ℕ) where
   rounds-alike (suc most) xs ys (bug ∷ more) alike are =
       let branches = branches_of table.sites in
       let leader = bug.leader.predicate in
-      (round-alike xs ys bug alike are.0, rounds-alike most (left_by branches leader xs) (left_by branches leader ys) more (left-alike branches leader xs ys alike) are.1)
+      (round-alike xs ys bug alike are.0, rounds-alike most (reports_left_by branches leader xs) (reports_left_by branches leader ys) more (left-alike branches leader xs ys alike) are.1)
 
   bugs-alike : (most : ℕ) (xs ys : List Report) (text : List ℕ) → AreSeenAlike xs ys → AreBugsOf table xs most also text → AreBugsOf table ys most also text
   bugs-alike most xs ys text alike are =

@@ -1,6 +1,6 @@
 -- The tokens of expressions and of declarations: none of them is a word of a statement.
-use Rattle.std.proofs.Common.{◌≡◌, ℕ, ◌+◌, ◌≤◌, Bool, true, false, if◌then◌else◌, List, [], ◌∷◌, ◌++◌, length, Option, Some, None, refl, sym, ap, ◌∙◌, arith, append_assoc}
-use Rattle.std.specs.Prelude.{IfSome, IsTrue, cond, count_by, map, replicate, zero, suc}
+use Rattle.std.proofs.Common.{◌≡◌, ℕ, ◌+◌, ◌≤◌, Bool, true, false, if◌then◌else◌, List, [], ◌∷◌, ◌++◌, Option, Some, None, refl, sym, ◌∙◌, arith}
+use Rattle.std.specs.Prelude.{IfSome, IsTrue, cond, count_by, zero, suc}
 use Rattle.std.specs.List.{AllByRecursion, flat_map}
 use Rattle.std.proofs.lemmas.Bool.{false≢true}
 use Rattle.std.proofs.lemmas.List.Sums.{sum_by-append}
@@ -10,7 +10,6 @@ use Rattle.c_syntax.specs.declared.parts.Base.{Base}
 use Rattle.c_syntax.specs.declared.parts.Base.TheVariants as base
 use Rattle.c_syntax.specs.declared.parts.Bound.{Bound}
 use Rattle.c_syntax.specs.declared.parts.Declarator.{Declarator}
-use Rattle.c_syntax.specs.declared.parts.Members.{Members}
 use Rattle.c_syntax.specs.declared.parts.Param.{Param}
 use Rattle.c_syntax.specs.declared.parts.ParamName.{ParamName}
 use Rattle.c_syntax.specs.declared.parts.Params.{Params}
@@ -19,12 +18,11 @@ use Rattle.c_syntax.specs.declared.token.Sign.{Sign}
 use Rattle.c_syntax.specs.declared.token.Sign.TheVariants as sign
 use Rattle.c_syntax.specs.declared.token.TokenKind.{TokenKind}
 use Rattle.c_syntax.specs.declared.token.TokenKind.TheVariants as kind
-use Rattle.c_syntax.specs.declared.token.Word.{Word}
 use Rattle.c_syntax.specs.declared.token.Word.TheVariants as word
 use Rattle.c_syntax.specs.ExprTree as e
 use Rattle.c_syntax.specs.StatementTree as s
 use Rattle.c_syntax.specs.Words.{ExprTree, ExprList, LinkList, PostfixList, InitialTree, StartTree}
-use Rattle.c_syntax.specs.Shape.{HasExpr, HasOne, HasTwo, ShapedExpr, ShapedExprs, ShapedInitial, ShapedLinks, ShapedPostfix, ShapedStart, is_assignment, level_of}
+use Rattle.c_syntax.specs.Shape.{HasOne, ShapedExpr, ShapedExprs, ShapedInitial, ShapedLinks, ShapedPostfix, ShapedStart, is_assignment, level_of}
 use Rattle.c_syntax.specs.Spelling.{Kinds, after_commas, base_kinds, bound_kinds, constant_kinds, declarator_kinds, expr_kinds, exprs_kinds, initial_kinds}
 use Rattle.c_syntax.specs.Spelling.{int_kinds, link_kinds, more_exprs_kinds, optional_kinds, param_kinds, param_name_kinds, params_kinds, postfix_kinds}
 use Rattle.c_syntax.specs.Spelling.{prefix_kinds, star_kinds, start_kinds, text_kinds, type_kinds, with_commas}
