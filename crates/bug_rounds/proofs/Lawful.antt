@@ -22,7 +22,7 @@ use Rattle.suspicious_lines.proofs.ListLemmas.{one-list}
 use Rattle.suspicious_lines.proofs.Members.{filter-keeps, filter-member, map-member, member-map, no-member}
 use Rattle.bug_rounds.specs.declared.bug.Bug.{Bug}
 use Rattle.bug_rounds.specs.Laws.{NamesItsFirstRun, failing_reports, runs_of_bugs}
-use Rattle.bug_rounds.specs.Rounds.{AreRounds, IsRound, is_own, left_behind, left_by}
+use Rattle.bug_rounds.specs.Rounds.{AreRounds, IsRound, is_own_run, left_behind, left_by}
 use Rattle.bug_rounds.specs.Text.{AreBugsOf, bugs_text}
 use Rattle.bug_rounds.proofs.Searching.{listed-first}
 
@@ -120,10 +120,10 @@ same-runs xs ys same = record { sums = λ f. runs-sum f xs ∙ same.sums (λ (r 
 
 number-there : (branches : List Bool) (xs ys : List Report) (p n : ℕ) → ((r : Report) → Contains xs r → Contains ys r) → Contains (failing_true branches xs p) n → Contains (failing_true branches ys p) n
 number-there branches xs ys p n there has =
-    let made = map-member (λ (r : Report). r.run) (filter (is_own branches p) xs) n has in
-    let parts = filter-member (is_own branches p) xs made.0 made.1 in
+    let made = map-member (λ (r : Report). r.run) (filter (is_own_run branches p) xs) n has in
+    let parts = filter-member (is_own_run branches p) xs made.0 made.1 in
     subst (Contains (failing_true branches ys p)) made.2
-    (member-map (λ (r : Report). r.run) (filter (is_own branches p) ys) made.0 (filter-keeps (is_own branches p) ys made.0 (there made.0 parts.0) parts.1))
+    (member-map (λ (r : Report). r.run) (filter (is_own_run branches p) ys) made.0 (filter-keeps (is_own_run branches p) ys made.0 (there made.0 parts.0) parts.1))
 
 same-least : (branches : List Bool) (xs ys : List Report) (p n : ℕ) → AreSameReports xs ys → IsLeastOf (failing_true branches xs p) n → IsLeastOf (failing_true branches ys p) n
 same-least branches xs ys p n same least = (
@@ -149,13 +149,13 @@ same-rounds table also (suc most) xs ys [] same is = sym (same-suspects table (r
 same-rounds table also (suc most) xs ys (b ∷ more) same is =
     let bs = branches_of table.sites in
     let p = b.leader.predicate in
-    (same-round table also xs ys b same is.0, same-rounds table also most (left_by bs p xs) (left_by bs p ys) more (same-filter (λ (r : Report). not (is_own bs p r)) xs ys same) is.1)
+    (same-round table also xs ys b same is.0, same-rounds table also most (left_by bs p xs) (left_by bs p ys) more (same-filter (λ (r : Report). not (is_own_run bs p r)) xs ys same) is.1)
 
 same-behind : (branches : List Bool) (xs ys : List Report) (bugs : List Bug) → AreSameReports xs ys → AreSameReports (left_behind branches xs bugs) (left_behind branches ys bugs)
 same-behind branches xs ys [] same = same
 same-behind branches xs ys (b ∷ more) same =
     let p = b.leader.predicate in
-    same-behind branches (left_by branches p xs) (left_by branches p ys) more (same-filter (λ (r : Report). not (is_own branches p r)) xs ys same)
+    same-behind branches (left_by branches p xs) (left_by branches p ys) more (same-filter (λ (r : Report). not (is_own_run branches p r)) xs ys same)
 
 pub any-order-of-bugs : (table : TableParts) (reports others : List Report) (most also : ℕ) (text : List ℕ) → IsPermutation reports others → AreBugsOf table reports most also text → AreBugsOf table others most also text
 any-order-of-bugs table reports others most also text order is =
@@ -173,12 +173,12 @@ any-order-of-bugs table reports others most also text order is =
     }
 
 -- own runs are failing ones
-own-by-failing : (branches : List Bool) (p : ℕ) (r : Report) (kept more : List Report) (f : Bool) → is_failing r.label ≡ f → filter (is_own branches p) kept ≡ filter (is_own branches p) more → filter (is_own branches p) (cond f (r ∷ kept) kept) ≡ filter (is_own branches p) (r ∷ more)
-own-by-failing branches p r kept more true is rest = ap (λ (xs : List Report). cond (is_own branches p r) (r ∷ xs) xs) rest
+own-by-failing : (branches : List Bool) (p : ℕ) (r : Report) (kept more : List Report) (f : Bool) → is_failing r.label ≡ f → filter (is_own_run branches p) kept ≡ filter (is_own_run branches p) more → filter (is_own_run branches p) (cond f (r ∷ kept) kept) ≡ filter (is_own_run branches p) (r ∷ more)
+own-by-failing branches p r kept more true is rest = ap (λ (xs : List Report). cond (is_own_run branches p r) (r ∷ xs) xs) rest
 own-by-failing branches p r kept more false is rest =
-    rest ∙ sym (ap (λ b. cond (b && is_true branches p (run_of_report r)) (r ∷ filter (is_own branches p) more) (filter (is_own branches p) more)) is)
+    rest ∙ sym (ap (λ b. cond (b && is_true branches p (run_of_report r)) (r ∷ filter (is_own_run branches p) more) (filter (is_own_run branches p) more)) is)
 
-own-of-failing : (branches : List Bool) (p : ℕ) (reports : List Report) → filter (is_own branches p) (failing_reports reports) ≡ filter (is_own branches p) reports
+own-of-failing : (branches : List Bool) (p : ℕ) (reports : List Report) → filter (is_own_run branches p) (failing_reports reports) ≡ filter (is_own_run branches p) reports
 own-of-failing branches p [] = refl
 own-of-failing branches p (r ∷ more) = own-by-failing branches p r (failing_reports more) more (is_failing r.label) refl (own-of-failing branches p more)
 
@@ -194,18 +194,18 @@ either-first : (one other : Report → Bool) (reports : List Report) → filter 
 either-first one other [] = refl
 either-first one other (r ∷ more) = both-by one other r (filter other more) (filter one more) (one r) (other r) refl refl (either-first one other more)
 
-round-parts : (branches : List Bool) (p : ℕ) (reports : List Report) → IsPermutation (failing_reports reports) (filter (is_own branches p) reports ++ failing_reports (left_by branches p reports))
+round-parts : (branches : List Bool) (p : ℕ) (reports : List Report) → IsPermutation (failing_reports reports) (filter (is_own_run branches p) reports ++ failing_reports (left_by branches p reports))
 round-parts branches p reports =
-    let left : Report → Bool = λ r. not (is_own branches p r) in
-    subst (λ (xs : List Report). IsPermutation (failing_reports reports) (filter (is_own branches p) reports ++ xs)) (either-first left (λ (r : Report). is_failing r.label) reports)
+    let left : Report → Bool = λ r. not (is_own_run branches p r) in
+    subst (λ (xs : List Report). IsPermutation (failing_reports reports) (filter (is_own_run branches p) reports ++ xs)) (either-first left (λ (r : Report). is_failing r.label) reports)
     (subst (λ (xs : List Report). IsPermutation (failing_reports reports) (xs ++ filter left (failing_reports reports))) (own-of-failing branches p reports)
-    (IsPermutation-filter_both (is_own branches p) left (λ _. refl) (failing_reports reports)))
+    (IsPermutation-filter_both (is_own_run branches p) left (λ _. refl) (failing_reports reports)))
 
 pub bugs-parts : (branches : List Bool) (reports : List Report) (bugs : List Bug) → IsPermutation (failing_reports reports) (runs_of_bugs branches reports bugs ++ failing_reports (left_behind branches reports bugs))
 bugs-parts branches reports [] = IsPermutation-refl (failing_reports reports)
 bugs-parts branches reports (b ∷ more) =
     let p = b.leader.predicate in
-    let own = filter (is_own branches p) reports in
+    let own = filter (is_own_run branches p) reports in
     let left = left_by branches p reports in
     let later = runs_of_bugs branches left more in
     let rest = failing_reports (left_behind branches left more) in
@@ -224,8 +224,8 @@ pub names-first : (table : TableParts) (also : ℕ) (reports : List Report) (b :
 names-first table also reports b round =
     let bs = branches_of table.sites in
     let p = b.leader.predicate in
-    let made = map-member (λ (r : Report). r.run) (filter (is_own bs p) reports) b.first round.first.0 in
-    let parts = filter-member (is_own bs p) reports made.0 made.1 in
+    let made = map-member (λ (r : Report). r.run) (filter (is_own_run bs p) reports) b.first round.first.0 in
+    let parts = filter-member (is_own_run bs p) reports made.0 made.1 in
     let truths = and_parts (is_failing made.0.label) (is_true bs p (run_of_report made.0)) parts.1 in record {
       run = made.0;
       is_one = parts.0;
@@ -235,5 +235,5 @@ names-first table also reports b round =
       least = λ k d less own.
           let r = slice_index_or reports k d in
           All-contains (λ (m : ℕ). b.first ≤ m) (failing_true bs reports p) r.run round.first.1
-          (member-map (λ (x : Report). x.run) (filter (is_own bs p) reports) r (filter-keeps (is_own bs p) reports r (Contains-get_or reports k d less) own));
+          (member-map (λ (x : Report). x.run) (filter (is_own_run bs p) reports) r (filter-keeps (is_own_run bs p) reports r (Contains-get_or reports k d less) own));
     }

@@ -17,7 +17,7 @@ use Rattle.affinity.specs.Cards.{failing_true}
 use Rattle.suspicious_lines.specs.Suspects.{successful_runs}
 use Rattle.bug_rounds.specs.declared.bug.Bug.{Bug}
 use Rattle.bug_rounds.specs.Live.{AreLive, AreRising, failing_numbers, is_own_number, others_among, own_among}
-use Rattle.bug_rounds.specs.Rounds.{is_own, left_behind, left_by}
+use Rattle.bug_rounds.specs.Rounds.{is_own_run, left_behind, left_by}
 use Rattle.bug_rounds.proofs.Owned.{IsKnown, all-known, numbers-cons}
 
 -- what a round leaves is what a step of iterative elimination leaves
@@ -28,7 +28,7 @@ runs-by r rest false = refl
 pub left-runs : (branches : List Bool) (leader : ℕ) (reports : List Report) → runs_of (left_by branches leader reports) ≡ runs_after_leader branches Failing leader (runs_of reports)
 left-runs branches leader [] = refl
 left-runs branches leader (r ∷ more) =
-    let own = is_own branches leader r in
+    let own = is_own_run branches leader r in
     runs-by r (left_by branches leader more) (not own)
     ∙ ap (λ (rs : List LabelledRun). cond (not own) (run_of_report r ∷ rs) rs) (left-runs branches leader more)
 
@@ -61,12 +61,12 @@ behind-push branches reports (x ∷ more) b = behind-push branches (left_by bran
 pub behind-all : (P : Report → Type 0) (branches : List Bool) (reports : List Report) (bugs : List Bug) → All P reports → All P (left_behind branches reports bugs)
 behind-all P branches reports [] all = all
 behind-all P branches reports (b ∷ more) all =
-    behind-all P branches (left_by branches b.leader.predicate reports) more (All-filter (λ (r : Report). not (is_own branches b.leader.predicate r)) P reports all)
+    behind-all P branches (left_by branches b.leader.predicate reports) more (All-filter (λ (r : Report). not (is_own_run branches b.leader.predicate r)) P reports all)
 
 -- there are no more of them
 pub left-fewer : (branches : List Bool) (leader : ℕ) (reports : List Report) → length (left_by branches leader reports) ≤ length reports
 left-fewer branches leader reports =
-    omega (arith, length-filter_both (is_own branches leader) (λ (r : Report). not (is_own branches leader r)) (λ _. refl) reports)
+    omega (arith, length-filter_both (is_own_run branches leader) (λ (r : Report). not (is_own_run branches leader r)) (λ _. refl) reports)
 
 behind-fewer : (branches : List Bool) (reports : List Report) (bugs : List Bug) → length (left_behind branches reports bugs) ≤ length reports
 behind-fewer branches reports [] = omega arith
@@ -89,7 +89,7 @@ filter-rises test from (r ∷ more) rise = rises-by from r (filter test more) (t
 behind-rises : (branches : List Bool) (from : ℕ) (reports : List Report) (bugs : List Bug) → RunsFrom from reports → RunsFrom from (left_behind branches reports bugs)
 behind-rises branches from reports [] rise = rise
 behind-rises branches from reports (b ∷ more) rise =
-    behind-rises branches from (left_by branches b.leader.predicate reports) more (filter-rises (λ (r : Report). not (is_own branches b.leader.predicate r)) from reports rise)
+    behind-rises branches from (left_by branches b.leader.predicate reports) more (filter-rises (λ (r : Report). not (is_own_run branches b.leader.predicate r)) from reports rise)
 
 later-numbers : (from : ℕ) (reports : List Report) → RunsFrom from reports → All (λ m. from ≤ m) (map (λ (r : Report). r.run) reports)
 later-numbers from [] rise = All-nil (λ m. from ≤ m)
@@ -121,15 +121,15 @@ own-by : (r : Report) (rest : List Report) (ns : List ℕ) (b : Bool) → ns ≡
 own-by r rest ns true is = ap (λ (ms : List ℕ). r.run ∷ ms) is
 own-by r rest ns false is = is
 
-own-first : (branches : List Bool) (reports : List Report) (leader : ℕ) (r : Report) (more : List Report) (f : Bool) → is_failing r.label ≡ f → is_own_number branches reports leader r.run ≡ is_own branches leader r
+own-first : (branches : List Bool) (reports : List Report) (leader : ℕ) (r : Report) (more : List Report) (f : Bool) → is_failing r.label ≡ f → is_own_number branches reports leader r.run ≡ is_own_run branches leader r
     → own_among branches reports leader (failing_numbers more) ≡ failing_true branches more leader → own_among branches reports leader (failing_numbers (r ∷ more)) ≡ failing_true branches (r ∷ more) leader
 own-first branches reports leader r more true is known rest =
     ap (own_among branches reports leader) (numbers-cons r more true is)
     ∙ ap (λ b. cond b (r.run ∷ own_among branches reports leader (failing_numbers more)) (own_among branches reports leader (failing_numbers more))) known
-    ∙ own-by r (filter (is_own branches leader) more) (own_among branches reports leader (failing_numbers more)) (is_own branches leader r) rest
+    ∙ own-by r (filter (is_own_run branches leader) more) (own_among branches reports leader (failing_numbers more)) (is_own_run branches leader r) rest
 own-first branches reports leader r more false is known rest =
     ap (own_among branches reports leader) (numbers-cons r more false is) ∙ rest
-    ∙ ap (λ b. map (λ (x : Report). x.run) (cond b (r ∷ filter (is_own branches leader) more) (filter (is_own branches leader) more))) (sym (ap (λ b. b && is_true branches leader (run_of_report r)) is))
+    ∙ ap (λ b. map (λ (x : Report). x.run) (cond b (r ∷ filter (is_own_run branches leader) more) (filter (is_own_run branches leader) more))) (sym (ap (λ b. b && is_true branches leader (run_of_report r)) is))
 
 pub own-are : (branches : List Bool) (reports : List Report) (leader : ℕ) (live : List Report) → All (IsKnown branches reports) live → own_among branches reports leader (failing_numbers live) ≡ failing_true branches live leader
 own-are branches reports leader [] known = refl
@@ -140,12 +140,12 @@ kept-numbers : (r : Report) (rest : List Report) (b : Bool) → is_failing r.lab
 kept-numbers r rest true is = numbers-cons r rest true is
 kept-numbers r rest false is = refl
 
-others-first : (branches : List Bool) (reports : List Report) (leader : ℕ) (r : Report) (more : List Report) (f : Bool) → is_failing r.label ≡ f → is_own_number branches reports leader r.run ≡ is_own branches leader r
+others-first : (branches : List Bool) (reports : List Report) (leader : ℕ) (r : Report) (more : List Report) (f : Bool) → is_failing r.label ≡ f → is_own_number branches reports leader r.run ≡ is_own_run branches leader r
     → others_among branches reports leader (failing_numbers more) ≡ failing_numbers (left_by branches leader more) → others_among branches reports leader (failing_numbers (r ∷ more)) ≡ failing_numbers (left_by branches leader (r ∷ more))
 others-first branches reports leader r more true is known rest =
     let ns = others_among branches reports leader (failing_numbers more) in
     ap (others_among branches reports leader) (numbers-cons r more true is) ∙ ap (λ b. cond (not b) (r.run ∷ ns) ns) known
-    ∙ ap (λ (ms : List ℕ). cond (not (is_own branches leader r)) (r.run ∷ ms) ms) rest ∙ sym (kept-numbers r (left_by branches leader more) (not (is_own branches leader r)) is)
+    ∙ ap (λ (ms : List ℕ). cond (not (is_own_run branches leader r)) (r.run ∷ ms) ms) rest ∙ sym (kept-numbers r (left_by branches leader more) (not (is_own_run branches leader r)) is)
 others-first branches reports leader r more false is known rest =
     ap (others_among branches reports leader) (numbers-cons r more false is) ∙ rest ∙ sym (numbers-cons r (left_by branches leader more) false is)
     ∙ ap (λ b. failing_numbers (cond (not b) (r ∷ left_by branches leader more) (left_by branches leader more))) (sym (ap (λ b. b && is_true branches leader (run_of_report r)) is))

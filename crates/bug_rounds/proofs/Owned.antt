@@ -12,17 +12,17 @@ use Rattle.elimination_tallies.specs.Runs.{reports_after}
 use Rattle.affinity.specs.Cards.{IsLeastOf}
 use Rattle.suspicious_lines.proofs.Members.{first-member, member-cases, no-member}
 use Rattle.bug_rounds.specs.Live.{AreRising, failing_numbers, is_own_number}
-use Rattle.bug_rounds.specs.Rounds.{is_own}
+use Rattle.bug_rounds.specs.Rounds.{is_own_run}
 
 -- whether a report has this number and is of a leader's own run
 abbrev is_this : List Bool → ℕ → ℕ → Report → Bool
-is_this branches leader run r = (run == r.run) && is_own branches leader r
+is_this branches leader run r = (run == r.run) && is_own_run branches leader r
 
 other-run : (branches : List Bool) (leader run : ℕ) (r : Report) → (run ≡ r.run → ⊥) → is_this branches leader run r ≡ false
-other-run branches leader run r other = ap (λ b. b && is_own branches leader r) (ne_eqb run r.run other)
+other-run branches leader run r other = ap (λ b. b && is_own_run branches leader r) (ne_eqb run r.run other)
 
-same-run : (branches : List Bool) (leader run : ℕ) (r : Report) → run ≡ r.run → is_this branches leader run r ≡ is_own branches leader r
-same-run branches leader run r same = ap (λ b. b && is_own branches leader r) (eq-eqb run r.run same)
+same-run : (branches : List Bool) (leader run : ℕ) (r : Report) → run ≡ r.run → is_this branches leader run r ≡ is_own_run branches leader r
+same-run branches leader run r same = ap (λ b. b && is_own_run branches leader r) (eq-eqb run r.run same)
 
 -- those up to a run don't count, where none of them passes
 any-after : (test : Report → Bool) (run from : ℕ) (reports : List Report) → RunsFrom from reports → ((x : Report) → from ≤ x.run → x.run ≤ run → test x ≡ false) → list_any test reports ≡ list_any test (reports_after run reports)
@@ -56,7 +56,7 @@ own-next branches reports leader run r rise later is =
     ∙ ap (λ b. is_this branches leader run r || b) (none-behind (is_this branches leader run) r.run reports (λ x less. other-run branches leader run x (λ same. omega (arith, later, less, same))))
     ∙ or-false (is_this branches leader run r)
 
-pub own-here : (branches : List Bool) (reports : List Report) (leader run : ℕ) (r : Report) (own : Bool) → RunsFrom 1 reports → run - 1 < r.run → reports_after (run - 1) reports ≡ r ∷ reports_after r.run reports → r.run ≡ run → own ≡ is_own branches leader r
+pub own-here : (branches : List Bool) (reports : List Report) (leader run : ℕ) (r : Report) (own : Bool) → RunsFrom 1 reports → run - 1 < r.run → reports_after (run - 1) reports ≡ r ∷ reports_after r.run reports → r.run ≡ run → own ≡ is_own_run branches leader r
     → own ≡ is_own_number branches reports leader run
 own-here branches reports leader run r own rise later is same own_is = own_is ∙ sym (own-next branches reports leader run r rise later is ∙ same-run branches leader run r (sym same))
 
@@ -79,21 +79,21 @@ member-from from (x ∷ more) r rise has =
           omega (arith, rise.0, later)
     ]
 
-known-in : (branches : List Bool) (leader from : ℕ) (reports : List Report) (r : Report) → RunsFrom from reports → Contains reports r → is_own_number branches reports leader r.run ≡ is_own branches leader r
+known-in : (branches : List Bool) (leader from : ℕ) (reports : List Report) (r : Report) → RunsFrom from reports → Contains reports r → is_own_number branches reports leader r.run ≡ is_own_run branches leader r
 known-in branches leader from [] r rise has = absurd (no-member r has)
 known-in branches leader from (x ∷ more) r rise has =
     elim (member-cases x r more has) [
       | inl same ↦
-          subst (λ (y : Report). is_own_number branches (x ∷ more) leader y.run ≡ is_own branches leader y) same
+          subst (λ (y : Report). is_own_number branches (x ∷ more) leader y.run ≡ is_own_run branches leader y) same
           (ap (λ b. b || is_own_number branches more leader x.run) (same-run branches leader x.run x refl)
-          ∙ ap (λ b. is_own branches leader x || b) (above-none (is_this branches leader x.run) (x.run + 1) more rise.1 (λ y least. other-run branches leader x.run y (λ is. omega (arith, least, is)))) ∙ or-false (is_own branches leader x))
+          ∙ ap (λ b. is_own_run branches leader x || b) (above-none (is_this branches leader x.run) (x.run + 1) more rise.1 (λ y least. other-run branches leader x.run y (λ is. omega (arith, least, is)))) ∙ or-false (is_own_run branches leader x))
       | inr there ↦
           let later = member-from (x.run + 1) more r rise.1 there in
           ap (λ b. b || is_own_number branches more leader r.run) (other-run branches leader r.run x (λ is. omega (arith, later, is))) ∙ known-in branches leader (x.run + 1) more r rise.1 there
     ]
 
 abbrev pub IsKnown : List Bool → List Report → Report → Type 0
-IsKnown branches reports r = (leader : ℕ) → is_own_number branches reports leader r.run ≡ is_own branches leader r
+IsKnown branches reports r = (leader : ℕ) → is_own_number branches reports leader r.run ≡ is_own_run branches leader r
 
 pub all-known : (branches : List Bool) (reports : List Report) → RunsFrom 1 reports → All (IsKnown branches reports) reports
 all-known branches reports rise k d less leader = known-in branches leader 1 reports (slice_index_or reports k d) rise (Contains-get_or reports k d less)

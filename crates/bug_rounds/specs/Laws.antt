@@ -10,7 +10,7 @@ use Rattle.association.specs.declared.suspect.Suspect.{Suspect}
 use Rattle.suspicious_lines.specs.Listing.{AreListed}
 use Rattle.suspicious_lines.specs.Suspects.{successful_runs, suspects_of}
 use Rattle.bug_rounds.specs.declared.bug.Bug.{Bug}
-use Rattle.bug_rounds.specs.Rounds.{AreRounds, IsRound, is_own, left_behind, left_by}
+use Rattle.bug_rounds.specs.Rounds.{AreRounds, IsRound, is_own_run, left_behind, left_by}
 use Rattle.bug_rounds.specs.Text.{AreBugsOf}
 
 -- what a round leaves is what the step of iterative elimination leaves, where the leader's failing runs are discarded
@@ -40,7 +40,7 @@ failing_reports reports = filter (λ (r : Report). is_failing r.label) reports
 abbrev pub runs_of_bugs : List Bool → List Report → List Bug → List Report
 runs_of_bugs branches reports [] = []
 runs_of_bugs branches reports (bug ∷ more) =
-    filter (is_own branches bug.leader.predicate) reports ++ runs_of_bugs branches (left_by branches bug.leader.predicate reports) more
+    filter (is_own_run branches bug.leader.predicate) reports ++ runs_of_bugs branches (left_by branches bug.leader.predicate reports) more
 
 -- the own runs of all bugs and the failing runs that are left are the failing runs, each once
 abbrev pub EachFailingRunIsInOneBugOrLeft : Type 0
@@ -61,7 +61,7 @@ pub record NamesItsFirstRun (branches : List Bool) (reports : List Report) (bug 
   pub number : run.run ≡ bug.first
   pub fails : is_failing run.label ≡ true
   pub is_true_there : is_true branches bug.leader.predicate (run_of_report run) ≡ true
-  pub least : All (λ (r : Report). is_own branches bug.leader.predicate r ≡ true → bug.first ≤ r.run) reports
+  pub least : All (λ (r : Report). is_own_run branches bug.leader.predicate r ≡ true → bug.first ≤ r.run) reports
 
 abbrev pub EachNamesItsFirstRun : Type 0
 EachNamesItsFirstRun = (table : TableParts) (also : ℕ) (reports : List Report) (bug : Bug) → IsRound table also reports bug

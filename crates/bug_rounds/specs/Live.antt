@@ -4,11 +4,11 @@ use Rattle.std.specs.List.{list_any}
 use Rattle.report_file.specs.declared.report.Report.{Report}
 use Rattle.elimination_tallies.specs.declared.labelled.LabelledRun.{LabelledRun}
 use Rattle.elimination_tallies.specs.Recount.{is_failing, runs_of}
-use Rattle.bug_rounds.specs.Rounds.{is_own}
+use Rattle.bug_rounds.specs.Rounds.{is_own_run}
 
 -- whether the report with this number is of a leader's own run
 abbrev pub is_own_number : List Bool → List Report → ℕ → ℕ → Bool
-is_own_number branches reports leader run = list_any (λ (r : Report). (run == r.run) && is_own branches leader r) reports
+is_own_number branches reports leader run = list_any (λ (r : Report). (run == r.run) && is_own_run branches leader r) reports
 
 -- the numbers of the leader's own runs among these, and the other ones
 abbrev pub own_among : List Bool → List Report → ℕ → List ℕ → List ℕ
@@ -31,6 +31,6 @@ pub record AreLive (branches : List Bool) (reports : List Report) (runs : List L
   pub live : List Report
   pub runs_are : runs ≡ runs_of live
   pub numbers_are : numbers ≡ failing_numbers live
-  pub known : All (λ (r : Report). (leader : ℕ) → is_own_number branches reports leader r.run ≡ is_own branches leader r) live
+  pub known : All (λ (r : Report). (leader : ℕ) → is_own_number branches reports leader r.run ≡ is_own_run branches leader r) live
   pub rising : AreRising numbers
   pub few : length runs ≤ 100000

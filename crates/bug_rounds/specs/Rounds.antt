@@ -13,12 +13,12 @@ use Rattle.suspicious_lines.specs.Suspects.{successful_runs, suspects_of}
 use Rattle.bug_rounds.specs.declared.bug.Bug.{Bug}
 
 -- a leader's own run: a failing one in which it was true
-abbrev pub is_own : List Bool → ℕ → Report → Bool
-is_own branches leader r = is_taken branches Failing leader (run_of_report r)
+abbrev pub is_own_run : List Bool → ℕ → Report → Bool
+is_own_run branches leader r = is_taken branches Failing leader (run_of_report r)
 
 -- the reports of all but its own runs
 abbrev pub left_by : List Bool → ℕ → List Report → List Report
-left_by branches leader reports = filter (λ (r : Report). not (is_own branches leader r)) reports
+left_by branches leader reports = filter (λ (r : Report). not (is_own_run branches leader r)) reports
 
 -- one round: its leader is the best suspect of these runs; behind it stand the next ones, in one function each more than three lines from those before it; and
 -- the least number of the leader's own runs

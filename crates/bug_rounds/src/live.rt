@@ -1,6 +1,6 @@
 ghost use Rattle.std.specs.Prelude.{◌≡◌, true, Some, IfOk};
 ghost use Rattle.std.specs.List.{find, list_any};
-ghost use Rattle.bug_rounds.specs.Rounds.{is_own};
+ghost use Rattle.bug_rounds.specs.Rounds.{is_own_run};
 ghost use Rattle.bug_rounds.specs.Live.{failing_numbers, is_own_number, others_among};
 
 use cbi_base::Memory;
@@ -26,8 +26,8 @@ pub fn failing_numbers(alloc: Global, collection: &Collection) -> Result<Vec<u32
 }
 
 // Whether a report is of a leader's own run: a failing one in which the leader was true. Of the numbers only the kinds of the sites are looked at.
-fn is_own(numbers: &Numbers, leader: u32, report: &Report) -> bool
-    ensures { result ≡ is_own numbers.now.branches leader report.now }
+fn is_own_run(numbers: &Numbers, leader: u32, report: &Report) -> bool
+    ensures { result ≡ is_own_run numbers.now.branches leader report.now }
 {
     fails(report.label) && is_true(leader, numbers, report.entries.as_slice())
 }
@@ -44,7 +44,7 @@ fn is_own_number(collection: &Collection, numbers: &Numbers, leader: u32, run: u
     if report.run != run {
         return false;
     }
-    is_own(numbers, leader, report)
+    is_own_run(numbers, leader, report)
 }
 
 /// The number of the first of these runs that is a leader's own, where there is one.

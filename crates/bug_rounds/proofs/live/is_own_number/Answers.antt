@@ -1,7 +1,7 @@
 use Rattle.std.proofs.Common.{◌∙◌, ap, arith, sym}
 use Rattle.elimination_tallies.proofs.RunLemmas.{collection-rises}
 use Rattle.elimination_tallies.specs.Runs.{reports_after}
-use Rattle.bug_rounds.specs.Rounds.{is_own}
+use Rattle.bug_rounds.specs.Rounds.{is_own_run}
 use Rattle.bug_rounds.proofs.Owned.{own-elsewhere, own-here, own-missing}
 use Rattle.bug_rounds.proofs.live.is_own_number.Goals as goal
 
@@ -21,5 +21,5 @@ pub returns : goal.returns
 returns c =
     let reports = c.args.collection.now.reports in
     let r = c.in-Some.report.now in
-    own-here c.args.collection.now.branches reports c.args.leader c.args.run r c.is_own.result (collection-rises c.args.collection.now c.keeps.ensures) (omega (arith, c.in-Some.ensures.later, c.saturating_sub.ensures))
-    (ap (λ n. reports_after n reports) (sym c.saturating_sub.ensures) ∙ c.in-Some.ensures.value) c.if-report-run.false (c.is_own.ensures ∙ ap (λ bs. is_own bs c.args.leader r) c.requires)
+    own-here c.args.collection.now.branches reports c.args.leader c.args.run r c.is_own_run.result (collection-rises c.args.collection.now c.keeps.ensures) (omega (arith, c.in-Some.ensures.later, c.saturating_sub.ensures))
+    (ap (λ n. reports_after n reports) (sym c.saturating_sub.ensures) ∙ c.in-Some.ensures.value) c.if-report-run.false (c.is_own_run.ensures ∙ ap (λ bs. is_own_run bs c.args.leader r) c.requires)
