@@ -15,7 +15,7 @@ use Rattle.affinity.specs.Cards.{IsLeastOf}
 use Rattle.suspicious_lines.specs.Listing.{AreListed}
 use Rattle.suspicious_lines.specs.Suspects.{successful_runs, suspects_of}
 use Rattle.bug_rounds.specs.declared.bug.Bug.{Bug}
-use Rattle.bug_rounds.specs.Rounds.{AreRounds, IsRound, is_own, left_behind, left_by}
+use Rattle.bug_rounds.specs.Rounds.{AreRounds, IsRound, is_own_run, left_behind, left_by}
 use Rattle.bug_rounds.specs.Text.{AreBugsOf, bugs_text}
 use Rattle.compiler.specs.Accepted.{IsAccepted}
 use Rattle.compiler.specs.Compiled.{IsCompiled}
@@ -40,8 +40,8 @@ module _ (branches : List Bool) where
   left-alike leader (x ∷ xs) (y ∷ ys) alike =
       let others = left_by branches leader xs in
       let rest = left_by branches leader ys in
-      subst (λ run. AreSeenAlike (cond (not (is_own branches leader x)) (x ∷ others) others) (cond (not (is_taken branches Failing leader run)) (y ∷ rest) rest)) alike.1
-      (kept-alike (not (is_own branches leader x)) x y others rest alike.0 alike.1 (left-alike leader xs ys alike.2))
+      subst (λ run. AreSeenAlike (cond (not (is_own_run branches leader x)) (x ∷ others) others) (cond (not (is_taken branches Failing leader run)) (y ∷ rest) rest)) alike.1
+      (kept-alike (not (is_own_run branches leader x)) x y others rest alike.0 alike.1 (left-alike leader xs ys alike.2))
 
   left-behind-alike : (xs ys : List Report) (bugs : List Bug) → AreSeenAlike xs ys → AreSeenAlike (left_behind branches xs bugs) (left_behind branches ys bugs)
   left-behind-alike xs ys [] alike = alike

@@ -20,8 +20,8 @@ use std::alloc::Global;
 
 /// Nothing on the way is refused: not a run of a file that `transform` wrote, with a bank's text and an input that fits; not the texts that `run` and
 /// `collect` left of runs of such a file, where runs of one number are one run and the limits of collections hold for them, each counted once; and not
-/// such a collection beside its file, for `rank`, `cards`, `pairs`, `lines` and `bugs`, whose refusals are one and the same; nor such a collection of a share's program
-/// beside that one and the program of all sites, for `widen`.
+/// such a collection beside its file, for `rank`, `cards`, `pairs`, `lines` and `bugs`, whose refusals are one and the same; nor such a collection of a
+/// share's program beside that one and the program of all sites, for `widen`.
 ///
 /// So by the clause `complete` of the top call, where the words read as such a command (`usage_only`), the names are held and the store and out are
 /// sound (`reads_stay`, `writes_stay`, `out_stays`), its status is 0 or 7.
