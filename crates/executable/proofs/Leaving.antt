@@ -13,7 +13,7 @@ use Rattle.headline.specs.Handed.{HoldRuns, IsLeftByCollect, IsLeftByRun}
 use Rattle.headline.specs.Handed.HoldRuns.{ACollection, AReport, NoTexts}
 use Rattle.headline.specs.Running.{made_of}
 use Rattle.headline.proofs.ListedRanked.{have-calls}
-use Rattle.executable.specs.Call.{Call, found_by, left_by}
+use Rattle.executable.specs.Call.{Call, found_by_call, left_by_call}
 use Rattle.executable.specs.Runs.{AllMake, AreRunsOfLines, IsRunOfCall}
 use Rattle.executable.specs.Steps.{Collects, Leave, LeavesReport, RunsListed, Transforms}
 use Rattle.executable.specs.Steps.Leave.{ACollect, ARun, NoCalls}
@@ -67,8 +67,8 @@ module _ (program : List ℕ) where
   list-left call r =
       let s = r.succeeds in
       let d = done-of (Runs r.words) call s in
-      let found = found_by call s.is_call.taken s.is_call.told_before in
-      let left = left_by call s.is_call.taken s.is_call.told_after in
+      let found = found_by_call call s.is_call.taken s.is_call.told_before in
+      let left = left_by_call call s.is_call.taken s.is_call.told_after in
       let all : HaveAllRun as_told r.words found left d.0 call.out = put-out (HaveAllRun as_told r.words found left d.0) s.is_call.taken call.out d.1.out in
       let lists = all.are.is_plan in
       let same : all.texts.program ≡ program = read-stands call.before r.words.program program all.texts.program r.reads lists.are_texts.program_read in

@@ -18,7 +18,7 @@ use Rattle.command_study.specs.Study.{IsStudyOf, study_text}
 use Rattle.headline.specs.Chain.{AreMadeFor, Made, meant_table}
 use Rattle.headline.proofs.Ranking.{has-table}
 use Rattle.headline.proofs.Studies.{all-made, length-runs}
-use Rattle.executable.specs.Call.{Call, found_by, left_by}
+use Rattle.executable.specs.Call.{Call, found_by_call, left_by_call}
 use Rattle.executable.specs.Closed.{IsElimination, IsStudyOfMeantRuns}
 use Rattle.executable.specs.Steps.{Studies}
 use Rattle.executable.proofs.Reading.{done-of, put-out, read-all}
@@ -76,8 +76,8 @@ pub studies : OneBank → OneInput → (text : List ℕ) (words : StudyWords) (s
 studies one_bank one_input text words study call =
     let s = call.succeeds in
     let d = done-of (Study words) study s in
-    let found = found_by study s.is_call.taken s.is_call.told_before in
-    let left = left_by study s.is_call.taken s.is_call.told_after in
+    let found = found_by_call study s.is_call.taken s.is_call.told_before in
+    let left = left_by_call study s.is_call.taken s.is_call.told_after in
     let is : IsStudyOf as_told words found left study.out = put-out (IsStudyOf as_told words found left) s.is_call.taken study.out d.1.0.out in
     let whole : is.bytes ≡ text =
     read-all study.before words.text text is.bytes text_limit call.reads is.read is.studied.study.compiled.accepted.has_tree.has_tokens.short in

@@ -26,16 +26,16 @@ abbrev pub command_of : Call → Option Command
 command_of call = command_of_words call.words
 
 -- what the call found and what it left, where out had taken this before it, and each watcher was told this before and after it
-abbrev pub found_by : Call → (taken : List ℕ) → (told : List (List Observation)) → Outside (List Observation)
-found_by call taken told = outside_state (Some call.before) (Some taken) told
+abbrev pub found_by_call : Call → (taken : List ℕ) → (told : List (List Observation)) → Outside (List Observation)
+found_by_call call taken told = outside_state (Some call.before) (Some taken) told
 
-abbrev pub left_by : Call → (taken : List ℕ) → (told : List (List Observation)) → Outside (List Observation)
-left_by call taken told = outside_state (Some call.after) (Some (taken ++ call.out)) told
+abbrev pub left_by_call : Call → (taken : List ℕ) → (told : List (List Observation)) → Outside (List Observation)
+left_by_call call taken told = outside_state (Some call.after) (Some (taken ++ call.out)) told
 
 -- what was done of this command, and what was said of it
 abbrev pub IsDone : Option Command → (call : Call) → (taken : List ℕ) → (told_before told_after : List (List Observation)) → Type 0
 IsDone command call taken told_before told_after =
-    (said : Done) × Did (λ (told : List Observation). told) command (found_by call taken told_before) (left_by call taken told_after) said
+    (said : Done) × Did (λ (told : List Observation). told) command (found_by_call call taken told_before) (left_by_call call taken told_after) said
 
 -- What the top call says at the end of a call, by the clauses of `top_call::cbi` of the same names, over a store and an out that tell what they hold and
 -- have taken.
