@@ -113,7 +113,7 @@ def arguments() -> argparse.Namespace:
 
 
 def whole(found: Results, chosen: argparse.Namespace) -> bool:
-    return all(f"chi {rate} {count}" in found["ways"] for rate in chosen.rates for count in chosen.runs)
+    return all(f"lines {rate} {count}" in found["ways"] for rate in chosen.rates for count in chosen.runs)
 
 
 def missing(subject: Subject, chosen: argparse.Namespace, known: Results) -> Work:
