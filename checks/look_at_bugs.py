@@ -119,7 +119,7 @@ class Lists(Case):
         said = "old/cbi has no commands lines and bugs, which list what is shown: it is older than this script (./build FOLDER makes one that has them)\n"
         for words in (["cbi-hunt", "prog.c", "--inputs", "in", "--cbi", script], ["cbi-show", "rank", "--program", "prog.cbi", "--reports", "runs", "--cbi", script]):
             self.assertEqual(self.call(*words, due=2), ("", f"{words[0]}: {self.room}/{said}"))
-        self.assertNotIn("explain", self.call("cbi-show", "rank", "--program", "prog.cbi", "--cbi", script)[0])
+        self.assertTrue(self.call("cbi-show", "rank", "--program", "prog.cbi", "--cbi", script)[0].startswith("rank:2 in main: if was true\n"))
 
     def test_a_hunt_that_an_older_one_kept_is_listed_anew(self):
         self.write("prog.c", looking.UPPER)
