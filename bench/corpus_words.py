@@ -9,9 +9,10 @@ from corpus_scores import within_by_chance
 Faults = Sequence[Any]
 FEW = 5  # failing runs
 SURE = 0.05
-LATE = (("truth", "lines by a predicate's truth"), ("turns", "rows and lines by reach in turn"), ("reach", "lines by reach"), ("shown", "rows as `cbi-hunt` shows them"))
-JUDGED = "truth"
-HEADED = (("rows 1 {}", "rows of `rank`"), ("truth 1 {}", "lines by a predicate's truth"), ("thin-chi 1 {}", "lines by chi-square, thinned"),
+LATE = (("lines", "`lines`"), ("also", "the places of `bugs`"), ("bugs", "the leaders of `bugs`"), ("truth", "lines by Ochiai of a predicate's truth"))
+BESIDE = (("rows 1 {}", "rows of `rank`"), ("Ochiai {}", "Ochiai over gcov"), ("thin-Ochiai {}", "the same, thinned"))
+JUDGED = "lines"
+HEADED = (("rows 1 {}", "rows of `rank`"), ("card 1 {}", "the first card of `cards`"), ("lines 1 {}", "`lines`"), ("bugs 1 {}", "`bugs`, its leaders"), ("also 1 {}", "`bugs`, its places as they are printed"),
           ("Ochiai {}", "lines by Ochiai over gcov"), ("thin-Ochiai {}", "the same, thinned"))
 KINDS_OF_PLACE = ("function", "line", "near")
 
@@ -62,19 +63,21 @@ def measured(faults: Faults, runs: int) -> str:
     return f"{len(faults)} faults in {programs} programs, {runs:,} runs each"
 
 
-def headline(opened: Faults, kept: Faults, three: Sequence[Any], runs: int) -> str:
+def headline(opened: Faults, kept: Faults, new: Faults, three: Sequence[Any], runs: int) -> str:
     """The two made lines of README and a table: of how many faults the first five places are right."""
-    both = [opened] + [kept] * has(kept, f"turns 1 {runs}")
-    rows = [[name] + [str(among(some, form.format(runs), what)) for some in both for what in KINDS_OF_PLACE]
-            for form, name in HEADED if all(has(some, form.format(runs)) for some in both)]
-    rows.append(["five lines by chance"] + [by_lines_of_chance(some, what, 5) for some in both for what in KINDS_OF_PLACE])
+    sets = [(some, which) for some, which in ((new, "kept back for this"), (kept, "kept back before"), (opened, "open")) if has(some, f"turns 1 {runs}")]
+    rows = [[name] + [str(among(some, form.format(runs), what)) for some, _ in sets for what in KINDS_OF_PLACE]
+            for form, name in HEADED if all(has(some, form.format(runs)) for some, _ in sets)]
+    rows.append(["five lines by chance"] + [by_lines_of_chance(some, what, 5) for some, _ in sets for what in KINDS_OF_PLACE])
     head = ["Among the first five"]
-    for some, which in zip(both, ("", " kept back")):
-        head += [f"of {len(some)}{which}: the fault's function", "its line", "a line within five"]
+    for some, which in sets:
+        head += [f"of {len(some)} {which}: the fault's function", "its line", "a line within five"]
     every = [fault for one in three for fault in one["faults"]]
     own = sum(capped(fault["own"]) <= 5 for fault in every)
-    together = f"\n\nOf three faults in one program at once {own} of {len(every)} have a row of their own among the first five." if every else ""
-    return f"{measured([*opened, *kept], runs)}.\n\n{table(head, rows)}{together}"
+    bugs = [fault for fault in every if "printed" in fault and capped(fault["printed"]["own"]) <= 5]
+    listed = f", and {len(bugs)} a bug of their own" if all("printed" in fault for fault in every) else ""
+    together = f"\n\nOf three faults in one program at once {own} of {len(every)} have a row of their own among the first five{listed}." if every else ""
+    return f"{measured([*opened, *kept, *new], runs)}.\n\n{table(head, rows)}{together}"
 
 
 def compared(faults: Faults, way: str, name: str) -> Tuple[int, List[str]]:
@@ -82,9 +85,10 @@ def compared(faults: Faults, way: str, name: str) -> Tuple[int, List[str]]:
     return near(faults, way), [name] + [str(among(faults, way, what)) for what in KINDS_OF_PLACE] + [looked(faults, way)]
 
 
-NAMES = (("rows", "rows of `rank`"), ("shown", "rows as `cbi-hunt` shows them"), ("narrow", "rows without pairs"), ("card", "the first card"),
+NAMES = (("rows", "rows of `rank`"), ("lines", "**`lines`**"), ("bugs", "**`bugs`, its leaders**"), ("also", "**`bugs`, its places as they are printed**"),
+         ("shown", "rows as `cbi-hunt` shows them"), ("narrow", "rows without pairs"), ("card", "the first card"),
          ("pair", "the best pair"), ("importance", "predicates by Importance, nothing set aside"), ("increase", "predicates by Increase alone"),
-         ("reach", "lines by reach"), ("truth", "lines by a predicate's truth"))
+         ("reach", "lines by reach"), ("truth", "lines by Ochiai of a predicate's truth"))
 
 
 def beside_ochiai(faults: Faults, runs: int) -> str:
@@ -105,8 +109,9 @@ def of_chance(faults: Faults, runs: int) -> str:
 
 def of_thinned(faults: Faults, runs: int) -> str:
     """Coverage and truth with the same thinning."""
-    ways = [(form.format(runs), name) for form, name in (("truth 1 {}", "lines by a predicate's truth"), ("thin-truth 1 {}", "the same, thinned"),
+    ways = [(form.format(runs), name) for form, name in (("truth 1 {}", "lines by Ochiai of a predicate's truth"), ("thin-truth 1 {}", "the same, thinned"),
             ("chi 1 {}", "lines by the chi-square of a predicate's truth"), ("thin-chi 1 {}", "the same, thinned"),
+            ("lines 1 {}", "`lines`, which are thinned"), ("own-lines 1 {}", "`lines` as `cbi-hunt` asks for them, without what the port added"),
             ("Ochiai {}", "Ochiai over gcov"), ("thin-Ochiai {}", "the same, thinned"))]
     there = [(way, name) for way, name in ways if has(faults, way)]
     if not any(way.startswith("thin-") for way, _ in there):
@@ -127,7 +132,7 @@ def of_rankings(faults: Faults, runs: int) -> str:
         lines.append(f"- **Pairs.** {pairs} of {len(faults)} first rows are pairs, by the most runs that there are. Without the scheme "
                      f"{near(faults, f'narrow 1 {runs}')} have a row near in five, and with it {near(faults, f'rows 1 {runs}')}.")
     lines.append(f"- **Few failing runs.** {len(few)} of {len(faults)} faults failed in fewer than {FEW} of {runs:,} runs; rows are near {near(few, f'rows 1 {runs}')} "
-                 f"of them, lines by a predicate's truth {near(few, f'truth 1 {runs}')}, Ochiai {near(few, f'Ochiai {runs}')}.")
+                 f"of them, `lines` {near(few, f'lines 1 {runs}')}, Ochiai {near(few, f'Ochiai {runs}')}.")
     return "\n".join(lines)
 
 
@@ -141,7 +146,7 @@ def by_gcc_alone(faults: Faults) -> str:
 
 
 def kinds_unseen(faults: Faults, runs: int) -> str:
-    """The kinds of which neither a row nor a line by truth is near in five for most."""
+    """The kinds of which neither a row nor one of `lines` is near in five for most."""
     def worst(way: str) -> List[str]:
         kinds = sorted({fault["kind"] for fault in faults})
         found = []
@@ -152,7 +157,7 @@ def kinds_unseen(faults: Faults, runs: int) -> str:
         return found
 
     return (f"By rows fewer than half are near in five of these kinds: {', '.join(worst('rows')) or 'none'}. "
-            f"By lines of a predicate's truth: {', '.join(worst('truth')) or 'none'}.")
+            f"By `lines`: {', '.join(worst('lines')) or 'none'}.")
 
 
 def by_chance(ahead: int, behind: int) -> float:
@@ -176,19 +181,18 @@ def beside(sets: Sequence[Faults], way: str, other: str) -> List[str]:
     return cells
 
 
-def decided(kept: Faults, opened: Faults, runs: int) -> str:
+def decided(new: Faults, kept: Faults, opened: Faults, runs: int) -> str:
     """What the faults that were kept back say of the ways that were added late, and of the one that is judged."""
-    if not has(kept, f"turns 1 {runs}"):
+    if not has(new, f"lines 1 {runs}"):
         return "The faults that are kept back aren't measured yet."
-    sets, others = (kept, opened, [*kept, *opened]), ((f"rows 1 {runs}", "rows of `rank`"), (f"Ochiai {runs}", "Ochiai over gcov"))
-    rows = [[name, other] + beside(sets, f"{way} 1 {runs}", form) for way, name in LATE if has(kept, f"{way} 1 {runs}") for form, other in others]
-    judged, shown, coverage = f"{JUDGED} 1 {runs}", f"rows 1 {runs}", f"Ochiai {runs}"
-    (ahead, behind), (over, under) = apart_by(kept, judged, shown), apart_by(kept, judged, coverage)
-    first = "more than chance makes of so few" if ahead > behind and by_chance(ahead, behind) <= SURE else "no more than chance makes of so few"
-    second = "more than chance makes of so few" if over > under and by_chance(over, under) <= SURE else "no more than chance makes of so few"
-    head = ["Way", "beside", f"{len(kept)} kept back", f"{len(opened)} open", f"all {len(kept) + len(opened)}"]
-    return (f"{table(head, rows)}\n\nOf the faults that were kept back {dict(LATE)[JUDGED]} have {ahead} near in five that rows haven't, and rows {behind} that they "
-            f"haven't: {first}. Beside Ochiai over gcov it is {over} to {under}: {second}.")
+    sets = [(some, which) for some, which in ((new, f"{len(new)} kept back for this"), (kept, f"{len(kept)} kept back before"), (opened, f"{len(opened)} open")) if has(some, f"lines 1 {runs}")]
+    rows = [[name, other] + beside([some for some, _ in sets], f"{way} 1 {runs}", form.format(runs)) for way, name in LATE for form, other in BESIDE if has(new, form.format(runs))]
+    said = [f"Of the {len(new)} faults that were kept back for this {dict(LATE)[JUDGED]} have"]
+    for (form, other), joined in zip(BESIDE, ("", "; beside", "; beside")):
+        ahead, behind = apart_by(new, f"{JUDGED} 1 {runs}", form.format(runs))
+        sure = "more than chance makes of so few" if ahead > behind and by_chance(ahead, behind) <= SURE else "no more than chance makes of so few"
+        said.append(f"{joined} {other} {ahead} to {behind}: {sure}" if joined else f" {ahead} near in five that rows of `rank` haven't, and these {behind} that they haven't: {sure}")
+    return f"{table(['Way', 'beside', *(which for _, which in sets)], rows)}\n\n{''.join(said)}."
 
 
 def is_pair(text: str) -> bool:
