@@ -167,9 +167,10 @@ def by_kind(faults: Sequence[Any], runs: int) -> str:
     for kind in (*KINDS, *NEW_KINDS):
         some = [fault for fault in faults if fault["kind"] == kind]
         if some:
-            rows.append([kind, str(len(some)), within(some, row, "near", 5), within(some, line, "near", 5), within(some, line, "function", 5), within(some, line, "line", 5), within(some, also, "near", 5),
-                         within(some, coverage, "near", 5), within(some, f"thin-{coverage}", "near", 5), percent(median(exams(some, row))), percent(median(exams(some, line))), percent(median(exams(some, coverage)))])
-    return table(["Kind", "Faults", "rows: near in 5", "`lines`: near in 5", "the function in 5", "the line in 5", "places of `bugs`: near in 5", "Ochiai: near in 5", "thinned",
+            rows.append([kind, str(len(some)), within(some, row, "near", 5), within(some, line, "near", 5), within(some, line, "function", 5), within(some, line, "line", 5)]
+                        + [within(some, f"lines {rate} {runs}", "near", 5) for rate in (5, 100)] + [within(some, also, "near", 5), within(some, coverage, "near", 5), within(some, f"thin-{coverage}", "near", 5)]
+                        + [percent(median(exams(some, way))) for way in (row, line, coverage)])
+    return table(["Kind", "Faults", "rows: near in 5", "`lines`: near in 5", "the function in 5", "the line in 5", "near at rate 5", "at rate 100", "places of `bugs`: near in 5", "Ochiai: near in 5", "thinned",
                   "EXAM of rows, median", "of `lines`", "of Ochiai"], rows)
 
 
