@@ -378,7 +378,8 @@ def parts(results: Results) -> Dict[str, str]:
     for fault in opened + kept + new:
         add_turns(fault)
     made = {"three": three_at_once(results), "three summed": three_summed(results), "speeds": speeds(results, most), "corpus": corpus_table(),
-            "headline": words.headline(opened, kept, new, three_of(results)[1], runs), "decided": words.decided(new, kept, opened, runs)}
+            "headline": words.headline(opened, kept, new, three_of(results)[1], runs), "decided": words.decided(new, kept, opened, runs),
+            "aims": words.aims(new, kept, opened, three_of(results)[1], runs)}
     for some, prefix in ((opened, ""), (kept, "kept "), (new, "new ")):
         if some:
             made.update(of_faults(some, runs, most, prefix))
