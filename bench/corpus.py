@@ -1,5 +1,5 @@
 #!/usr/bin/env python3
-"""Measures how far the rows of `cbi` are from known faults, beside coverage-based ranking on the same runs.
+"""Measures how far what `cbi lines`, `bugs`, `rank`, `cards` and `pairs` print is from known faults, beside coverage-based ranking on the same runs.
 
 usage: corpus.py CBI [--faults all|open|kept|new] [--runs N,..] [--rates D,..] [--again N,K] [--three N,..] [--table NAME:N,..] [--jobs N] [--results FILE] [--write FILE ..] [NAME ..]
        corpus.py --from FILE [--write FILE ..]

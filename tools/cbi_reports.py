@@ -1,4 +1,4 @@
-"""What the runs of a collection saw, as a table of sites; and whose a failing run is, by the bugs that `cbi bugs` lists. Not proved.
+"""What the runs of a collection saw, as a table of sites; and which bug of those that `cbi bugs` lists a failing run belongs to. Not proved.
 
 Only runs that failed or succeeded count.
 """
@@ -24,7 +24,7 @@ class Round(NamedTuple):
 
 
 def strength_of(a: int, b: int, failing: int, successful: int) -> int:
-    """The strength of a predicate that is true in so many of the failing and of the other runs, as docs/COMMANDS.md has it: in millionths, rounded down."""
+    """The strength of a predicate that is true in so many of the failing and of the other runs, as docs/METHOD.md has it: in millionths, rounded down."""
     e, divisor = max(0, a * successful - b * failing), failing * successful * (a + b) * (failing + successful - a - b)
     return e * e * MILLION // divisor if divisor else 0
 
