@@ -15,8 +15,10 @@ from corpus_words import by_lines_of_chance, capped, percent, table
 Results = Dict[str, Any]
 WITHIN = (("function", 5), ("line", 5), ("near", 1), ("near", 3), ("near", 5), ("near", 10))
 SHOWN = 1000  # runs of which tables without a number in their name and plots are made, where there are so many
-WAYS = (("rows {rate} {runs}", "`rank`"), ("lines {rate} {runs}", "`lines`"), ("own-lines {rate} {runs}", "the same as `cbi-hunt` asks for it"), ("bugs {rate} {runs}", "`bugs`, its leaders"),
-        ("also {rate} {runs}", "`bugs`, its places as they are printed"), ("own-also {rate} {runs}", "the same as `cbi-hunt` asks for it"), ("shown {rate} {runs}", "`rank` as `cbi-hunt` shows it"), ("narrow {rate} {runs}", "`rank` of branches and returns alone"),
+WAYS = (("rows {rate} {runs}", "`rank`"), ("lines {rate} {runs}", "`lines`"), ("own-lines {rate} {runs}", "the same as `cbi-hunt` asks for it"),
+        ("bugs {rate} {runs}", "`bugs`, its leaders"), ("also {rate} {runs}", "`bugs`, its places as they are printed"),
+        ("own-also {rate} {runs}", "the same as `cbi-hunt` asks for it"),
+        ("shown {rate} {runs}", "`rank` as `cbi-hunt` shows it"), ("narrow {rate} {runs}", "`rank` of branches and returns alone"),
         ("card {rate} {runs}", "the first card of `cards`"), ("pair {rate} {runs}", "`pairs`"),
         ("importance {rate} {runs}", "predicates by Importance, nothing set aside"), ("increase {rate} {runs}", "predicates by Increase alone"),
         ("reach {rate} {runs}", "lines with sites by reach (Ochiai of being observed)"),
@@ -101,12 +103,13 @@ def by_rate(faults: Sequence[Any]) -> str:
         way = f"rows {rate} {runs}"
         rows.append([f"{runs:,}", str(rate)] + [within(faults, way, "near", most) for most in (1, 3, 5)]
                     + [within(faults, way, "function", 5), percent(median(exams(faults, way)))]
-                    + [within(faults, f"lines {rate} {runs}", "near", most) for most in (1, 3, 5)] + [within(faults, f"lines {rate} {runs}", "function", 5)]
+                    + [within(faults, f"lines {rate} {runs}", "near", most) for most in (1, 3, 5)]
+                    + [within(faults, f"lines {rate} {runs}", "function", 5)]
                     + [within(faults, f"{other} {rate} {runs}", "near", 5) if words.has(faults, f"{other} {rate} {runs}") else ""
                        for other in ("bugs", "also", "narrow", "card", "importance", "reach", "truth")]
                     + [within(faults, f"Ochiai {runs}", "near", 5) if rate == 1 else ""])
-    return table(["Runs", "Rate", "rows: near in 1", "in 3", "in 5", "the function in 5", "EXAM, median", "`lines`: near in 1", "in 3", "in 5", "the function in 5", "leaders of `bugs`: near in 5", "places of `bugs`",
-                  "rows without pairs", "first card", "Importance", "reach", "truth", "Ochiai"], rows)
+    return table(["Runs", "Rate", "rows: near in 1", "in 3", "in 5", "the function in 5", "EXAM, median", "`lines`: near in 1", "in 3", "in 5", "the function in 5",
+                  "leaders of `bugs`: near in 5", "places of `bugs`", "rows without pairs", "first card", "Importance", "reach", "truth", "Ochiai"], rows)
 
 
 def by_policy(faults: Sequence[Any]) -> str:
@@ -233,12 +236,14 @@ def three_of(results: Results) -> Tuple[int, List[Any]]:
 
 
 def three_at_once(results: Results) -> str:
+    listed = (("printed", "own"), ("printed", "named"), ("printed", "also", "near"), ("printed", "lines", "near"), ("Ochiai", "near"))
     rows = []
     for three in three_of(results)[1]:
         for place, fault in enumerate(three["faults"]):
             rows.append([three["program"] if place == 0 else "", fault["fault"], str(fault["failing alone"]), told(fault["own"]), told(fault["near"]),
-                         *(told(value(fault)) for value in (picked("printed", "own"), picked("printed", "named"), picked("printed", "also", "near"), picked("printed", "lines", "near"), picked("Ochiai", "near")))])
-    return table(["Program", "Fault", "failing runs", "row of its own", "row near it", "bug of its own", "that has a place near it", "place of `bugs` near it", "`lines`: near", "Ochiai: near"], rows)
+                         *(told(picked(*keys)(fault)) for keys in listed)])
+    return table(["Program", "Fault", "failing runs", "row of its own", "row near it", "bug of its own", "that has a place near it", "place of `bugs` near it",
+                  "`lines`: near", "Ochiai: near"], rows)
 
 
 Value = Callable[[Any], Optional[float]]

@@ -12,8 +12,9 @@ SURE = 0.05
 LATE = (("lines", "`lines`"), ("own-lines", "`lines`, without what the port added"), ("also", "the places of `bugs`"), ("bugs", "the leaders of `bugs`"), ("truth", "lines by Ochiai of a predicate's truth"))
 BESIDE = (("rows 1 {}", "rows of `rank`"), ("Ochiai {}", "Ochiai over gcov"), ("thin-Ochiai {}", "Ochiai over gcov, thinned"))
 JUDGED = "lines"
-HEADED = (("rows 1 {}", "rows of `rank`"), ("card 1 {}", "the first card of `cards`"), ("lines 1 {}", "`lines`"), ("own-lines 1 {}", "the same as `cbi-hunt` asks for it, without what the port added"), ("bugs 1 {}", "`bugs`, its leaders"), ("also 1 {}", "`bugs`, its places as they are printed"),
-          ("Ochiai {}", "lines by Ochiai over gcov"), ("thin-Ochiai {}", "the same, thinned"))
+HEADED = (("rows 1 {}", "rows of `rank`"), ("card 1 {}", "the first card of `cards`"), ("lines 1 {}", "`lines`"),
+          ("own-lines 1 {}", "the same as `cbi-hunt` asks for it, without what the port added"), ("bugs 1 {}", "`bugs`, its leaders"),
+          ("also 1 {}", "`bugs`, its places as they are printed"), ("Ochiai {}", "lines by Ochiai over gcov"), ("thin-Ochiai {}", "the same, thinned"))
 KINDS_OF_PLACE = ("function", "line", "near")
 # What `lines` was to reach: of 24 faults that were kept back before, by a trial of the same definition apart from `cbi`.
 WANTED = (("near", 1, 19), ("near", 5, 19), ("near", 100, 15), ("function", 1, 21))
@@ -210,10 +211,10 @@ def aims(new: Faults, kept: Faults, opened: Faults, three: Sequence[Any], runs: 
     found = [aim for some, which in ((new, "kept back for this"), (kept, "kept back before"), (opened, "open")) if has(some, f"lines 1 {runs}") for aim in aims_of(some, which, runs)]
     every = [fault for one in three for fault in one["faults"] if "printed" in fault]
     if every:
-        own, near_it = ([sum(capped(value) <= 5 for value in values) for values in zip(*pairs)] for pairs in (
-            [(fault["own"], fault["printed"]["own"]) for fault in every], [(fault["near"], fault["printed"]["named"]) for fault in every]))
-        found += [Aim(f"of {len(every)} faults, three at once: a bug of its own among the first five, as often as a row", own[0], own[1]),
-                  Aim("the same with one of its places near, three times as often as a row is near", 3 * near_it[0], near_it[1])]
+        rows_own, rows_near = (sum(capped(fault[what]) <= 5 for fault in every) for what in ("own", "near"))
+        bugs_own, bugs_named = (sum(capped(fault["printed"][what]) <= 5 for fault in every) for what in ("own", "named"))
+        found += [Aim(f"of {len(every)} faults, three at once: a bug of its own among the first five, as often as a row", rows_own, bugs_own),
+                  Aim("the same with one of its places near, three times as often as a row is near", 3 * rows_near, bugs_named)]
     rows = [[aim.what, f"{aim.wanted}", f"{aim.reached}", "" if aim.reached >= aim.wanted else "missed"] for aim in sorted(found, key=lambda aim: aim.reached >= aim.wanted)]
     return table(["Aim", "wanted", "reached", ""], rows)
 
@@ -221,13 +222,17 @@ def aims(new: Faults, kept: Faults, opened: Faults, three: Sequence[Any], runs: 
 def aims_of(faults: Faults, which: str, runs: int) -> List[Aim]:
     """The aims for a set of faults; shares of another set are rounded up."""
     of = f"of {len(faults)} {which}"
-    found = [Aim(f"{of}: {'a line within five' if what == 'near' else 'the function'} among the first five of `lines` at rate {rate}", -(-wanted * len(faults) // TRIED), among(faults, f"lines {rate} {runs}", what))
+    right = {"near": "a line within five", "function": "the function"}
+    found = [Aim(f"{of}: {right[what]} among the first five of `lines` at rate {rate}", -(-wanted * len(faults) // TRIED), among(faults, f"lines {rate} {runs}", what))
              for what, rate, wanted in WANTED if has(faults, f"lines {rate} {runs}")]
-    found += [Aim(f"{of}: a line within five among the first five of `lines`, more often than {other}", near(faults, form.format(runs)) + 1, near(faults, f"lines 1 {runs}")) for form, other in BESIDE if has(faults, form.format(runs))]
+    for form, other in BESIDE:
+        if has(faults, form.format(runs)):
+            found.append(Aim(f"{of}: {right['near']} among the first five of `lines`, more often than {other}", near(faults, form.format(runs)) + 1, near(faults, f"lines 1 {runs}")))
     for kind in sorted({fault["kind"] for fault in faults}):
         some = [fault for fault in faults if fault["kind"] == kind]
         if len(some) > 2:
-            found.append(Aim(f"{of}: of the {len(some)} of the kind '{kind}' half have a line within five among the first five of `lines`", (len(some) + 1) // 2, near(some, f"lines 1 {runs}")))
+            said = f"{of}: of the {len(some)} of the kind '{kind}' half have {right['near']} among the first five of `lines`"
+            found.append(Aim(said, (len(some) + 1) // 2, near(some, f"lines 1 {runs}")))
     return found
 
 
