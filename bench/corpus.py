@@ -1,5 +1,5 @@
 #!/usr/bin/env python3
-"""Measures how far the rows of `cbi` are from known faults, beside coverage-based ranking on the same runs.
+"""Measures how far what `cbi lines`, `bugs`, `rank`, `cards` and `pairs` print is from known faults, beside coverage-based ranking on the same runs.
 
 usage: corpus.py CBI [--faults all|open|kept|new] [--runs N,..] [--rates D,..] [--again N,K] [--three N,..] [--table NAME:N,..] [--jobs N] [--results FILE] [--write FILE ..] [NAME ..]
        corpus.py --from FILE [--write FILE ..]
@@ -113,7 +113,7 @@ def arguments() -> argparse.Namespace:
 
 
 def whole(found: Results, chosen: argparse.Namespace) -> bool:
-    return all(f"chi {rate} {count}" in found["ways"] for rate in chosen.rates for count in chosen.runs)
+    return all(f"lines {rate} {count}" in found["ways"] for rate in chosen.rates for count in chosen.runs)
 
 
 def missing(subject: Subject, chosen: argparse.Namespace, known: Results) -> Work:

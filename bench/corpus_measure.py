@@ -9,6 +9,7 @@ import corpus_scores as scores
 from corpus_collections import Collection, Read, observed, tallies
 from corpus_files import Fault
 from corpus_gcc import Covered
+from corpus_listed import lists
 from corpus_scores import Found, Place
 from corpus_subject import Bench, Known, best_pair, chosen_places, first_card, known_of, program_of, ranked, shown, without_pairs
 
@@ -66,7 +67,7 @@ class Measure:
         known = known_of(bench.built(fault.name, text))
         path, seconds = bench.collected(known.built, bench.some(self.most), 1, f"{fault.name}_rate1")
         covered, covering = bench.covered(f"cover_{fault.name}", text, self.most)
-        found: Measured = {"program": fault.program, "fault": fault.name, "kind": fault.kind, "kept": fault.kept, "new": fault.new, "coded": covered.lines, "ways": {}, "judged": {},
+        found: Measured = {"program": fault.program, "fault": fault.name, "kind": fault.kind, "kept": fault.kept, "new": fault.new, "coded": covered.lines, "ways": {}, "judged": {}, "listed": {},
                            "site lines": {}, "times": {f"coverage {self.most}": covering, f"runs 1 {self.most}": seconds}}
         look = Look(bench, fault, known, covered.lines, found)
         labels, rows = self.by_predicates(look, path, 1)
@@ -100,6 +101,8 @@ class Measure:
             look.ways[f"again rows {rate} {count} {times}"] = look.judge(ranked(self.bench.runs, built, path).places)
             for name, by_line in scores.by_line(tallies(collection, count, look.known.counters), look.lines).items():
                 look.ways[f"again {name} {rate} {count} {times}"] = look.judge_lines(by_line)
+            for name, places in lists(self.bench.runs.cbi, look.known, path).items():
+                look.ways[f"again {name} {rate} {count} {times}"] = look.judge(places)
             os.remove(path)
 
     def by_predicates(self, look: Look, path: str, rate: int) -> Tuple[List[str], List[Place]]:
@@ -111,8 +114,12 @@ class Measure:
             fewer, narrow = read.fewer.first(count, f"{path}.first"), read.narrow.first(count, f"{path}.first_narrow")
             look.ways[f"card {rate} {count}"] = look.judge(first_card(runs, look.known, fewer))
             look.ways[f"narrow {rate} {count}"] = look.judge(ranked(runs, look.narrow, narrow).places)
+            whole = read.whole.first(count, f"{path}.first_whole")
             if rate == 1:
-                look.ways[f"pair {rate} {count}"] = look.judge(best_pair(runs, look.known, read.whole.first(count, f"{path}.first_whole")))
+                look.ways[f"pair {rate} {count}"] = look.judge(best_pair(runs, look.known, whole))
+            for name, places in lists(runs.cbi, look.known, whole).items():
+                look.ways[f"{name} {rate} {count}"] = look.judge(places)
+                look.found["listed"][f"{name} {rate} {count}"] = [[place.line, place.function, place.text, place.failing, place.successful, place.importance] for place in places[:5]]
             self.without_elimination(look, read.whole, rate, count)
         look.found["site lines"][str(rate)] = read.whole.lines / max(1, len(read.whole.labels))
         for collection in read:

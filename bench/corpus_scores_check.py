@@ -9,11 +9,14 @@ import os
 import tempfile
 import unittest
 
+import corpus_listed
 import corpus_results
 import corpus_scores as scores
 import corpus_words
+from cbi_bugs import Also, Found
 from corpus_collections import Tallies, Tally
-from corpus_scores import Target
+from corpus_scores import Place, Target
+from corpus_subject import Built
 
 
 class Chance(unittest.TestCase):
@@ -33,6 +36,21 @@ class Chance(unittest.TestCase):
     def test_the_sign_test_is_the_sum_of_a_row_of_pascals_triangle(self) -> None:
         self.assertEqual(corpus_words.by_chance(7, 0), 1 / 128)
         self.assertEqual(corpus_words.by_chance(4, 1), 6 / 32)
+
+
+class Listed(unittest.TestCase):
+    """What `cbi lines` and `cbi bugs` print as places of the author's text, whose line 40 is line 2 of the ported one."""
+    built = Built("", "", [None, 40, None])
+
+    def test_a_place_has_the_line_of_the_author_or_none(self) -> None:
+        for line, function, due in ((2, "main", 40), (1, "main", None), (2, "cbi_load", None), (9, "main", None)):
+            self.assertEqual(corpus_listed.place_of(Found(7, function, line, 3, 1, 4, 6, 340277, "if is true"), self.built), Place(due, function, "if is true", 3, 1, 7, 340277))
+        self.assertEqual(corpus_listed.also_of(Also("main", 2, 3, 1, 9, "x < y"), self.built), Place(40, "main", "x < y", 3, 1, -1, 9))
+
+    def test_the_places_of_bugs_stand_as_they_are_printed(self) -> None:
+        one, two, three, four = (Place(line, "main", "", 1, 0, line) for line in (1, 2, 3, 4))
+        found = corpus_listed.Pointed([four], [[one, two], [three]]).lists()
+        self.assertEqual(found, {"lines": [four], "bugs": [one, three], "also": [one, two, three]})
 
 
 class Lists(unittest.TestCase):

@@ -9,13 +9,16 @@ from typing import Any, Callable, Dict, List, Optional, Sequence, Tuple
 
 import corpus_plots
 import corpus_words as words
-from corpus_files import KINDS, read_corpus
+from corpus_files import KINDS, NEW_KINDS, read_corpus
 from corpus_words import by_lines_of_chance, capped, percent, table
 
 Results = Dict[str, Any]
 WITHIN = (("function", 5), ("line", 5), ("near", 1), ("near", 3), ("near", 5), ("near", 10))
 SHOWN = 1000  # runs of which tables without a number in their name and plots are made, where there are so many
-WAYS = (("rows {rate} {runs}", "`rank`"), ("shown {rate} {runs}", "`rank` as `cbi-hunt` shows it"), ("narrow {rate} {runs}", "`rank` of branches and returns alone"),
+WAYS = (("rows {rate} {runs}", "`rank`"), ("lines {rate} {runs}", "`lines`"), ("own-lines {rate} {runs}", "the same as `cbi-hunt` asks for it"),
+        ("bugs {rate} {runs}", "`bugs`, its leaders"), ("also {rate} {runs}", "`bugs`, its places as they are printed"),
+        ("own-also {rate} {runs}", "the same as `cbi-hunt` asks for it"),
+        ("shown {rate} {runs}", "`rank` as `cbi-hunt` shows it"), ("narrow {rate} {runs}", "`rank` of branches and returns alone"),
         ("card {rate} {runs}", "the first card of `cards`"), ("pair {rate} {runs}", "`pairs`"),
         ("importance {rate} {runs}", "predicates by Importance, nothing set aside"), ("increase {rate} {runs}", "predicates by Increase alone"),
         ("reach {rate} {runs}", "lines with sites by reach (Ochiai of being observed)"),
@@ -100,11 +103,13 @@ def by_rate(faults: Sequence[Any]) -> str:
         way = f"rows {rate} {runs}"
         rows.append([f"{runs:,}", str(rate)] + [within(faults, way, "near", most) for most in (1, 3, 5)]
                     + [within(faults, way, "function", 5), percent(median(exams(faults, way)))]
+                    + [within(faults, f"lines {rate} {runs}", "near", most) for most in (1, 3, 5)]
+                    + [within(faults, f"lines {rate} {runs}", "function", 5)]
                     + [within(faults, f"{other} {rate} {runs}", "near", 5) if words.has(faults, f"{other} {rate} {runs}") else ""
-                       for other in ("shown", "narrow", "card", "importance", "reach", "truth", "turns")]
+                       for other in ("bugs", "also", "narrow", "card", "importance", "reach", "truth")]
                     + [within(faults, f"Ochiai {runs}", "near", 5) if rate == 1 else ""])
-    return table(["Runs", "Rate", "rows: near in 1", "in 3", "in 5", "the function in 5", "EXAM, median", "shown: near in 5", "without pairs", "first card", "Importance",
-                  "reach", "truth", "turns", "Ochiai"], rows)
+    return table(["Runs", "Rate", "rows: near in 1", "in 3", "in 5", "the function in 5", "EXAM, median", "`lines`: near in 1", "in 3", "in 5", "the function in 5",
+                  "leaders of `bugs`: near in 5", "places of `bugs`", "rows without pairs", "first card", "Importance", "reach", "truth", "Ochiai"], rows)
 
 
 def by_policy(faults: Sequence[Any]) -> str:
@@ -128,8 +133,8 @@ def by_inputs(faults: Sequence[Any]) -> str:
             made = fewer if form == f"{{}} {rate} {fewer}" else runs
             if all(form.format("rows") in fault["ways"] for fault in faults):
                 rows.append([str(rate), f"{made:,}", f"{inputs:,}"] + [within(faults, form.format(way), "near", most) for way, most in
-                                                                      (("rows", 1), ("rows", 3), ("rows", 5), ("truth", 5), ("turns", 5))])
-    return table(["Rate", "Runs", "Inputs", "rows: near in 1", "in 3", "in 5", "truth", "turns"], rows)
+                                                                      (("rows", 1), ("rows", 3), ("rows", 5), ("lines", 5), ("also", 5), ("truth", 5))])
+    return table(["Rate", "Runs", "Inputs", "rows: near in 1", "in 3", "in 5", "`lines`", "places of `bugs`", "truth"], rows)
 
 
 def by_failures(faults: Sequence[Any]) -> str:
@@ -137,10 +142,10 @@ def by_failures(faults: Sequence[Any]) -> str:
     rows = []
     for least, most, name in ((0, 0, "none"), (1, 1, "1"), (2, 4, "2 to 4"), (5, 9, "5 to 9"), (10, 29, "10 to 29"), (30, 99, "30 to 99"), (100, 10 ** 9, "100 and more")):
         words, some = [name], [(fault, count) for fault in faults for count, failing in fault["failing"].items() if least <= failing <= most]
-        for form in ("rows 1 {}", "reach 1 {}", "truth 1 {}", "turns 1 {}", "Ochiai {}"):
+        for form in ("rows 1 {}", "lines 1 {}", "also 1 {}", "reach 1 {}", "truth 1 {}", "Ochiai {}"):
             words.append(str(sum(capped(fault["ways"][form.format(count)]["near"]) <= 5 for fault, count in some)))
         rows.append(words[:1] + [str(len(some))] + words[1:])
-    return table(["Failing runs", "cases", "rows: near in 5", "reach", "truth", "turns", "Ochiai"], rows)
+    return table(["Failing runs", "cases", "rows: near in 5", "`lines`", "places of `bugs`", "reach", "truth", "Ochiai"], rows)
 
 
 SECTIONS = (("", "leading"), ("unrelated", "pairs that no statement brings together"), ("unimportant", "Importance 0"), ("weak", "as strong by chance"),
@@ -161,15 +166,15 @@ def by_section(faults: Sequence[Any]) -> str:
 
 def by_kind(faults: Sequence[Any], runs: int) -> str:
     rows = []
-    for kind in KINDS:
+    row, line, also, coverage = (form.format(runs) for form in ("rows 1 {}", "lines 1 {}", "also 1 {}", "Ochiai {}"))
+    for kind in (*KINDS, *NEW_KINDS):
         some = [fault for fault in faults if fault["kind"] == kind]
         if some:
-            row, line = f"rows 1 {runs}", f"Ochiai {runs}"
-            rows.append([kind, str(len(some)), within(some, row, "near", 5), within(some, row, "function", 5), within(some, f"card 1 {runs}", "near", 6),
-                         within(some, f"truth 1 {runs}", "near", 5), within(some, line, "near", 5), percent(median(exams(some, row))),
-                         percent(median(exams(some, line)))])
-    return table(["Kind", "Faults", "rows: near in 5", "the function in 5", "near in the first card", "truth: near in 5", "Ochiai: near in 5",
-                  "EXAM of rows, median", "of Ochiai, median"], rows)
+            rows.append([kind, str(len(some)), within(some, row, "near", 5), within(some, line, "near", 5), within(some, line, "function", 5), within(some, line, "line", 5)]
+                        + [within(some, f"lines {rate} {runs}", "near", 5) for rate in (5, 100)] + [within(some, also, "near", 5), within(some, coverage, "near", 5), within(some, f"thin-{coverage}", "near", 5)]
+                        + [percent(median(exams(some, way))) for way in (row, line, coverage)])
+    return table(["Kind", "Faults", "rows: near in 5", "`lines`: near in 5", "the function in 5", "the line in 5", "near at rate 5", "at rate 100", "places of `bugs`: near in 5", "Ochiai: near in 5", "thinned",
+                  "EXAM of rows, median", "of `lines`", "of Ochiai"], rows)
 
 
 BANDS = ((0, 0, "0"), (1, 99999, "below 0.1"), (100000, 299999, "0.1 to 0.3"), (300000, 499999, "0.3 to 0.5"), (500000, 1000000, "0.5 and more"))
@@ -202,23 +207,23 @@ def by_failing(faults: Sequence[Any], runs: int) -> str:
 def by_fault(faults: Sequence[Any], runs: int) -> str:
     rows = []
     for fault in faults:
-        ways, first = fault["ways"], fault["rows"][0] if fault["rows"] else None
-        found, lines = ways[f"rows 1 {runs}"], ways[f"Ochiai {runs}"]
-        text = where(*first[:3]) if first else "none"
+        ways, listed = fault["ways"], fault["listed"][f"lines 1 {runs}"]
+        found, lines = ways[f"lines 1 {runs}"], ways[f"Ochiai {runs}"]
+        text = where(*listed[0][:3]) if listed else "none"
         fails = percent(fault["failed"] / max(1, fault["runs"] - fault["cut"]))
         rows.append([f"{fault['program']}/{fault['fault']}", fault["kind"], fails, told(found["line"]), told(found["near"]), told(found["function"]),
-                     percent(found["walk"]), told(ways[f"truth 1 {runs}"]["near"]), told(lines["line"]), told(lines["near"]), percent(lines["walk"]), text])
-    return table(["Fault", "Kind", "fails", "row: line", "near", "function", "EXAM", "truth: near", "Ochiai: line", "near", "EXAM", "the first row"], rows)
+                     percent(found["walk"]), told(ways[f"also 1 {runs}"]["near"]), told(ways[f"rows 1 {runs}"]["near"]), told(lines["line"]), told(lines["near"]), percent(lines["walk"]), text])
+    return table(["Fault", "Kind", "fails", "`lines`: line", "near", "function", "EXAM", "`bugs`: near", "rows: near", "Ochiai: line", "near", "EXAM", "the first of `lines`"], rows)
 
 
 def apart(faults: Sequence[Any], runs: int) -> str:
-    """Which faults rows and Ochiai have among their first five."""
+    """Which faults `lines` and Ochiai have among their first five."""
     names: Dict[Tuple[bool, bool], List[str]] = {}
     for fault in faults:
-        found = [capped(fault["ways"][way]["near"]) <= 5 for way in (f"rows 1 {runs}", f"Ochiai {runs}")]
+        found = [capped(fault["ways"][way]["near"]) <= 5 for way in (f"lines 1 {runs}", f"Ochiai {runs}")]
         names.setdefault((found[0], found[1]), []).append(f"{fault['program']}/{fault['fault']}")
     rows = []
-    for name, which in (("both", (True, True)), ("rows alone", (True, False)), ("Ochiai alone", (False, True)), ("neither", (False, False))):
+    for name, which in (("both", (True, True)), ("`lines` alone", (True, False)), ("Ochiai alone", (False, True)), ("neither", (False, False))):
         some = names.get(which, [])
         rows.append([name, str(len(some)), ", ".join(some)])
     return table(["Near in five", "Faults", "Which"], rows)
@@ -231,12 +236,14 @@ def three_of(results: Results) -> Tuple[int, List[Any]]:
 
 
 def three_at_once(results: Results) -> str:
+    listed = (("printed", "own"), ("printed", "named"), ("printed", "also", "near"), ("printed", "lines", "near"), ("Ochiai", "near"))
     rows = []
     for three in three_of(results)[1]:
         for place, fault in enumerate(three["faults"]):
             rows.append([three["program"] if place == 0 else "", fault["fault"], str(fault["failing alone"]), told(fault["own"]), told(fault["near"]),
-                         told(fault["function"])] + [told(fault[way]["near"]) for way in ("Ochiai", "Tarantula", "DStar")])
-    return table(["Program", "Fault", "failing runs", "row of its own", "row near it", "row in its function", "Ochiai: near", "Tarantula", "DStar"], rows)
+                         *(told(picked(*keys)(fault)) for keys in listed)])
+    return table(["Program", "Fault", "failing runs", "row of its own", "row near it", "bug of its own", "that has a place near it", "place of `bugs` near it",
+                  "`lines`: near", "Ochiai: near"], rows)
 
 
 Value = Callable[[Any], Optional[float]]
@@ -260,6 +267,12 @@ THREE_WAYS: Sequence[Tuple[str, Value]] = (
     ("the same, under `failing`", picked("policies", "failing", "near")),
     ("the same, under `relabel`", picked("policies", "relabel", "near")),
     ("a row in its function", picked("function")),
+    ("a bug of its own, by its runs", picked("printed", "own")),
+    ("a bug of its own that has a place near it", picked("printed", "named")),
+    ("a leader of `bugs` near it", picked("printed", "bugs", "near")),
+    ("a place of `bugs` near it, as they are printed", picked("printed", "also", "near")),
+    ("a leader of `bugs` in its function", picked("printed", "bugs", "function")),
+    ("one of `lines` near it", picked("printed", "lines", "near")),
     ("Ochiai, near", picked("Ochiai", "near")),
     ("Tarantula, near", picked("Tarantula", "near")),
     ("DStar, near", picked("DStar", "near")))
@@ -320,7 +333,7 @@ def corpus_table() -> str:
 
 
 def plots(faults: Sequence[Any], runs: int) -> List[Tuple[str, str]]:
-    drawn = (("rows {rate} {runs}", "rows of rank"), ("reach {rate} {runs}", "lines by reach"), ("truth {rate} {runs}", "lines by truth"),
+    drawn = (("lines {rate} {runs}", "lines"), ("also {rate} {runs}", "places of bugs"), ("rows {rate} {runs}", "rows of rank"), ("reach {rate} {runs}", "lines by reach"),
              ("increase {rate} {runs}", "Increase alone"), ("Ochiai {runs}", "Ochiai"), ("Tarantula {runs}", "Tarantula"), ("DStar {runs}", "DStar"))
     rows, looks = [], []
     for form, name in drawn:
@@ -370,7 +383,8 @@ def parts(results: Results) -> Dict[str, str]:
     for fault in opened + kept + new:
         add_turns(fault)
     made = {"three": three_at_once(results), "three summed": three_summed(results), "speeds": speeds(results, most), "corpus": corpus_table(),
-            "headline": words.headline(opened, kept, three_of(results)[1], runs), "decided": words.decided(kept, opened, runs)}
+            "headline": words.headline(opened, kept, new, three_of(results)[1], runs), "decided": words.decided(new, kept, opened, runs),
+            "aims": words.aims(new, kept, opened, three_of(results)[1], runs)}
     for some, prefix in ((opened, ""), (kept, "kept "), (new, "new ")):
         if some:
             made.update(of_faults(some, runs, most, prefix))

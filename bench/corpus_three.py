@@ -8,11 +8,13 @@ from typing import Any, Dict, List, Optional, Sequence, Set, Tuple
 
 import corpus_scores as scores
 from corpus_collections import true_runs
+from corpus_listed import Pointed, pointed
 from corpus_measure import POLICIES, Measured, spelled
-from corpus_scores import Place
+from corpus_scores import Place, Target
 from corpus_subject import Bench, known_of, ranked
 
-LOOKED = 10  # rows whose runs are told
+LOOKED = 10  # rows and bugs whose runs are told
+LISTED = ("printed", "shown")
 
 
 def own_row(true: Sequence[Set[int]], alone: Sequence[Set[int]], place: int) -> Optional[int]:
@@ -62,6 +64,17 @@ class Three:
         return {"program": self.bench.subject.name, "runs": len(labels), "failed": len(failed), "row count": len(rows), "table": table,
                 "faults": faults, "seconds": self.seconds, "none alone": len(failed - set().union(*alone))}
 
+    def true_of_bugs(self, listed: Pointed) -> List[Set[int]]:
+        """Of each of the first bugs the failing runs in which its predicate was true."""
+        return true_runs(self.collection, self.count, self.known.counters, [bug[0].predicate for bug in listed.bugs[:LOOKED]])
+
+    def of_bugs(self, listed: Pointed, true: List[Set[int]], place: int, target: Target) -> Measured:
+        """The first bug that is a fault's own by its runs; and the first that is so and of whose places one is near it."""
+        own = own_row(true, self.alone, place)
+        named = [number for number, (bug, seen) in enumerate(zip(listed.bugs, true), 1)
+                 if own_row([seen], self.alone, place) and any(one.line in target.near for one in bug)]
+        return {"own": own, "named": named[0] if named else None}
+
     def measured(self) -> Measured:
         """The table, the places of rows and of lines by coverage, under each policy."""
         found = self.table(self.count)
@@ -70,6 +83,10 @@ class Three:
         failures, visits = sum(failed for failed, _ in told), scores.visits(told)
         by_line = {name: scores.suspicious(formula, covered.lines, visits, failures, len(told) - failures) for name, formula in scores.FORMULAS.items()}
         by_policy = {policy: self.ranked(self.count, policy) for policy in POLICIES}
+        listed = dict(zip(LISTED, pointed(self.bench.runs.cbi, self.known, self.collection.path)))
+        by_list = {name: self.true_of_bugs(one) for name, one in listed.items()}
+        found["bugs"] = {name: [[bug[0].line, bug[0].function, bug[0].text, bug[0].failing, bug[0].successful, *(len(seen & alone) for alone in self.alone)]
+                                for bug, seen in zip(one.bugs, by_list[name])] for name, one in listed.items()}
         for place, fault in enumerate(self.faults):
             target = scores.target_of(fault.lines(), covered.lines, self.bench.functions)
             about: Dict[str, Any] = found["faults"][place]
@@ -78,5 +95,8 @@ class Three:
                 judged = spelled(scores.found_by_rows(rows, target, covered.lines, fault.lines(), self.bench.functions))
                 about["policies"][policy] = {**judged, "own": own_row(true, self.alone, place)}
             about.update(about["policies"]["all"])
+            for name, one in listed.items():
+                about[name] = {way: spelled(scores.found_by_rows(places, target, covered.lines, fault.lines(), self.bench.functions)) for way, places in one.lists().items()}
+                about[name].update(self.of_bugs(one, by_list[name], place, target))
             about.update({name: spelled(scores.found_by_lines(lines, target, covered.lines)) for name, lines in by_line.items()})
         return found

@@ -2,18 +2,23 @@
 import re
 from math import comb
 from statistics import median
-from typing import Any, List, Optional, Sequence, Tuple
+from typing import Any, List, NamedTuple, Optional, Sequence, Tuple
 
 from corpus_scores import within_by_chance
 
 Faults = Sequence[Any]
 FEW = 5  # failing runs
 SURE = 0.05
-LATE = (("truth", "lines by a predicate's truth"), ("turns", "rows and lines by reach in turn"), ("reach", "lines by reach"), ("shown", "rows as `cbi-hunt` shows them"))
-JUDGED = "truth"
-HEADED = (("rows 1 {}", "rows of `rank`"), ("truth 1 {}", "lines by a predicate's truth"), ("thin-chi 1 {}", "lines by chi-square, thinned"),
-          ("Ochiai {}", "lines by Ochiai over gcov"), ("thin-Ochiai {}", "the same, thinned"))
+LATE = (("lines", "`lines`"), ("own-lines", "`lines`, without what the port added"), ("also", "the places of `bugs`"), ("bugs", "the leaders of `bugs`"), ("truth", "lines by Ochiai of a predicate's truth"))
+BESIDE = (("rows 1 {}", "rows of `rank`"), ("Ochiai {}", "Ochiai over gcov"), ("thin-Ochiai {}", "Ochiai over gcov, thinned"))
+JUDGED = "lines"
+HEADED = (("rows 1 {}", "rows of `rank`"), ("card 1 {}", "the first card of `cards`"), ("lines 1 {}", "`lines`"),
+          ("own-lines 1 {}", "the same as `cbi-hunt` asks for it, without what the port added"), ("bugs 1 {}", "`bugs`, its leaders"),
+          ("also 1 {}", "`bugs`, its places as they are printed"), ("Ochiai {}", "lines by Ochiai over gcov"), ("thin-Ochiai {}", "the same, thinned"))
 KINDS_OF_PLACE = ("function", "line", "near")
+# What `lines` was to reach: of 24 faults that were kept back before, by a trial of the same definition apart from `cbi`.
+WANTED = (("near", 1, 19), ("near", 5, 19), ("near", 100, 15), ("function", 1, 21))
+TRIED = 24
 
 
 def capped(value: Optional[float]) -> float:
@@ -62,19 +67,21 @@ def measured(faults: Faults, runs: int) -> str:
     return f"{len(faults)} faults in {programs} programs, {runs:,} runs each"
 
 
-def headline(opened: Faults, kept: Faults, three: Sequence[Any], runs: int) -> str:
+def headline(opened: Faults, kept: Faults, new: Faults, three: Sequence[Any], runs: int) -> str:
     """The two made lines of README and a table: of how many faults the first five places are right."""
-    both = [opened] + [kept] * has(kept, f"turns 1 {runs}")
-    rows = [[name] + [str(among(some, form.format(runs), what)) for some in both for what in KINDS_OF_PLACE]
-            for form, name in HEADED if all(has(some, form.format(runs)) for some in both)]
-    rows.append(["five lines by chance"] + [by_lines_of_chance(some, what, 5) for some in both for what in KINDS_OF_PLACE])
+    sets = [(some, which) for some, which in ((new, "kept back for this"), (kept, "kept back before"), (opened, "open")) if has(some, f"turns 1 {runs}")]
+    rows = [[name] + [str(among(some, form.format(runs), what)) for some, _ in sets for what in KINDS_OF_PLACE]
+            for form, name in HEADED if all(has(some, form.format(runs)) for some, _ in sets)]
+    rows.append(["five lines by chance"] + [by_lines_of_chance(some, what, 5) for some, _ in sets for what in KINDS_OF_PLACE])
     head = ["Among the first five"]
-    for some, which in zip(both, ("", " kept back")):
-        head += [f"of {len(some)}{which}: the fault's function", "its line", "a line within five"]
+    for some, which in sets:
+        head += [f"of {len(some)} {which}: the fault's function", "its line", "a line within five"]
     every = [fault for one in three for fault in one["faults"]]
     own = sum(capped(fault["own"]) <= 5 for fault in every)
-    together = f"\n\nOf three faults in one program at once {own} of {len(every)} have a row of their own among the first five." if every else ""
-    return f"{measured([*opened, *kept], runs)}.\n\n{table(head, rows)}{together}"
+    bugs = [fault for fault in every if "printed" in fault and capped(fault["printed"]["own"]) <= 5]
+    listed = f", and {len(bugs)} a bug of their own" if all("printed" in fault for fault in every) else ""
+    together = f"\n\nOf three faults in one program at once {own} of {len(every)} have a row of their own among the first five{listed}." if every else ""
+    return f"{measured([*opened, *kept, *new], runs)}.\n\n{table(head, rows)}{together}"
 
 
 def compared(faults: Faults, way: str, name: str) -> Tuple[int, List[str]]:
@@ -82,9 +89,10 @@ def compared(faults: Faults, way: str, name: str) -> Tuple[int, List[str]]:
     return near(faults, way), [name] + [str(among(faults, way, what)) for what in KINDS_OF_PLACE] + [looked(faults, way)]
 
 
-NAMES = (("rows", "rows of `rank`"), ("shown", "rows as `cbi-hunt` shows them"), ("narrow", "rows without pairs"), ("card", "the first card"),
+NAMES = (("rows", "rows of `rank`"), ("lines", "**`lines`**"), ("bugs", "**`bugs`, its leaders**"), ("also", "**`bugs`, its places as they are printed**"),
+         ("shown", "rows as `cbi-hunt` shows them"), ("narrow", "rows without pairs"), ("card", "the first card"),
          ("pair", "the best pair"), ("importance", "predicates by Importance, nothing set aside"), ("increase", "predicates by Increase alone"),
-         ("reach", "lines by reach"), ("truth", "lines by a predicate's truth"))
+         ("reach", "lines by reach"), ("truth", "lines by Ochiai of a predicate's truth"))
 
 
 def beside_ochiai(faults: Faults, runs: int) -> str:
@@ -105,8 +113,9 @@ def of_chance(faults: Faults, runs: int) -> str:
 
 def of_thinned(faults: Faults, runs: int) -> str:
     """Coverage and truth with the same thinning."""
-    ways = [(form.format(runs), name) for form, name in (("truth 1 {}", "lines by a predicate's truth"), ("thin-truth 1 {}", "the same, thinned"),
+    ways = [(form.format(runs), name) for form, name in (("truth 1 {}", "lines by Ochiai of a predicate's truth"), ("thin-truth 1 {}", "the same, thinned"),
             ("chi 1 {}", "lines by the chi-square of a predicate's truth"), ("thin-chi 1 {}", "the same, thinned"),
+            ("lines 1 {}", "`lines`, which are thinned"), ("own-lines 1 {}", "`lines` as `cbi-hunt` asks for them, without what the port added"),
             ("Ochiai {}", "Ochiai over gcov"), ("thin-Ochiai {}", "the same, thinned"))]
     there = [(way, name) for way, name in ways if has(faults, way)]
     if not any(way.startswith("thin-") for way, _ in there):
@@ -127,7 +136,7 @@ def of_rankings(faults: Faults, runs: int) -> str:
         lines.append(f"- **Pairs.** {pairs} of {len(faults)} first rows are pairs, by the most runs that there are. Without the scheme "
                      f"{near(faults, f'narrow 1 {runs}')} have a row near in five, and with it {near(faults, f'rows 1 {runs}')}.")
     lines.append(f"- **Few failing runs.** {len(few)} of {len(faults)} faults failed in fewer than {FEW} of {runs:,} runs; rows are near {near(few, f'rows 1 {runs}')} "
-                 f"of them, lines by a predicate's truth {near(few, f'truth 1 {runs}')}, Ochiai {near(few, f'Ochiai {runs}')}.")
+                 f"of them, `lines` {near(few, f'lines 1 {runs}')}, Ochiai {near(few, f'Ochiai {runs}')}.")
     return "\n".join(lines)
 
 
@@ -141,7 +150,7 @@ def by_gcc_alone(faults: Faults) -> str:
 
 
 def kinds_unseen(faults: Faults, runs: int) -> str:
-    """The kinds of which neither a row nor a line by truth is near in five for most."""
+    """The kinds of which neither a row nor one of `lines` is near in five for most."""
     def worst(way: str) -> List[str]:
         kinds = sorted({fault["kind"] for fault in faults})
         found = []
@@ -152,7 +161,7 @@ def kinds_unseen(faults: Faults, runs: int) -> str:
         return found
 
     return (f"By rows fewer than half are near in five of these kinds: {', '.join(worst('rows')) or 'none'}. "
-            f"By lines of a predicate's truth: {', '.join(worst('truth')) or 'none'}.")
+            f"By `lines`: {', '.join(worst('lines')) or 'none'}.")
 
 
 def by_chance(ahead: int, behind: int) -> float:
@@ -176,19 +185,55 @@ def beside(sets: Sequence[Faults], way: str, other: str) -> List[str]:
     return cells
 
 
-def decided(kept: Faults, opened: Faults, runs: int) -> str:
+def decided(new: Faults, kept: Faults, opened: Faults, runs: int) -> str:
     """What the faults that were kept back say of the ways that were added late, and of the one that is judged."""
-    if not has(kept, f"turns 1 {runs}"):
+    if not has(new, f"lines 1 {runs}"):
         return "The faults that are kept back aren't measured yet."
-    sets, others = (kept, opened, [*kept, *opened]), ((f"rows 1 {runs}", "rows of `rank`"), (f"Ochiai {runs}", "Ochiai over gcov"))
-    rows = [[name, other] + beside(sets, f"{way} 1 {runs}", form) for way, name in LATE if has(kept, f"{way} 1 {runs}") for form, other in others]
-    judged, shown, coverage = f"{JUDGED} 1 {runs}", f"rows 1 {runs}", f"Ochiai {runs}"
-    (ahead, behind), (over, under) = apart_by(kept, judged, shown), apart_by(kept, judged, coverage)
-    first = "more than chance makes of so few" if ahead > behind and by_chance(ahead, behind) <= SURE else "no more than chance makes of so few"
-    second = "more than chance makes of so few" if over > under and by_chance(over, under) <= SURE else "no more than chance makes of so few"
-    head = ["Way", "beside", f"{len(kept)} kept back", f"{len(opened)} open", f"all {len(kept) + len(opened)}"]
-    return (f"{table(head, rows)}\n\nOf the faults that were kept back {dict(LATE)[JUDGED]} have {ahead} near in five that rows haven't, and rows {behind} that they "
-            f"haven't: {first}. Beside Ochiai over gcov it is {over} to {under}: {second}.")
+    sets = [(some, which) for some, which in ((new, f"{len(new)} kept back for this"), (kept, f"{len(kept)} kept back before"), (opened, f"{len(opened)} open")) if has(some, f"lines 1 {runs}")]
+    rows = [[name, other] + beside([some for some, _ in sets], f"{way} 1 {runs}", form.format(runs)) for way, name in LATE for form, other in BESIDE if has(new, form.format(runs))]
+    said = [f"Of the {len(new)} faults that were kept back for this {dict(LATE)[JUDGED]} have"]
+    for (form, other), joined in zip(BESIDE, ("", "; beside", "; beside")):
+        ahead, behind = apart_by(new, f"{JUDGED} 1 {runs}", form.format(runs))
+        sure = "more than chance makes of so few" if ahead > behind and by_chance(ahead, behind) <= SURE else "no more than chance makes of so few"
+        said.append(f"{joined} {other} {ahead} to {behind}: {sure}" if joined else f" {ahead} near in five that rows of `rank` haven't, and these {behind} that they haven't: {sure}")
+    return f"{table(['Way', 'beside', *(which for _, which in sets)], rows)}\n\n{''.join(said)}."
+
+
+class Aim(NamedTuple):
+    """What was to be reached, how much of it was wanted and how much was reached."""
+    what: str
+    wanted: int
+    reached: int
+
+
+def aims(new: Faults, kept: Faults, opened: Faults, three: Sequence[Any], runs: int) -> str:
+    """What `lines` and `bugs` were to reach, those aims first that were missed."""
+    found = [aim for some, which in ((new, "kept back for this"), (kept, "kept back before"), (opened, "open")) if has(some, f"lines 1 {runs}") for aim in aims_of(some, which, runs)]
+    every = [fault for one in three for fault in one["faults"] if "printed" in fault]
+    if every:
+        rows_own, rows_near = (sum(capped(fault[what]) <= 5 for fault in every) for what in ("own", "near"))
+        bugs_own, bugs_named = (sum(capped(fault["printed"][what]) <= 5 for fault in every) for what in ("own", "named"))
+        found += [Aim(f"of {len(every)} faults, three at once: a bug of its own among the first five, as often as a row", rows_own, bugs_own),
+                  Aim("the same with one of its places near, three times as often as a row is near", 3 * rows_near, bugs_named)]
+    rows = [[aim.what, f"{aim.wanted}", f"{aim.reached}", "" if aim.reached >= aim.wanted else "missed"] for aim in sorted(found, key=lambda aim: aim.reached >= aim.wanted)]
+    return table(["Aim", "wanted", "reached", ""], rows)
+
+
+def aims_of(faults: Faults, which: str, runs: int) -> List[Aim]:
+    """The aims for a set of faults; shares of another set are rounded up."""
+    of = f"of {len(faults)} {which}"
+    right = {"near": "a line within five", "function": "the function"}
+    found = [Aim(f"{of}: {right[what]} among the first five of `lines` at rate {rate}", -(-wanted * len(faults) // TRIED), among(faults, f"lines {rate} {runs}", what))
+             for what, rate, wanted in WANTED if has(faults, f"lines {rate} {runs}")]
+    for form, other in BESIDE:
+        if has(faults, form.format(runs)):
+            found.append(Aim(f"{of}: {right['near']} among the first five of `lines`, more often than {other}", near(faults, form.format(runs)) + 1, near(faults, f"lines 1 {runs}")))
+    for kind in sorted({fault["kind"] for fault in faults}):
+        some = [fault for fault in faults if fault["kind"] == kind]
+        if len(some) > 2:
+            said = f"{of}: of the {len(some)} of the kind '{kind}' half have {right['near']} among the first five of `lines`"
+            found.append(Aim(said, (len(some) + 1) // 2, near(some, f"lines 1 {runs}")))
+    return found
 
 
 def is_pair(text: str) -> bool:

@@ -13,19 +13,25 @@ import cbi_answer  # noqa: E402
 import cbi_bugs  # noqa: E402
 import cbi_evidence  # noqa: E402
 import cbi_files  # noqa: E402
+import cbi_reports  # noqa: E402
 import cbi_rows  # noqa: E402
 import cbi_seen  # noqa: E402
 import cbi_told  # noqa: E402
 import cbi_where  # noqa: E402
 import cbi_wording  # noqa: E402
-from cbi_files import Program, Run, Site  # noqa: E402
+from cbi_bugs import Also, Bug, Bugs, Found, Lines, Listed  # noqa: E402
+from cbi_files import Fault, Program, Run, Site  # noqa: E402
 
 # A program of two conditions: predicates 0 and 1 of line 2, 2 and 3 of line 3.
-TWO = Program("", ["main"], [Site(0, "branches", "main", 2, 0, ("if",), False), Site(1, "branches", "main", 3, 0, ("if",), False)])
+TWO = Program("0", ["main"], [Site(0, "branches", "main", 2, 0, ("if",), False), Site(1, "branches", "main", 3, 0, ("if",), False)])
+TWO_TEXT = "int main(void){int a=getchar();int b=getchar();\nif(a);\nif(b);\nreturn 0;}\n"
 # One of a pair (predicates 0 to 5), a result (6 to 11) and two conditions (12 and 13, 14 and 15), at four places.
-FOUR = Program("", ["f", "g"], [Site(0, "pairs", "f", 10, 0, ("x", "y"), False), Site(1, "returns", "f", 20, 0, ("h",), False),
-                                Site(2, "branches", "f", 30, 0, ("if",), False), Site(3, "branches", "g", 30, 0, ("while",), False)])
+FOUR = Program("0", ["f", "g"], [Site(0, "pairs", "f", 10, 0, ("x", "y"), False), Site(1, "returns", "f", 20, 0, ("h",), False),
+                                 Site(2, "branches", "f", 30, 0, ("if",), False), Site(3, "branches", "g", 30, 0, ("while",), False)])
+# Three signs && on one line, of predicates 0 to 5, and a condition there, of 6 and 7.
+SIGNS = Program("0", ["main"], [Site(number, "branches", "main", 5, number, ("if" if number == 3 else "&&",), False) for number in range(4)])
 YES, NO = (1, 0, 0), (0, 1, 0)
+NONE = Listed(Lines(0, 0, 0, []), Bugs(0, 0, [], 0))
 
 
 def run_of(number, failing, outcome="ended 0", **sites):
@@ -33,107 +39,148 @@ def run_of(number, failing, outcome="ended 0", **sites):
     return Run(number, outcome, "fail" if failing else "pass", {int(name[1:]): counters for name, counters in sites.items()})
 
 
+def collected(runs, identity="0"):
+    """These runs as a collection."""
+    lines = [f"run {run.number} {run.outcome} label {run.label} work 0 0 0\n" + "".join(f"site {site} {one[0]} {one[1]} {one[2]}\n" for site, one in sorted(run.sites.items())) for run in runs]
+    return f"cbi-collection 2\nprogram {identity}\n" + "".join(lines) + "end\n"
+
+
 def table_of(program, runs, left_out=frozenset()):
-    table = cbi_bugs.Table(program, left_out)
+    table = cbi_reports.Table(program, left_out)
     for run in runs:
         table.add(run)
     return table
 
 
-def facts(found):
-    return [(one.predicate, one.function, one.line, one.a, one.b, one.c, one.d, one.strength) for one in found]
-
-
 # Four runs fail. At line 2 `if` is true in three of them and in one of six others; at line 3 two failing runs look, of which one has it true, and all six others, in which it is false.
 RUNS = [run_of(1, True, s0=YES, s1=NO), run_of(2, True, s0=YES), run_of(3, True, s0=YES), run_of(4, True, s0=NO, s1=YES), run_of(5, False, s0=YES, s1=NO)]
 RUNS += [run_of(number, False, s0=NO, s1=NO) for number in range(6, 11)]
+# By hand: F = 4 and S = 6. `if is true` of line 2: e = 3 * 6 - 1 * 4 = 14, and 196 / (24 * 4 * 6) = 0.3402777. Of line 3: e = 6, and 36 / (24 * 1 * 9) = 1 / 6.
+LINES = Lines(4, 6, 2, [Found(0, "main", 2, 3, 1, 4, 6, 340277, "if is true"), Found(2, "main", 3, 1, 0, 2, 6, 166666, "if is true")])
+# The first round takes runs 1 to 3. Then F = 1, and N = 7: line 2 is false in run 4 and in five others, 1 / 36; line 3 is true in it alone, 36 / 36.
+BUGS = Bugs(4, 6, [Bug(Found(0, "main", 2, 3, 1, 4, 6, 340277, "if is true"), 1, []), Bug(Found(2, "main", 3, 1, 0, 1, 6, 1000000, "if is true"), 4, [])], 0)
 
 
-class Bugs(Case):
-    def test_lines_of_ten_runs(self):
-        """F = 4 and S = 6. `if is true` of line 2: e = 3 * 6 - 1 * 4 = 14, and 196 / (24 * 4 * 6) = 0.3402777. Of line 3: e = 6, and 36 / (24 * 1 * 9) = 1 / 6."""
-        lines = table_of(TWO, RUNS).lines(apart=0)
-        self.assertEqual((lines.failing, lines.successful, lines.places), (4, 6, 2))
-        self.assertEqual(facts(lines.lines), [(0, "main", 2, 3, 1, 4, 6, 340277), (2, "main", 3, 1, 0, 2, 6, 166666)])
-        self.assertEqual([one.text for one in lines.lines], ["if is true", "if is true"])
+class Lists(Case):
+    """What `cbi lines` and `cbi bugs` print, as it is asked for and read."""
 
-    def test_lines_that_are_near_one_another_are_told_once(self):
-        table = table_of(TWO, RUNS)
-        for apart, most, due in ((0, 10, [2, 3]), (1, 10, [2]), (3, 10, [2]), (0, 1, [2])):
-            lines = table.lines(most, apart)
-            self.assertEqual(([one.line for one in lines.lines], lines.places), (due, 2))
-        lines = [cbi_bugs.Found(0, function, line, 1, 0, 1, 0, 0, "") for function, line in (("f", 10), ("f", 13), ("g", 12), ("f", 14), ("f", 16), ("f", 6))]
-        self.assertEqual([(one.function, one.line) for one in cbi_bugs.apart_from(lines, 3)], [("f", 10), ("g", 12), ("f", 14), ("f", 6)])
+    def listed(self, runs, left_out=frozenset()):
+        program = self.transform(TWO_TEXT, "full", "branches")
+        collection = self.write("runs", collected(runs, cbi_files.read_program(program).identity))
+        return cbi_bugs.list_runs(looking.CBI, program, collection, left_out, self.room)
 
-    def test_bugs_of_ten_runs(self):
-        """The first round takes runs 1 to 3. Then F = 1, and N = 7: line 2 is false in run 4 and in five others, 1 / 36; line 3 is true in it alone, 36 / 36."""
-        bugs = table_of(TWO, RUNS).bugs()
-        self.assertEqual((bugs.failing, bugs.successful, bugs.rest), (4, 6, 0))
-        self.assertEqual(facts(bug.leader for bug in bugs.bugs), [(0, "main", 2, 3, 1, 4, 6, 340277), (2, "main", 3, 1, 0, 1, 6, 1000000)])
-        self.assertEqual([(bug.live, bug.runs, bug.also) for bug in bugs.bugs], [(4, [1, 2, 3], []), (1, [4], [])])
-        one = table_of(TWO, RUNS).bugs(most=1)
-        self.assertEqual((len(one.bugs), one.rest), (1, 1))
+    def test_those_of_ten_runs(self):
+        self.assertEqual(self.listed(RUNS), (LINES, BUGS))
+        self.assertEqual(sorted(os.listdir(self.room)), ["bugs", "lines", "prog.c", "prog.cbi", "runs"])
+        self.assertEqual(cbi_bugs.read_listed(self.room), (LINES, BUGS))
 
-    def test_order_and_grouping_of_runs_do_not_matter(self):
-        once = table_of(TWO, RUNS)
-        for seed in range(5):
-            runs = list(RUNS)
-            random.Random(seed).shuffle(runs)
-            self.assertEqual((table_of(TWO, runs).bugs(), table_of(TWO, runs).lines()), (once.bugs(), once.lines()))
+    def test_what_runs_saw_at_sites_that_are_left_out_counts_nowhere(self):
+        """Without line 2: line 3 is true in run 4 of four failing runs and in no other, and false in run 1 and in all six others, which is no sign of failing. Runs 2 and 3 are left."""
+        lines, bugs = self.listed(RUNS, frozenset([0]))
+        self.assertEqual(lines, Lines(4, 6, 1, LINES.lines[1:]))
+        self.assertEqual(bugs, Bugs(4, 6, [Bug(LINES.lines[1], 4, []), Bug(Found(3, "main", 3, 1, 6, 1, 6, 0, "if is false"), 1, [])], 2))
+        self.assertEqual(sorted(os.listdir(self.room)), ["bugs", "lines", "prog.c", "prog.cbi", "runs"])
 
-    def test_ties(self):
-        """No run succeeded, so all strengths are 0, and each is true in both runs: a branch before a return before a pair, and the smaller number."""
-        table = table_of(FOUR, [run_of(number, True, s0=YES, s1=YES, s2=YES, s3=YES) for number in (1, 2)])
-        self.assertEqual([(one.predicate, one.strength) for one in table.lines(apart=0).lines], [(12, 0), (14, 0), (6, 0), (0, 0)])
-        # Both are true in the one failing run alone, 4 / (2 * 1 * 2): the second was looked at in one run more, although its number is greater.
-        table = table_of(TWO, [run_of(1, True, s0=YES, s1=YES), run_of(2, False, s1=NO), run_of(3, False)])
-        self.assertEqual(facts(table.lines(apart=0).lines), [(2, "main", 3, 1, 0, 1, 1, 1000000), (0, "main", 2, 1, 0, 1, 0, 1000000)])
-        # No strength: the first is true in two failing runs, the second in one.
-        table = table_of(TWO, [run_of(1, True, s1=YES), run_of(2, True, s0=YES), run_of(3, True, s0=YES)])
-        self.assertEqual([one.predicate for one in table.lines(apart=0).lines], [0, 2])
+    def test_a_collection_without_sites_has_its_runs(self):
+        self.write("runs", "cbi-collection 2\nprogram 0\nrun 7 ended 0 label fail work 0 0 0\nsite 1 1 0 0\nsite 10 1 0 0\nsite 11 1 0 0\nend\n")
+        cbi_bugs.without_sites(self.path("runs"), frozenset([1, 11]), self.path("rest"))
+        self.assertEqual(self.read("rest"), b"cbi-collection 2\nprogram 0\nrun 7 ended 0 label fail work 0 0 0\nsite 10 1 0 0\nend\n")
 
-    def test_what_is_true_in_all_runs_says_nothing(self):
-        """`if` of line 2 is true in all four runs: the divisor is 0. That of line 3 in the failing ones and in one other: e = 2 * 2 - 1 * 2 = 2, and 4 / (4 * 3 * 1) = 1 / 3."""
-        runs = [run_of(1, True, s0=YES, s1=YES), run_of(2, True, s0=YES, s1=YES), run_of(3, False, s0=YES, s1=YES), run_of(4, False, s0=YES, s1=NO)]
-        self.assertEqual(facts(table_of(TWO, runs).lines(apart=0).lines), [(2, "main", 3, 2, 1, 2, 2, 333333), (0, "main", 2, 2, 2, 2, 2, 0)])
+    # A result whose call has a blank in its text is told as it stands.
+    TEXT = ("bugs 9 4\nbug 1 97 main 41 8 0 8 3 871428 first 2 find <= 0\nalso find 16 8 2 311111 if is false\nalso main 37 7 3 9 c == 63\n"
+            "bug 2 3 set 24 1 1 1 4 100000 first 5 if is true\nrest 0\nend\n")
 
-    def test_passing_runs_stay_and_all_runs_count_that_have_a_label(self):
-        """Rounds of `f`: the condition of line 30 in runs 1 and 2 and in one other, 4 of 4 and 2: e = 2 * 3 - 1 * 3 = 3, and 9 / (9 * 3 * 3). The result of line 20 in run 3 and in the same other run:
-        then F = 1, N = 4, e = 3 - 1 = 2, and 4 / (3 * 2 * 2)."""
-        runs = [run_of(1, True, s2=YES), run_of(2, True, s2=YES), run_of(3, True, s1=YES), run_of(4, False, s1=YES, s2=YES), run_of(5, False), run_of(6, False)]
-        runs.append(Run(7, "cut turns", "none", {1: YES}))
-        bugs = table_of(FOUR, runs).bugs()
-        self.assertEqual(facts(bug.leader for bug in bugs.bugs), [(12, "f", 30, 2, 1, 2, 1, 111111), (6, "f", 20, 1, 1, 1, 1, 333333)])
-        self.assertEqual([facts(bug.also) for bug in bugs.bugs], [[(6, "f", 20, 1, 1, 1, 1, 0)], []])
+    def test_bugs_are_read(self):
+        self.write("bugs", self.TEXT)
+        self.assertEqual(cbi_bugs.read_bugs(self.path("bugs")), Bugs(9, 4, [
+            Bug(Found(97, "main", 41, 8, 0, 8, 3, 871428, "find <= 0"), 2, [Also("find", 16, 8, 2, 311111, "if is false"), Also("main", 37, 7, 3, 9, "c == 63")]),
+            Bug(Found(3, "set", 24, 1, 1, 1, 4, 100000, "if is true"), 5, [])], 0))
 
-    def test_a_failing_run_in_which_nothing_is_true_is_left(self):
-        bugs = table_of(TWO, [run_of(1, True, s0=YES), run_of(2, True), run_of(3, False)]).bugs()
-        self.assertEqual(([bug.runs for bug in bugs.bugs], bugs.rest), ([[1]], 1))
-        self.assertEqual(table_of(TWO, []).bugs(), cbi_bugs.Bugs(0, 0, [], 0))
-        self.assertEqual(table_of(TWO, []).lines(), cbi_bugs.Lines(0, 0, 0, []))
+    def test_what_has_another_form_is_a_fault(self):
+        for old, new in (("bugs 9 4", "bugs 9"), ("bugs 9 4", "lines 9 4"), ("rest 0\n", ""), ("end\n", ""), ("end\n", "end\nend\n"), ("bug 2", "bug 3"), ("also main 37 7 3 9 c", "also main 37 7 3"),
+                         ("first 5", "last 5"), ("bug 1 97 main", "bug 1 main 97"), ("bug 1 97 main 41 8 0 8 3 871428 first 2 find <= 0\n", "")):
+            self.assertIn(old, self.TEXT)
+            self.write("bugs", self.TEXT.replace(old, new))
+            with self.assertRaisesRegex(Fault, "bugs: it hasn't the form of what cbi bugs prints$"):
+                cbi_bugs.read_bugs(self.path("bugs"))
+        for text in ("", "lines 1 1 1\n", "lines 1 1\nend\n", "lines 1 1 1\nline 2 0 main 2 1 0 1 1 9 if is true\nend\n", "lines 1 1 1\nlime 1 0 main 2 1 0 1 1 9 if is true\nend\n"):
+            self.write("lines", text)
+            with self.assertRaisesRegex(Fault, "lines: it hasn't the form of what cbi lines prints$"):
+                cbi_bugs.read_lines(self.path("lines"))
 
-    def test_sites_that_are_left_out_lead_no_round(self):
-        bugs = table_of(TWO, RUNS, frozenset([0])).bugs()
-        self.assertEqual([bug.leader.predicate for bug in bugs.bugs], [2, 3])
-        self.assertEqual(bugs.rest, 2)
+    def test_an_executable_without_the_commands_is_told_in_a_line(self):
+        """An older `cbi`: here one that answers with its usage."""
+        program = self.transform(TWO_TEXT, "full", "branches")
+        self.write("runs", collected(RUNS, cbi_files.read_program(program).identity))
+        self.write("rank", self.call("cbi", "rank", "prog.cbi", "runs")[0])
+        self.write("in/1", "ab")
+        script = self.write("old/cbi", f'#!/bin/sh\n[ "$1" = lines ] && echo usage >&2 && exit 2\nexec "{looking.CBI}" "$@"\n')
+        os.chmod(script, 0o755)
+        said = "old/cbi has no commands lines and bugs, which list what is shown: it is older than this script (./build FOLDER makes one that has them)\n"
+        for words in (["cbi-hunt", "prog.c", "--inputs", "in", "--cbi", script], ["cbi-show", "rank", "--program", "prog.cbi", "--reports", "runs", "--cbi", script]):
+            self.assertEqual(self.call(*words, due=2), ("", f"{words[0]}: {self.room}/{said}"))
+        self.assertTrue(self.call("cbi-show", "rank", "--program", "prog.cbi", "--cbi", script)[0].startswith("rank:2 in main: if was true\n"))
 
-    def test_the_order_is_that_of_exact_fractions(self):
-        """Beside Python's own fractions, on counts that are near one another and on great ones."""
+    def test_a_hunt_that_an_older_one_kept_is_listed_anew(self):
+        self.write("prog.c", looking.UPPER)
+        for number in range(40):
+            self.write(f"in/{number:02}", "x!" if number % 4 == 0 else "xy")
+        self.call("cbi-hunt", "prog.c", "--inputs", "in", "--jobs", "1", "--keep", "kept")
+        shown = self.call("cbi-show", "--hunt", "kept")[0]
+        self.assertTrue(shown.startswith("1 bug explains all 10 failing inputs (40 inputs).\n\nprog.c:7 in main: if (c == '!') was true\n"), shown)
+        for name in ("lines", "bugs"):
+            os.remove(self.path("kept", name))
+        self.assertEqual(self.call("cbi-show", "--hunt", "kept")[0], shown)
+        self.assertFalse(os.path.exists(self.path("kept", "bugs")))
+
+
+class Whose(Case):
+    """Whose a failing run is, and what else the reports say of a bug."""
+
+    def rounds(self, program, runs, bugs):
+        return [(one.live, one.runs, [(also.predicate, also.a, also.b, also.c, also.d) for also in one.also]) for one in table_of(program, runs).rounds(bugs)]
+
+    def test_a_run_is_that_of_the_first_bug_whose_predicate_is_true_in_it(self):
+        self.assertEqual(self.rounds(TWO, RUNS, BUGS), [(4, [1, 2, 3], []), (1, [4], [])])
+        runs = list(RUNS)
+        random.Random(1).shuffle(runs)
+        self.assertEqual(self.rounds(TWO, runs, BUGS), [(4, [1, 2, 3], []), (1, [4], [])])
+        # Line 3 is true in run 3, too: that stays the first bug's.
+        runs = [run._replace(sites={0: YES, 1: YES}) if run.number == 3 else run for run in RUNS]
+        self.assertEqual(self.rounds(TWO, runs, BUGS), [(4, [1, 2, 3], []), (1, [4], [])])
+
+    def test_a_place_of_a_round_counts_the_runs_that_are_left(self):
+        """Line 20's result is above 0 in runs 1 and 2 and in one other; line 30's condition in all three failing ones. When the first bug has runs 1 and 2, one is left."""
+        runs = [run_of(1, True, s1=(0, 0, 1), s2=YES), run_of(2, True, s1=(0, 0, 1), s2=YES), run_of(3, True, s1=YES, s2=YES), run_of(4, False, s1=(0, 0, 1), s2=NO)]
+        bugs = Bugs(3, 1, [Bug(Found(8, "f", 20, 2, 1, 3, 1, 0, "h > 0"), 1, [Also("f", 30, 3, 0, 1000000, "if is true")]),
+                           Bug(Found(6, "f", 20, 1, 0, 1, 1, 1000000, "h < 0"), 3, [Also("f", 30, 1, 0, 1000000, "if is true")])], 0)
+        self.assertEqual(self.rounds(FOUR, runs, bugs), [(3, [1, 2], [(12, 3, 0, 3, 1)]), (1, [3], [(12, 1, 0, 1, 1)])])
+
+    def test_of_several_predicates_that_read_alike_it_is_the_one_with_these_counts(self):
+        """The first && is true in the two failing runs and in one other; the second in those two alone; the third likewise, and was looked at in one run more."""
+        runs = [run_of(1, True, s0=YES, s1=YES, s2=YES, s3=YES), run_of(2, True, s0=YES, s1=YES, s2=YES, s3=YES), run_of(3, False, s0=YES, s1=NO, s2=NO), run_of(4, False, s0=NO, s2=NO)]
+        lead = Found(6, "main", 5, 2, 0, 2, 0, 1000000, "if is true")
+        for b, due in ((1, (0, 2, 1, 2, 2)), (0, (4, 2, 0, 2, 2))):
+            self.assertEqual(self.rounds(SIGNS, runs, Bugs(2, 2, [Bug(lead, 1, [Also("main", 5, 2, b, 0, "&& is true")])], 0)), [(2, [1, 2], [due])])
+
+    def test_bugs_of_other_reports_are_a_fault(self):
+        lead = BUGS.bugs[0].leader
+        for bug in (Bug(lead._replace(a=2), 1, []), Bug(lead, 2, []), Bug(lead._replace(predicate=99), 1, []), Bug(lead, 1, [Also("main", 3, 1, 1, 9, "if is true")]), Bug(lead, 1, [Also("main", 4, 1, 0, 9, "if is true")])):
+            with self.assertRaisesRegex(Fault, "^the bugs aren't of these reports"):
+                table_of(TWO, RUNS).rounds(Bugs(4, 6, [bug], 0))
+
+    def test_strength_is_that_of_exact_fractions(self):
+        """Beside Python's own fractions, on small counts and on great ones."""
         chance = random.Random(5)
         for most in (12, 100000):
             failing, successful = most // 3, most - most // 3
-            every = [(chance.randrange(1, failing + 1), chance.randrange(successful + 1)) for _ in range(300)]
-            every += [(a, min(b + 1, successful)) for a, b in every]
-            exact = {}
-            for a, b in every:
+            for _ in range(300):
+                a, b = chance.randrange(1, failing + 1), chance.randrange(successful + 1)
                 e, divisor = max(0, a * successful - b * failing), failing * successful * (a + b) * (most - a - b)
-                exact[a, b] = fractions.Fraction(e * e, divisor) if divisor else fractions.Fraction(0)
-                self.assertEqual(cbi_bugs.strength_of(a, b, failing, successful), int(exact[a, b] * 1000000))
-            ours = sorted(exact, key=lambda counts: cbi_bugs.order_of((*counts, 0, 0), failing, successful, 0, counts[1]))
-            self.assertEqual(ours, sorted(exact, key=lambda counts: (-exact[counts], -counts[0], counts[1])))
+                self.assertEqual(cbi_reports.strength_of(a, b, failing, successful), int(fractions.Fraction(e * e, divisor) * 1000000) if divisor else 0)
 
     def test_which_runs_a_predicate_is_true_in(self):
-        table = table_of(FOUR, [run_of(9, True, s0=(0, 2, 1)), run_of(3, True, s0=(1, 0, 0)), run_of(4, False, s0=(0, 0, 1))])
+        table = table_of(FOUR, [run_of(9, True, s0=(0, 2, 1)), run_of(3, True, s0=(1, 0, 0)), run_of(4, False, s0=(0, 0, 1)), Run(5, "cut turns", "none", {0: YES})])
         self.assertEqual(table.runs_with([0, 1, 2, 4, 5]), {0: [3], 1: [3, 9], 2: [9], 4: [9], 5: [3, 9]})
         self.assertEqual((table.counts_of(2), table.counts_of(4)), ((1, 1, 2, 1), (1, 0, 2, 1)))
 
@@ -151,8 +198,7 @@ class Evidence(Case):
         self.assertGreater(by_chance(40000, 10000, 50000, 50000), -1e-12)
 
     def collection(self, runs):
-        text = "".join(f"run {run.number} {run.outcome} label {run.label} work 0 0 0\n" + "".join(f"site {site} {one[0]} {one[1]} {one[2]}\n" for site, one in sorted(run.sites.items())) for run in runs)
-        return self.write("runs", "cbi-collection 2\nprogram 0\n" + text + "end\n")
+        return self.write("runs", collected(runs))
 
     # Three inputs, of which the first fails, in three runs each: 1, 4 and 7 are of the first, 2, 5 and 8 of the second.
     SEVERAL = [run_of(1, True, s0=YES), run_of(4, True, s0=YES), run_of(7, True, s1=YES), run_of(2, False, s0=NO), run_of(5, False, s0=YES, s1=NO), run_of(8, False), run_of(3, False, s0=NO),
@@ -191,27 +237,32 @@ class Evidence(Case):
         pair = cbi_files.Pair(2, cbi_files.Side(0, "main", 2, "if is true"), cbi_files.Side(2, "main", 3, "if is true"), 10, 0, 10, 10, 1000000)
         wording = cbi_wording.Wording(None, TWO, where)
         for inputs, due in ((2, (1, 0, 1, 1)), (None, None), (20, None)):
-            seen = cbi_seen.seen_in(self.collection(runs), TWO, cbi_seen.Asked([], where, inputs, pair=(0, 2)))
+            seen = cbi_seen.seen_in(self.collection(runs), TWO, lambda _: NONE, cbi_seen.Asked([], where, inputs, pair=(0, 2)))
             self.assertEqual(seen.both, due)
             shown = cbi_rows.pair_of(pair, cbi_files.Ranking([row], None), wording, seen.both)
             self.assertEqual(shown is None, inputs == 2)
 
-    def seen(self, runs, inputs, rows=()):
+    def seen(self, runs, inputs, listed=NONE):
         where = cbi_where.one_file("a.c", ["", "if (a);", "if (b);"])
-        return cbi_seen.seen_in(self.collection(runs), TWO, cbi_seen.Asked(list(rows), where, inputs))
+        return cbi_seen.seen_in(self.collection(runs), TWO, lambda _: listed, cbi_seen.Asked([], where, inputs))
+
+    def one_bug(self, a, b):
+        """That the condition of line 2 is true in all failing runs, of which the first is the first run, and in no other."""
+        lead = Found(0, "main", 2, a, 0, a, b, 1000000, "if is true")
+        return Listed(Lines(a, b, 1, [lead]), Bugs(a, b, [Bug(lead, 1, [])], 0))
 
     def test_more_runs_of_an_input_make_nothing_surer(self):
         """One of ten inputs fails, and one fact of four is true on it alone: one draw of ten, so 0.4 facts would by chance alone, with one run each as with ten."""
         once = [run_of(number, number == 1, s0=YES if number == 1 else NO, s1=NO) for number in range(1, 11)]
         often = [run._replace(number=run.number + 10 * more) for more in range(10) for run in once]
         for runs in (once, often):
-            seen = self.seen(runs, 10)
+            seen = self.seen(runs, 10, self.one_bug(len(runs) // 10, len(runs) * 9 // 10))
             self.assertEqual((seen.observed, seen.inputs), (4, (1, 9)))
             self.assertAlmostEqual(seen.bug_chances[0], 4 / 10, places=9)
             answer = cbi_answer.answer_of(seen, cbi_wording.Wording(None, TWO, cbi_where.one_file("a.c", None)))
             self.assertEqual((answer.strong(), len(answer.leading()), answer.several()), ([], 1, runs is often))
         # Where nothing says which runs are of one input each is its own: 10 of 100 fail, 1 draw of 17310309456440.
-        self.assertLess(self.seen(often, None).bug_chances[0], 1e-9)
+        self.assertLess(self.seen(often, None, self.one_bug(10, 90)).bug_chances[0], 1e-9)
 
     def test_lines_that_failing_runs_come_to_are_in_their_order(self):
         """Of ten failing runs and ten others nine and one come to line 2, which is beyond chance for two lines: 2 * 101 / 184756. To line 3 come eight and five, which is within it."""
@@ -287,18 +338,21 @@ class PortedFacts(Hunting):
     """What a port added is never the title."""
 
     def test_what_only_the_port_has_is_left_out_and_counted(self):
-        """By hand: the loader of bytes is true in the failing run alone, and so is `if` of line 3 of the person's text; the loader isn't told."""
-        program = Program("", ["cbi_load", "main"], [Site(0, "branches", "cbi_load", 9, 0, ("if",), False), Site(1, "branches", "main", 3, 0, ("if",), False)])
-        where = cbi_where.Where("a.c", {"a.c": ["", "", "if (a);"]}, [("a.c", line, False) for line in range(1, 9)] + [("", 0, True)], frozenset(["cbi_load"]))
+        """By hand: the loader of bytes is true in the five failing runs alone, and `if` of line 3 of the person's text in four of these; the loader isn't told, and takes no run from it."""
+        path = self.transform("int cbi_load(int a){if(a);return a;}\nint main(void){int b=cbi_load(getchar());\nif(b);\nreturn 0;}\n", "full", "branches")
+        program = cbi_files.read_program(path)
+        self.assertEqual([(site.function, site.line) for site in program.sites], [("cbi_load", 1), ("main", 3)])
+        lines = [("", 0, True), ("a.c", 2, False), ("a.c", 3, False), ("a.c", 4, False)]
+        where = cbi_where.Where("a.c", {"a.c": ["", "int main(void) {", "if (b);", "}"]}, lines, frozenset(["cbi_load"]))
         wording = cbi_wording.Wording(None, program, where)
         self.assertEqual(wording.left_out(), frozenset([0]))
         self.assertIsNone(wording.told(program.sites[0], "if is true"))
-        runs = [run_of(number, number <= 5, s0=YES if number <= 5 else NO, s1=YES if number <= 5 else NO) for number in range(1, 21)]
-        text = "".join(f"run {run.number} {run.outcome} label {run.label} work 0 0 0\n" + "".join(f"site {site} {one[0]} {one[1]} {one[2]}\n" for site, one in run.sites.items()) for run in runs)
-        self.write("runs", "cbi-collection 2\nprogram 0\n" + text + "end\n")
-        seen = cbi_seen.seen_in(self.path("runs"), program, cbi_seen.Asked([], where, None, left_out=wording.left_out()))
+        runs = [run_of(number, number <= 5, s0=YES if number <= 5 else NO, s1=YES if number <= 4 else NO) for number in range(1, 21)]
+        self.write("runs", collected(runs, program.identity))
+        asked = cbi_seen.Asked([], where, None, left_out=wording.left_out())
+        seen = cbi_seen.seen_in(self.path("runs"), program, lambda left_out: cbi_bugs.list_runs(looking.CBI, path, self.path("runs"), left_out, self.room), asked)
         answer = cbi_answer.answer_of(seen, wording)
-        self.assertEqual([(bug.lead.found.predicate, bug.lead.told.spot.line) for bug in answer.bugs], [(2, 3)])
+        self.assertEqual([(bug.lead.found.predicate, bug.lead.told.spot.line, bug.runs) for bug in answer.bugs], [(2, 3, [1, 2, 3, 4]), (3, 3, [5])])
         self.assertEqual([line.found.predicate for line in answer.lines], [2])
         self.assertEqual((answer.left_out, answer.observed), (1, 2))
 

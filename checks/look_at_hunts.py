@@ -38,11 +38,11 @@ class Hunt(Hunting):
     def test_its_runs_are_those_that_the_commands_make(self):
         out = self.hunt("--inputs", "in puts", "--expect", "due", "--runs", "30", "--rate", "5", "--keep", "kept hunt")
         self.assertEqual(self.read("kept hunt/runs"), self.runs_by_hand(30))
-        for file, command in (("ranking", "rank"), ("cards", "cards")):
-            self.assertEqual(self.read(f"kept hunt/{file}").decode(), self.call("cbi", command, "plan.cbi", "kept hunt/runs")[0])
+        for file, *command in (("ranking", "rank"), ("cards", "cards"), ("lines", "lines", "--most=1000", "--apart=0"), ("bugs", "bugs", "--most=10", "--also=40")):
+            self.assertEqual(self.read(f"kept hunt/{file}").decode(), self.call("cbi", *command, "plan.cbi", "kept hunt/runs")[0])
         self.assertIn("\n\n30 runs on 12 inputs: 8 failed, 22 succeeded\nfailing inputs: 02 abc, 04 zza, 08 caa, in kept hunt/failing\n\n", out)
         self.assertEqual(sorted(os.listdir(self.path("kept hunt/failing"))), ["02 abc", "04 zza", "08 caa"])
-        self.assertEqual(sorted(os.listdir(self.path("kept hunt"))), ["batches", "cards", "failing", "hunt.json", "hunt.lock", "page.html", "pairs", "plain", "program", "ranking",
+        self.assertEqual(sorted(os.listdir(self.path("kept hunt"))), ["batches", "bugs", "cards", "failing", "hunt.json", "hunt.lock", "lines", "page.html", "pairs", "plain", "program", "ranking",
                                                                           "runs", "source.c", "told.json"])
 
     def test_at_rate_1_a_run_needs_no_bank(self):

@@ -17,7 +17,7 @@ import looking  # noqa: E402
 from looking import EXAMPLES, HOUSE, SCRIPTS, TOOLS, TOP, Case, environment, sources  # noqa: E402
 from look_at_answers import Answer, Facts, Hangs, Numbers, Sections  # noqa: E402,F401: their cases are among those that are looked at
 from look_at_broken import Loops, Marks, Memory, Outputs, Traps  # noqa: E402,F401
-from look_at_bugs import Bugs, Evidence, PortedFacts, Words  # noqa: E402,F401
+from look_at_bugs import Evidence, Lists, PortedFacts, Whose, Words  # noqa: E402,F401
 from look_at_farms import Farm  # noqa: E402,F401
 from look_at_given import Advice, Given, Hanging, Marked, Progress, Room, Wavering  # noqa: E402,F401
 from look_at_given import Traps as TrapWords  # noqa: E402,F401

@@ -5,8 +5,9 @@ Each is joined with its line of the source, in the words that stand there; what 
 import heapq
 from typing import Dict, Iterable, Iterator, List, NamedTuple, Optional, Tuple
 
-from cbi_bugs import KINDS, Bug, Found, Order, Table, order_of, strength_of
+from cbi_bugs import Found
 from cbi_evidence import DOUBT
+from cbi_reports import Round, Table, strength_of
 from cbi_seen import Seen
 from cbi_source import Fact, clipped
 from cbi_where import Spot
@@ -106,7 +107,7 @@ def in_words(found: Iterable[Found], wording: Wording) -> Iterable[Stated]:
             yield said
 
 
-def way_to(bug: Bug, lead: Stated, also: List[Stated], seen: Seen, wording: Wording, whole: bool) -> List[Stated]:
+def way_to(bug: Round, lead: Stated, also: List[Stated], seen: Seen, wording: Wording, whole: bool) -> List[Stated]:
     """Branches that its runs took and few others, at most three quarters of these; the one that most took stands first. Where visits are sampled, not each of its runs has seen them."""
     table, own = seen.table, seen.table.within(bug.runs)
     found: List[Found] = []
@@ -116,8 +117,8 @@ def way_to(bug: Bug, lead: Stated, also: List[Stated], seen: Seen, wording: Word
             continue
         for predicate, text, patterns in table.facts[site]:
             a, others = sum(moved[pattern] for pattern in patterns), table.counts_of(predicate)
-            strength = strength_of(a, others[1], len(bug.runs), seen.bugs.successful)
-            if whole and a < len(bug.runs) or strength < LEAST_WAY or 4 * others[1] > 3 * seen.bugs.successful:
+            strength = strength_of(a, others[1], len(bug.runs), table.successful)
+            if whole and a < len(bug.runs) or strength < LEAST_WAY or 4 * others[1] > 3 * table.successful:
                 continue
             where = table.program.sites[site]
             found.append(Found(predicate, where.function, where.line, a, others[1], sum(moved), others[3], strength, text))
@@ -131,7 +132,7 @@ def way_to(bug: Bug, lead: Stated, also: List[Stated], seen: Seen, wording: Word
     return sorted(shown, key=lambda said: (-said.found.b, said.told.spot))
 
 
-def bug_shown(bug: Bug, expected: float, seen: Seen, wording: Wording, whole: bool) -> Optional[BugShown]:
+def bug_shown(bug: Round, expected: float, seen: Seen, wording: Wording, whole: bool) -> Optional[BugShown]:
     lead = stated(bug.leader, wording)
     if lead is None:
         return None
@@ -150,13 +151,11 @@ def with_leads(said: Stated, wording: Wording) -> Stated:
 
 def suspicious(seen: Seen, wording: Wording) -> Iterator[Stated]:
     """The lines that go with failing, the strongest first: those with a site by their best fact; and behind each that is as strong those without one, by the branch that leads to them."""
-    failing, successful = seen.bugs.failing, seen.bugs.successful
-
-    def order(said: Stated) -> Order:
+    def order(said: Stated) -> Tuple[int, int, int]:
         found = said.found
-        return order_of((found.a, found.b, found.c, found.d), failing, successful, KINDS[seen.table.sites[found.predicate].scheme], found.predicate)
+        return (-found.strength, -found.a, -(found.c + found.d))
 
-    own = (with_leads(said, wording) for said in in_words(seen.lines.lines, wording))
+    own = (with_leads(said, wording) for said in in_words(seen.listed.lines.lines, wording))
     return iter(heapq.merge(own, sorted(reached(seen, wording), key=order), key=order))
 
 
@@ -164,7 +163,7 @@ def reached(seen: Seen, wording: Wording) -> Iterator[Stated]:
     """Of each branch the first statement that it leads to and that is further away than what is told with it."""
     for predicate, led in wording.reach().led().items():
         site, counts = seen.table.sites[predicate], seen.table.counts_of(predicate)
-        strength = strength_of(counts[0], counts[1], seen.bugs.failing, seen.bugs.successful)
+        strength = strength_of(counts[0], counts[1], len(seen.table.failing), seen.table.successful)
         told = wording.told(site, wording.numbered[predicate][1]) if strength and site.number not in seen.table.left_out else None
         far = [one for one in led if told and (one.spot.file != told.spot.file or abs(one.spot.line - told.spot.line) > APART)]
         if told and far:
@@ -180,7 +179,7 @@ def left_out_of(table: Table) -> int:
 
 def answer_of(seen: Seen, wording: Wording) -> Answer:
     whole = sum(seen.inputs) == seen.totals.failing + seen.totals.successful
-    shown = [bug_shown(bug, expected, seen, wording, whole) for bug, expected in zip(seen.bugs.bugs, seen.bug_chances)]
+    shown = [bug_shown(bug, expected, seen, wording, whole) for bug, expected in zip(seen.rounds, seen.bug_chances)]
     bugs = [bug._replace(number=number) for number, bug in enumerate((bug for bug in shown if bug), 1)]
     lines = apart(suspicious(seen, wording), MOST_LINES)
-    return Answer(bugs, lines, seen.bugs.failing, seen.bugs.successful, seen.inputs, seen.observed, left_out_of(seen.table))
+    return Answer(bugs, lines, len(seen.table.failing), seen.table.successful, seen.inputs, seen.observed, left_out_of(seen.table))

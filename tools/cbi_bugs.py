@@ -1,22 +1,22 @@
-"""Suspicious lines, and bugs one after another, from the runs of a collection: in whole numbers alone. Not proved.
+"""Suspicious lines, and bugs one after another, as `cbi lines` and `cbi bugs` print them: how the two are asked, and how their texts are read. Not proved.
 
-Only runs that failed or succeeded count. A predicate is true in `a` of F failing and in `b` of S other runs, and its site was observed in `c` and `d` of them.
-With N = F + S, and e = aS - bF where that is positive and 0 elsewhere, its strength is e^2 / (F S (a+b) (N-a-b)), or 0 where that divisor is 0: the square of
-the coefficient of correlation between the two, so 1 for a predicate that is true in all failing runs and in no other.
+`cbi` counts what stands in them and puts it in order (docs/METHOD.md, 'Suspicious lines and bugs'; docs/FORMATS.md has both texts). Nothing of it is computed here.
 """
-from array import array
-from typing import Dict, FrozenSet, Iterable, List, NamedTuple, Sequence, Tuple
+import contextlib
+import os
+import subprocess
+from typing import Callable, FrozenSet, Iterator, List, NamedTuple
 
-from cbi_files import Program, Run, Site
+import cbi_files
+from cbi_files import Fault
+from cbi_runs import call_to
 
-MILLION = 1000000
-# Which of two predicates that are as strong stands first, by their kind.
-KINDS = {"branches": 0, "returns": 1, "pairs": 2}
-PATTERNS = 8      # of three counters, each of which moved or not
+# As many lines and places are asked for as there may be, since of those that are near one another, or at the same line of a person's, one alone is shown.
+MOST_LINES, MOST_BUGS, MOST_ALSO = 1000, 10, 40
 
 
 class Found(NamedTuple):
-    """A predicate with its counts: those of all runs, or where failing runs were set aside, of those that are left. The strength is in millionths, rounded down."""
+    """A predicate with its counts: true in `a` failing and `b` other runs, its site observed in `c` and `d`. The strength is in millionths, rounded down."""
     predicate: int
     function: str
     line: int
@@ -24,6 +24,16 @@ class Found(NamedTuple):
     b: int
     c: int
     d: int
+    strength: int
+    text: str
+
+
+class Also(NamedTuple):
+    """A further place of a round, by its best predicate."""
+    function: str
+    line: int
+    a: int
+    b: int
     strength: int
     text: str
 
@@ -37,11 +47,10 @@ class Lines(NamedTuple):
 
 
 class Bug(NamedTuple):
-    """A round: the best predicate of the failing runs that no round before it took, which `live` are; the numbers of those in which it is true; and the next places."""
+    """A round: the best predicate of the failing runs that no round before it took, the least number of those in which it is true, and the next places."""
     leader: Found
-    live: int
-    runs: List[int]
-    also: List[Found]
+    first: int
+    also: List[Also]
 
 
 class Bugs(NamedTuple):
@@ -52,143 +61,114 @@ class Bugs(NamedTuple):
     rest: int
 
 
-Order = Tuple[int, int, int, int, int]
+class Listed(NamedTuple):
+    """What both commands print of one collection."""
+    lines: Lines
+    bugs: Bugs
 
 
-def strength_of(a: int, b: int, failing: int, successful: int) -> int:
-    """The strength in millionths, rounded down."""
-    e, divisor = max(0, a * successful - b * failing), failing * successful * (a + b) * (failing + successful - a - b)
-    return e * e * MILLION // divisor if divisor else 0
+# What lists the runs of a collection, without what they saw at these sites.
+Lister = Callable[[FrozenSet[int]], Listed]
 
 
-def order_of(counts: Tuple[int, int, int, int], failing: int, successful: int, kind: int, number: int) -> Order:
-    """What a better predicate has less of: a greater strength goes first, then a greater a, a greater c + d, a branch before a return before a pair, the smaller number.
+# How they are asked
 
-    Within one list F S falls out of each comparison. Two fractions with divisors up to N^2 are the same where they are as whole numbers once each is multiplied by N^4 at least.
+def has_lists(cbi: str) -> bool:
+    """Whether the executable has the commands; older ones don't know them."""
+    done = subprocess.run([cbi, "lines", "--most=0", "a", "b"], stdin=subprocess.DEVNULL, stdout=subprocess.DEVNULL, stderr=subprocess.PIPE, check=False)
+    return done.stderr == b"cbi: bad value of --most\n"
+
+
+def check_lists(cbi: str) -> None:
+    if not has_lists(cbi):
+        raise Fault(f"{cbi} has no commands lines and bugs, which list what is shown: it is older than this script (./build FOLDER makes one that has them)")
+
+
+def without_sites(collection: str, left_out: FrozenSet[int], target: str) -> None:
+    """Copies a collection without what its runs saw at these sites: as a collection, it is that of runs that didn't come there."""
+    names = {b"%d" % site for site in left_out}
+    with open(collection, "rb") as source, open(target, "wb") as file:
+        file.writelines(line for line in source if not (line.startswith(b"site ") and line.split(b" ", 2)[1] in names))
+
+
+def list_runs(cbi: str, program: str, collection: str, left_out: FrozenSet[int], folder: str) -> Listed:
+    """Has `cbi` list the lines and the bugs of a collection, and leaves what it prints in a folder, as `lines` and `bugs`.
+
+    Sites that are left out, as those of code that a port added, are taken from the runs before: so none of them leads a round or takes a run, and each number is of the other sites alone.
     """
-    a, b, c, d = counts
-    e, divisor = max(0, a * successful - b * failing), (a + b) * (failing + successful - a - b)
-    finer = (failing + successful).bit_length() * 4
-    scaled = (e * e << finer) // divisor if divisor and failing and successful else 0
-    return (-scaled, -a, -(c + d), kind, number)
+    asked = {"lines": [f"--most={MOST_LINES}", "--apart=0"], "bugs": [f"--most={MOST_BUGS}", f"--also={MOST_ALSO}"]}
+    rest = os.path.join(folder, "runs.left")
+    try:
+        if left_out:
+            without_sites(collection, left_out, rest)
+        for command, words in asked.items():
+            call_to(os.path.join(folder, command), [cbi, command, *words, "--", program, rest if left_out else collection])
+    finally:
+        if os.path.exists(rest):
+            os.remove(rest)
+    return read_listed(folder)
 
 
-def apart_from(found: Sequence[Found], lines: int) -> List[Found]:
-    """These without any that has one of its function at most so many lines away before it."""
-    kept: List[Found] = []
-    near: Dict[str, List[int]] = {}
-    for one in found:
-        if all(abs(one.line - line) > lines for line in near.get(one.function, [])):
-            kept.append(one)
-            near.setdefault(one.function, []).append(one.line)
-    return kept
+def read_listed(folder: str) -> Listed:
+    return Listed(read_lines(os.path.join(folder, "lines")), read_bugs(os.path.join(folder, "bugs")))
 
 
-class Table:
-    """Runs as a table: for each site in how many failing and other runs which of its counters moved. `left_out` are sites whose predicates aren't asked for."""
+# How they are read
 
-    def __init__(self, program: Program, left_out: FrozenSet[int] = frozenset()):
-        self.program, self.left_out = program, left_out
-        self.failing: List[Tuple[int, "array[int]"]] = []
-        self.successful = 0
-        self.failed: Dict[int, List[int]] = {}
-        self.passed: Dict[int, List[int]] = {}
-        self.facts: Dict[int, List[Tuple[int, str, List[int]]]] = {}
-        self.sites: Dict[int, Site] = {}
-        for number, (site, text, counters) in program.numbered().items():
-            self.sites[number] = site
-            patterns = [pattern for pattern in range(PATTERNS) if any(pattern >> counter & 1 for counter in counters)]
-            self.facts.setdefault(site.number, []).append((number, text, patterns))
+@contextlib.contextmanager
+def form_of(name: str, command: str) -> Iterator[List[str]]:
+    """The lines of a text up to its line `end`; one that hasn't its form is a fault."""
+    try:
+        *lines, end, behind = cbi_files.decoded(cbi_files.read_bytes(name)).split("\n")
+        if end != "end" or behind:
+            raise ValueError
+        yield lines
+    except (ValueError, IndexError):
+        raise Fault(f"{name}: it hasn't the form of what {command} prints")
 
-    def add(self, run: Run) -> None:
-        """Takes a run in, which counts where it failed or succeeded."""
-        if run.label not in ("fail", "pass"):
-            return
-        moved = array("I", (site * PATTERNS + (less > 0) + 2 * (equal > 0) + 4 * (greater > 0) for site, (less, equal, greater) in run.sites.items()))
-        if run.label == "fail":
-            self.failing.append((run.number, moved))
-        else:
-            self.successful += 1
-        self.count(self.failed if run.label == "fail" else self.passed, moved, 1)
 
-    def count(self, table: Dict[int, List[int]], moved: "array[int]", by: int) -> None:
-        for piece in moved:
-            site, pattern = divmod(piece, PATTERNS)
-            if site not in table:
-                table[site] = [0] * PATTERNS
-            table[site][pattern] += by
+def read_lines(name: str) -> Lines:
+    """`lines F S PLACES`, then `line K P FUNCTION LINE A B C D STRENGTH TEXT`, and `end`."""
+    with form_of(name, "cbi lines") as lines:
+        failing, successful, places = numbers_of("lines", lines[0], 3)
+        return Lines(failing, successful, places, [line_of(number, line) for number, line in enumerate(lines[1:], 1)])
 
-    def best(self, live: Dict[int, List[int]], failing: int) -> List[Tuple[Order, Found]]:
-        """The best predicate of each place, the best place first. Of the failing runs these are live."""
-        places: Dict[Tuple[str, int], Tuple[Order, Tuple[int, int, int, int], str]] = {}
-        none = [0] * PATTERNS
-        for number, moved in live.items():
-            if number in self.left_out:
-                continue
-            site, others = self.program.sites[number], self.passed.get(number, none)
-            c, d = sum(moved), sum(others)
-            for predicate, text, patterns in self.facts[number]:
-                a, b = sum([moved[pattern] for pattern in patterns]), sum([others[pattern] for pattern in patterns])
-                if a:
-                    order = order_of((a, b, c, d), failing, self.successful, KINDS[site.scheme], predicate)
-                    place = (site.function, site.line)
-                    if place not in places or order < places[place][0]:
-                        places[place] = (order, (a, b, c, d), text)
-        found = sorted((order, place, counts, text) for place, (order, counts, text) in places.items())
-        return [(order, Found(order[4], place[0], place[1], *counts, strength_of(counts[0], counts[1], failing, self.successful), text)) for order, place, counts, text in found]
 
-    def lines(self, most: int = 10, apart: int = 3) -> Lines:
-        """The places by their best predicates over all runs."""
-        found = [one for _, one in self.best(self.failed, len(self.failing))]
-        return Lines(len(self.failing), self.successful, len(found), apart_from(found, apart)[:most])
+def read_bugs(name: str) -> Bugs:
+    """`bugs F S`, then `bug K P FUNCTION LINE A B C D STRENGTH first R TEXT`, behind each `also FUNCTION LINE A B STRENGTH TEXT`, then `rest R`, and `end`."""
+    with form_of(name, "cbi bugs") as lines:
+        failing, successful = numbers_of("bugs", lines[0], 2)
+        rest, = numbers_of("rest", lines[-1], 1)
+        bugs: List[Bug] = []
+        for line in lines[1:-1]:
+            if line.startswith("also "):
+                bugs[-1].also.append(also_of(line))
+            else:
+                bugs.append(bug_of(len(bugs) + 1, line))
+        return Bugs(failing, successful, bugs, rest)
 
-    def bugs(self, most: int = 10, also: int = 3) -> Bugs:
-        """Rounds: each takes the best predicate of the failing runs that are live, and these live no longer in which it is true."""
-        live = {site: list(moved) for site, moved in self.failed.items()}
-        runs = list(self.failing)
-        rounds: List[Bug] = []
-        while runs and len(rounds) < most:
-            found = [one for _, one in self.best(live, len(runs))]
-            if not found:
-                break
-            pieces = self.pieces_of(found[0].predicate)
-            own = [run for run in runs if not pieces.isdisjoint(run[1])]
-            rounds.append(Bug(found[0], len(runs), sorted(number for number, _ in own), apart_from(found, 3)[1:also]))
-            for _, moved in own:
-                self.count(live, moved, -1)
-            taken = {number for number, _ in own}
-            runs = [run for run in runs if run[0] not in taken]
-        return Bugs(len(self.failing), self.successful, rounds, len(runs))
 
-    # What else the table says
+def numbers_of(word: str, line: str, count: int) -> List[int]:
+    said, *numbers = line.split(" ")
+    if said != word or len(numbers) != count:
+        raise ValueError
+    return list(map(int, numbers))
 
-    def pieces_of(self, predicate: int) -> FrozenSet[int]:
-        """A predicate as what a run has that it is true in: one of these."""
-        site = self.sites[predicate].number
-        return frozenset(site * PATTERNS + pattern for number, _, patterns in self.facts[site] if number == predicate for pattern in patterns)
 
-    def runs_with(self, predicates: Iterable[int]) -> Dict[int, List[int]]:
-        """For each of these predicates the numbers of the failing runs in which it is true, in their order."""
-        pieces = {predicate: self.pieces_of(predicate) for predicate in predicates}
-        found: Dict[int, List[int]] = {predicate: [] for predicate in pieces}
-        for number, moved in sorted(self.failing) if pieces else []:
-            here = frozenset(moved)
-            for predicate, wanted in pieces.items():
-                if not wanted.isdisjoint(here):
-                    found[predicate].append(number)
-        return found
+def line_of(number: int, line: str) -> Found:
+    word, place, predicate, function, at, a, b, c, d, strength, text = line.split(" ", 10)
+    if word != "line" or int(place) != number:
+        raise ValueError
+    return Found(int(predicate), function, int(at), int(a), int(b), int(c), int(d), int(strength), text)
 
-    def within(self, runs: Iterable[int]) -> Dict[int, List[int]]:
-        """For each site in how many of these failing runs which of its counters moved."""
-        wanted, table = frozenset(runs), {}  # type: FrozenSet[int], Dict[int, List[int]]
-        for number, moved in self.failing:
-            if number in wanted:
-                self.count(table, moved, 1)
-        return table
 
-    def counts_of(self, predicate: int) -> Tuple[int, int, int, int]:
-        """a, b, c and d over all runs."""
-        site, none = self.sites[predicate].number, [0] * PATTERNS
-        failed, passed = self.failed.get(site, none), self.passed.get(site, none)
-        patterns = next(patterns for number, _, patterns in self.facts[site] if number == predicate)
-        return sum(failed[pattern] for pattern in patterns), sum(passed[pattern] for pattern in patterns), sum(failed), sum(passed)
+def bug_of(number: int, line: str) -> Bug:
+    word, place, predicate, function, at, a, b, c, d, strength, behind, first, text = line.split(" ", 12)
+    if (word, behind) != ("bug", "first") or int(place) != number:
+        raise ValueError
+    return Bug(Found(int(predicate), function, int(at), int(a), int(b), int(c), int(d), int(strength), text), int(first), [])
+
+
+def also_of(line: str) -> Also:
+    _, function, at, a, b, strength, text = line.split(" ", 6)
+    return Also(function, int(at), int(a), int(b), int(strength), text)

@@ -5,8 +5,8 @@ Runs on one input fail all or none, so another run of it is no further evidence.
 import math
 from typing import Dict, FrozenSet, Hashable, Iterable, List, NamedTuple, Optional, Set
 
-from cbi_bugs import PATTERNS, Table
 from cbi_files import read_collection
+from cbi_reports import PATTERNS, Table
 
 # From how many facts on that chance alone would make look as strong a title is doubted.
 DOUBT = 0.05

@@ -9,6 +9,7 @@ import re
 from typing import Dict, Iterable, List, NamedTuple, Optional, Set
 
 from cbi_answer import Answer, answer_of
+from cbi_bugs import Lister
 from cbi_evidence import Evidence
 from cbi_files import Card, Fault, Pair, Program, Ranking, Row
 from cbi_hunted import Hunted, Sample
@@ -262,12 +263,13 @@ def pair_of(pair: Optional[Pair], ranking: Ranking, wording: Wording, inputs: Op
 
 
 class Given(NamedTuple):
-    """The files that a ranking is shown with, as far as they are there."""
+    """The files that a ranking is shown with, as far as they are there; `lister` lists the lines and bugs of the collection."""
     where: Where
     source: Optional[List[str]] = None
     program: Optional[Program] = None
     cards: Dict[int, Card] = {}
     collection: Optional[str] = None
+    lister: Optional[Lister] = None
     pair: Optional[Pair] = None
     hunted: Optional[Hunted] = None
 
@@ -280,7 +282,7 @@ def view_of(ranking: Ranking, given: Given) -> View:
     wording, parts = Wording(given.source, given.program, given.where), bodies(given.source) if given.source else None
     asked = Asked(ranking.rows, given.where, given.hunted.inputs if given.hunted else None, given.hunted.policy if given.hunted else "all", wording.left_out(),
                   bool(given.hunted and given.hunted.by_status), (given.pair.left.predicate, given.pair.right.predicate) if given.pair else ())
-    seen = seen_in(given.collection, given.program, asked) if given.collection and given.program else None
+    seen = seen_in(given.collection, given.program, given.lister, asked) if given.collection and given.program and given.lister else None
     most = max((row.f + row.s for row in ranking.rows), default=0)
     shown = [shown_of(row, most, given, wording, seen, rows) for row in ranking.rows]
     added, shown = [one for one in shown if one.spot.added], [one for one in shown if not one.spot.added]

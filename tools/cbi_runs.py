@@ -16,6 +16,7 @@ from typing import IO, Callable, Dict, List, NamedTuple, Optional, Sequence, Tup
 
 from cbi_files import FOUND, Fault, status_of
 
+HERE = os.path.dirname(os.path.realpath(__file__))
 # How many numbers a run's bank has. It is drawn round and round.
 BANK_NUMBERS = 256
 # What an oracle answers: 0 is right, 125 is `I can't tell`, as for `git bisect run`, and up to 124 is wrong.
@@ -67,6 +68,17 @@ class Batch(NamedTuple):
 
     def name(self) -> str:
         return f"{self.first}-{self.last}"
+
+
+def executable(name: str) -> str:
+    """The executable: from the path, or the one that stands beside the scripts."""
+    beside = os.path.join(HERE, "cbi")
+    found = shutil.which(name) or (beside if name == "cbi" and os.access(beside, os.X_OK) else None)
+    if found:
+        return os.path.abspath(found)
+    if os.path.dirname(name):
+        raise Fault(f"--cbi {name}: " + ("it isn't executable" if os.path.exists(name) else "there is no such file"))
+    raise Fault(f"{name} isn't on the path: ./build FOLDER leaves it there, or name it by --cbi")
 
 
 def call(words: List[str], out: Union[IO[bytes], int]) -> None:
@@ -232,7 +244,6 @@ class Runner:
 
 # Batches that are sent to other hosts
 
-HERE = os.path.dirname(os.path.realpath(__file__))
 MODULES = ("cbi_files.py", "cbi_runs.py", "cbi_lists.py")
 BEGIN = """\
 import sys

@@ -6,15 +6,14 @@ from collections import Counter
 from typing import Counter as Counts
 from typing import Dict, FrozenSet, Hashable, List, NamedTuple, Optional, Set, Tuple
 
-from cbi_bugs import Bugs, Lines, Table
+from cbi_bugs import Listed, Lister
 from cbi_evidence import DOUBT, Event, Evidence, Looks, event_at, event_of
 from cbi_files import Program, Row, read_collection, status_of
+from cbi_reports import Round, Table
 from cbi_where import Spot, Where
 
 # How many lines are told that failing runs come to.
 MOST_PLACES = 5
-# As many places and lines are asked for as there may be, since of those that are near one another, or at the same line of a person's, one alone is shown.
-MOST_ALSO, MOST_LINES = 40, 1000
 MOST_LOOKED = 30   # places that inputs are counted of
 
 
@@ -54,8 +53,8 @@ class Seen(NamedTuple):
     places: List[Place]
     observed: int
     table: Table
-    bugs: Bugs
-    lines: Lines
+    listed: Listed
+    rounds: List[Round]
     chances: Dict[int, float]
     bug_chances: List[float]
     both: Optional[Evidence]
@@ -124,21 +123,22 @@ class Reading:
         return [site for site, spot in self.spots.items() if spot == place]
 
 
-def seen_in(collection: str, program: Program, asked: Asked) -> Seen:
-    """What the runs of a collection say of the rows, and of themselves."""
+def seen_in(collection: str, program: Program, lister: Lister, asked: Asked) -> Seen:
+    """What the runs of a collection say of the rows, of the bugs that are listed of them, and of themselves."""
     reading = Reading(collection, program, asked)
     table, rows = reading.table, [row.predicate for row in asked.rows]
-    bugs, lines = table.bugs(also=MOST_ALSO), table.lines(MOST_LINES, 0)
+    listed = lister(asked.left_out)
+    rounds = table.rounds(listed.bugs)
     places = often(reading)
     looks: Optional[Looks] = None
     if asked.inputs and reading.several():
-        events: Dict[Hashable, Event] = {predicate: event_of(table, predicate) for predicate in [*rows, *(bug.leader.predicate for bug in bugs.bugs), *asked.pair]}
+        events: Dict[Hashable, Event] = {predicate: event_of(table, predicate) for predicate in [*rows, *(one.leader.predicate for one in rounds), *asked.pair]}
         events.update({place: event_at(reading.sites_at(place)) for place in places[:MOST_LOOKED]})
         looks = Looks(collection, events, asked.inputs)
     truths = {predicate: truth_of(table, predicate, runs, reading.outcomes) for predicate, runs in table.runs_with(rows).items()}
     chances = [reading.observed * one.by_chance() for one in looks.behind(list(rows), asked.policy)] if looks else [expected_by_chance(row, reading.observed) for row in asked.rows]
-    return Seen(reading.totals, dict(reading.endings), truths, told_places(places, reading, looks), reading.observed, table, bugs, lines,
-                dict(zip(rows, chances)), [reading.observed * one.by_chance() for one in evidence_of(bugs, looks)],
+    return Seen(reading.totals, dict(reading.endings), truths, told_places(places, reading, looks), reading.observed, table, listed, rounds,
+                dict(zip(rows, chances)), [reading.observed * one.by_chance() for one in evidence_of(rounds, table.successful, looks)],
                 looks.both(*asked.pair) if looks and asked.pair else None, reading.outcomes,
                 (len(reading.inputs[0]), len(reading.inputs[1])))
 
@@ -152,15 +152,15 @@ def truth_of(table: Table, predicate: int, runs: List[int], outcomes: Dict[int, 
     return Truth(len(runs), table.counts_of(predicate)[1], dict(Counter(outcomes[run] for run in runs).most_common()), runs)
 
 
-def evidence_of(bugs: Bugs, looks: Optional[Looks]) -> List[Evidence]:
+def evidence_of(rounds: List[Round], successful: int, looks: Optional[Looks]) -> List[Evidence]:
     """The evidence of each bug, among the failing runs that were live and all others."""
     if looks is None:
-        return [Evidence(bug.leader.a, bug.leader.b, bug.live, bugs.successful) for bug in bugs.bugs]
+        return [Evidence(one.leader.a, one.leader.b, one.live, successful) for one in rounds]
     taken: Set[int] = set()
     found = []
-    for bug in bugs.bugs:
-        found.append(looks.evidence(bug.leader.predicate, looks.without(taken)))
-        taken.update(bug.runs)
+    for one in rounds:
+        found.append(looks.evidence(one.leader.predicate, looks.without(taken)))
+        taken.update(one.runs)
     return found
 
 

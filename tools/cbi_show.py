@@ -7,8 +7,9 @@ import argparse
 import os
 import shutil
 import sys
-from typing import Dict, Iterator, List, Tuple
+from typing import Dict, FrozenSet, Iterator, List, Tuple
 
+import cbi_bugs
 import cbi_files
 import cbi_hunted
 import cbi_page
@@ -17,6 +18,7 @@ import cbi_sarif
 import cbi_text
 import cbi_where
 from cbi_files import FOUND, NOTHING, Fault, Program, Site, count_of
+from cbi_runs import executable
 
 EXAMPLES = """\
 examples:
@@ -45,6 +47,7 @@ def arguments() -> argparse.Namespace:
     parser.add_argument("--cards", metavar="CARDS", help="what cbi cards wrote: which rows stand together, counts over all runs, and failing runs to look at")
     parser.add_argument("--pairs", metavar="PAIRS", help="what cbi pairs wrote: the best pair is shown where it says more than the first row")
     parser.add_argument("--reports", metavar="COLL", help="the collection: the bugs and suspicious lines, how runs ended, where failing runs go, and what may be chance (asks for --program)")
+    parser.add_argument("--cbi", metavar="CBI", default="cbi", help="the executable that lists the bugs and lines of --reports (cbi on the path without this option, or else beside this script)")
     parser.add_argument("--format", choices=["text", "html", "sarif", "quickfix"], default="text",
                         help="text (without this option), a page that stands alone, SARIF 2.1.0 for code review, or file:line: text for editors")
     parser.add_argument("--all", action="store_true", help="shows weak facts too, and the rows of the ranking, which a text folds")
@@ -97,8 +100,19 @@ def looked_at(site: Site) -> str:
 
 # Rankings
 
-def view_of_hunt(folder: str) -> cbi_rows.View:
-    """What a hunt left in its folder. The text of the program is read where it stood when the hunt was made, if it is there and still the same."""
+def lister_of(cbi: str, program: str, collection: str) -> cbi_bugs.Lister:
+    """Has `cbi` list the lines and the bugs of a collection."""
+    def listed(left_out: FrozenSet[int]) -> cbi_bugs.Listed:
+        tool = executable(cbi)
+        cbi_bugs.check_lists(tool)
+        with cbi_files.folder_for_a_while("cbi-show-") as folder:
+            return cbi_bugs.list_runs(tool, program, collection, left_out, folder)
+
+    return listed
+
+
+def view_of_hunt(folder: str, cbi: str) -> cbi_rows.View:
+    """What a hunt left in its folder. The text of the program is read where it stood when the hunt was made, if it is there and still the same; what an older hunt has no lists of is listed anew."""
     def path(name: str) -> str:
         return os.path.join(folder, name)
 
@@ -107,7 +121,9 @@ def view_of_hunt(folder: str) -> cbi_rows.View:
     pair = cbi_files.read_pairs(path("pairs")) if os.path.exists(path("pairs")) else None
     cards = cbi_files.read_cards(path("cards")) if os.path.exists(path("cards")) else {}
     where = cbi_where.ported(path("source.c"), path("source.c.lines"), hunted.folder) if os.path.exists(path("source.c.lines")) else cbi_where.one_file(hunted.source, source)
-    given = cbi_rows.Given(where, source, cbi_files.read_program(path("program")), cards, path("runs"), pair, hunted)
+    lists = all(os.path.exists(path(name)) for name in ("lines", "bugs"))
+    lister = (lambda _: cbi_bugs.read_listed(folder)) if lists else lister_of(cbi, path("program"), path("runs"))
+    given = cbi_rows.Given(where, source, cbi_files.read_program(path("program")), cards, path("runs"), lister, pair, hunted)
     return cbi_rows.view_of(cbi_files.read_ranking(path("ranking")), given)
 
 
@@ -118,7 +134,8 @@ def view_of_files(chosen: argparse.Namespace) -> cbi_rows.View:
     cards = cbi_files.read_cards(chosen.cards) if chosen.cards else {}
     pair = cbi_files.read_pairs(chosen.pairs) if chosen.pairs else None
     where = cbi_where.ported(chosen.source, chosen.lines) if chosen.lines else cbi_where.one_file(chosen.source or chosen.names[0], source)
-    return cbi_rows.view_of(ranking, cbi_rows.Given(where, source, program, cards, chosen.reports, pair, None))
+    lister = lister_of(chosen.cbi, chosen.program, chosen.reports) if chosen.reports else None
+    return cbi_rows.view_of(ranking, cbi_rows.Given(where, source, program, cards, chosen.reports, lister, pair, None))
 
 
 def width_of(to_file: bool) -> int:
@@ -151,7 +168,7 @@ def lines_of(chosen: argparse.Namespace) -> Tuple[Iterator[str], int]:
     """The lines that are asked for, and the status."""
     if chosen.sites:
         return sites_of(chosen.sites, chosen.names), FOUND
-    view = view_of_hunt(chosen.hunt) if chosen.hunt else view_of_files(chosen)
+    view = view_of_hunt(chosen.hunt, chosen.cbi) if chosen.hunt else view_of_files(chosen)
     return formatted(view, chosen.format, chosen.all, bool(chosen.output)), FOUND if view.found() else NOTHING
 
 

@@ -2,18 +2,18 @@
 import argparse
 import os
 import shlex
-import shutil
 import sys
 from typing import List, Optional, Tuple
 
 import cbi_files
+from cbi_bugs import check_lists
 from cbi_files import FOUND, INTERRUPTED, NOTHING, Fault
 from cbi_hunt.collecting import collect, sample_of
 from cbi_hunt.flaky import flaky_note
 from cbi_hunt.given import check_given
 from cbi_hunt.inputs import Inputs, inputs_of
 from cbi_hunt.kept import Kept, folder_of
-from cbi_hunt.looks import TOOLS, Hunt, newline_note
+from cbi_hunt.looks import Hunt, newline_note
 from cbi_hunt.making import make_runs, processors
 from cbi_hunt.mutants import add_mutants
 from cbi_hunt.near import add_neighbours, refuse
@@ -25,7 +25,7 @@ from cbi_hunt.since import Before, make_old, old_words, set_aside
 from cbi_hunt.texts import text_of, transform
 from cbi_hunt.told import keep_failing, notes
 from cbi_hunt.words import arguments
-from cbi_runs import Plan
+from cbi_runs import Plan, executable
 
 # The rate at which each visit is looked at.
 EVERY = 1
@@ -91,17 +91,6 @@ def hunt(chosen: argparse.Namespace, cbi: str, folder: str) -> int:
     return INTERRUPTED if not whole else FOUND if found else NOTHING
 
 
-def executable(name: str) -> str:
-    """The executable: from the path, or the one that stands beside this script."""
-    beside = os.path.join(TOOLS, "cbi")
-    found = shutil.which(name) or (beside if name == "cbi" and os.access(beside, os.X_OK) else None)
-    if found:
-        return os.path.abspath(found)
-    if os.path.dirname(name):
-        raise Fault(f"--cbi {name}: " + ("it isn't executable" if os.path.exists(name) else "there is no such file"))
-    raise Fault(f"{name} isn't on the path: ./build FOLDER leaves it there, or name it by --cbi")
-
-
 def main() -> int:
     chosen = arguments(sys.argv[1:])
     heed(interrupted)
@@ -109,6 +98,7 @@ def main() -> int:
     if chosen.since:
         old_words(chosen)
     cbi = executable(chosen.cbi)
+    check_lists(cbi)
     chosen.command = " ".join(shlex.quote(word) for word in ["cbi-hunt", *sys.argv[1:]])
     with folder_of(chosen) as folder:
         return with_room(chosen, folder, lambda: hunt(chosen, cbi, folder))

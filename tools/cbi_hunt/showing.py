@@ -3,8 +3,9 @@ import datetime
 import hashlib
 import os
 import sys
-from typing import List, Optional
+from typing import FrozenSet, List, Optional
 
+import cbi_bugs
 import cbi_files
 import cbi_rows
 import cbi_show
@@ -51,6 +52,14 @@ def rank(hunt: Hunt) -> cbi_files.Ranking:
     return ranking
 
 
+def lister_of(hunt: Hunt) -> cbi_bugs.Lister:
+    """Has `cbi` list the lines and the bugs, and keeps what it prints."""
+    def listed(left_out: FrozenSet[int]) -> cbi_bugs.Listed:
+        return cbi_bugs.list_runs(hunt.plan.cbi, hunt.plan.program, hunt.kept.path("runs"), left_out, hunt.kept.folder)
+
+    return listed
+
+
 def where_of(hunt: Hunt, source: List[str]) -> cbi_where.Where:
     """Whose the lines are: of the text, or of what it was ported from."""
     path = hunt.kept.path("source.c.lines")
@@ -76,7 +85,7 @@ def show(hunt: Hunt, notes: List[str], newline: Optional[str], warning: Optional
     pair = cbi_files.read_pairs(kept.path("pairs")) if ranking.rows else None
     where = where_of(hunt, source)
     hunted = facts_of(hunt, program, notes, "" if hunt.count.failed and hunt.count.succeeded else advice(hunt, newline), warning)
-    view = cbi_rows.view_of(ranking, cbi_rows.Given(where, source, program, cards, kept.path("runs"), pair, hunted))
+    view = cbi_rows.view_of(ranking, cbi_rows.Given(where, source, program, cards, kept.path("runs"), lister_of(hunt), pair, hunted))
     examples = examples_of(hunt, view.answer, program)
     shown = {bug.number for bug in view.answer.leading()} if view.answer else set()
     examples = [example._replace(broke=broke_of(hunt, example, where)) if number in shown or not shown else example for number, example in enumerate(examples, 1)]

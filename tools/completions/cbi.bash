@@ -65,7 +65,7 @@ _cbi_hunt() {
 }
 
 _cbi_show() {
-    _cbi_options '--hunt --source --lines --program --cards --pairs --reports --format --all --output --sites --version --help'
+    _cbi_options '--hunt --source --lines --program --cards --pairs --reports --cbi --format --all --output --sites --version --help'
 }
 
 _cbi_explain() {
