@@ -1,6 +1,6 @@
-"""Writes JSON texts: documents with edits of their arrays (edits), or with a JSON Patch, RFC 6902 (patch).
+"""Writes JSON texts: documents with edits of their arrays (edits), or with a JSON Patch, RFC 6902 (patch), or with a bracket too many or too few (brackets).
 
-    python3 json_texts.py COUNT FOLDER SEED edits|patch
+    python3 json_texts.py COUNT FOLDER SEED edits|patch|brackets
 """
 import json
 import random
@@ -79,11 +79,20 @@ class Writer:
             rows.append(f'{{"op": "{op}", "path": {path}, "from": {json.dumps(self.pointer(read))}, "value": {self.value(2)}}}')
         return f'{{"doc": {document}, "patch": [{", ".join(rows)}]}}'
 
+    def brackets(self) -> str:
+        """A value; some have a bracket more, less, or another one in its place."""
+        text = self.value()
+        places = [place for place, sign in enumerate(text) if sign in "[]{}"]
+        if not places or self.chance.random() < 0.7:
+            return text + self.chance.choice(("",) * 18 + ("]", "}"))
+        at = self.chance.choice(places)
+        return text[:at] + self.chance.choice(("", "]", "}", "[", text[at] * 2)) + text[at + 1:]
+
 
 def main(words: List[str]) -> int:
     count, folder, seed, what = words
     writer = Writer(random.Random(int(seed)))
-    made: Dict[str, Callable[[], str]] = {"edits": writer.edits, "patch": writer.patch}
+    made: Dict[str, Callable[[], str]] = {"edits": writer.edits, "patch": writer.patch, "brackets": writer.brackets}
     for place in range(int(count)):
         (Path(folder) / f"t{place:05}").write_text(made[what]() + "\n", encoding="utf-8")
     return 0
