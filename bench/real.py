@@ -44,7 +44,7 @@ def measured(bug: Bug, sources: Sources, executable: str, jobs: int) -> Dict[str
     work = os.path.join(sources.work, bug.program.name, f"{bug.name}.hunt")
     os.makedirs(work, exist_ok=True)
     inputs = made(bug, mended, broken, work)
-    told(bug.name, f"{inputs.total} inputs, on {inputs.failing} of which gcc's build fails", begun)
+    told(bug.name, f"{inputs.total} inputs, on {len(inputs.failing)} of which gcc's build fails", begun)
     keep = os.path.join(work, "kept")
     done = hunted(bug, broken, inputs, keep, executable, jobs)
     came = shown(bug, broken, keep)
@@ -53,11 +53,12 @@ def measured(bug: Bug, sources: Sources, executable: str, jobs: int) -> Dict[str
     if came.failing:
         places["ochiai"], *_ = ochiai(bug, broken, came, inputs.inputs)
         told(bug.name, "coverage", begun)
-    failing = [os.path.join(inputs.inputs, name) for name, fails in chosen_runs(came) if fails][:MOST_SANITIZED]
+    names = [name for name, fails in chosen_runs(came) if fails] or inputs.failing
+    failing = [os.path.join(inputs.inputs, name) for name in names[:MOST_SANITIZED]]
     first = came.lists["bugs"][:1]
     return {"name": bug.name, "program": bug.program.name, "version": bug.program.version, "kind": bug.kind, "what": bug.what, "mended": bug.mended,
             "lines": lines_of_files(os.path.join(broken, bug.program.folder), list(bug.program.files)), "tokens": came.tokens, "sites": came.sites, "made": inputs.total,
-            "failing": inputs.failing, "runs": came.runs, "failed": came.failing, "places": places, "sanitizer": sanitizers(bug.program, broken, failing), "seconds": done.seconds,
+            "failing": len(inputs.failing), "runs": came.runs, "failed": came.failing, "places": places, "sanitizer": sanitizers(bug.program, broken, failing), "seconds": done.seconds,
             "first": first[0] if first else None}
 
 

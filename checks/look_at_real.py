@@ -203,8 +203,9 @@ class RealBench(Case):
         sources = real_source.Sources(self.path("work"), self.path("sources"))
         found = real.measured(self.bug(), sources, looking.CBI, 1)
         self.assertEqual((found["made"], found["failing"], found["runs"], found["failed"], found["lines"]), (40, 8, 40, 8, 15))
-        self.assertEqual(tuple(found["places"]["bugs"])[:3], (1, 1, 1))
-        self.assertEqual((found["first"].file, found["first"].line, found["first"].function), ("parity.c", 6, "is_odd"))
+        # `left == 7` is true in the failing runs and in no other, and is seen where `left` is set, the line above.
+        self.assertEqual(tuple(found["places"]["bugs"])[:3], (1, 1, None))
+        self.assertEqual(tuple(found["first"]), ("parity.c", 5, "is_odd", "left == 7"))
         # All runs come to all of the seven lines that gcov counts (3, 5, 6, 9, 12, 13, 14), so each is as suspicious as any other: three are in the function, four near, one is the line.
         self.assertEqual(tuple(found["places"]["ochiai"]), (8 / 4, 8 / 5, 8 / 2, 7))
         self.assertEqual(tuple(found["sanitizer"])[:2], (0, 8))
@@ -216,7 +217,7 @@ class RealBench(Case):
         bug = self.bug(others=5)
         sources = real_source.Sources(self.path("work"), self.path("sources"))
         made = real.made(bug, sources.mended(bug), sources.broken(bug), self.path("work"))
-        self.assertEqual((made.total, made.failing), (40, 8))
+        self.assertEqual((made.total, made.failing), (40, [f"n{place:02}" for place in (6, 7, 16, 17, 26, 27, 36, 37)]))
         self.assertEqual(sorted(os.listdir(made.inputs)), [f"n{place:02}" for place in (0, 1, 2, 3, 4, 6, 7, 16, 17, 26, 27, 36, 37)])
         self.assertEqual(self.read(os.path.join(made.expected, "n06")), b"even\nodd\n")
 
