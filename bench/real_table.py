@@ -1,0 +1,52 @@
+"""The table of real bugs."""
+from typing import Any, Dict, List, Optional, Sequence
+
+HEAD = ("Bug", "Shows as", "Lines, tokens, sites", "Inputs that fail", "`bugs`", "`lines`", "`rank`", "Ochiai over gcov", "Sanitizers", "Seconds")
+
+
+def place(value: Optional[float]) -> str:
+    return "-" if value is None else f"{value:.0f}" if value == int(value) else f"{value:.1f}"
+
+
+def places(found: Sequence[Any]) -> str:
+    """`function / near / line of count`."""
+    return f"{' / '.join(place(value) for value in found[:3])} of {found[3]}"
+
+
+def share(failing: int, count: int) -> str:
+    if not failing:
+        return f"0 of {count:,}"
+    per = 100 * failing / count
+    return f"{failing:,} of {count:,} ({per:.0f} %)" if per >= 10 else f"{failing:,} of {count:,} ({per:.2g} %)"
+
+
+def sanitizer(said: Sequence[Any]) -> str:
+    stops, runs, message, where, same = said
+    if not stops:
+        return f"nothing in {runs} failing runs" if runs else "not asked"
+    return f"{message}, {where} ({same} of {runs} failing runs)"
+
+
+def row_of(result: Dict[str, Any]) -> List[str]:
+    lists = result["places"]
+    return [f"{result['name']} ({result['program']} {result['version']})", result["kind"], f"{result['lines']:,}, {result['tokens']:,}, {result['sites']:,}",
+            share(result["failing"], result["made"]), places(lists["bugs"]), places(lists["lines"]), places(lists["rank"]),
+            places(lists["ochiai"]) if "ochiai" in lists else "not asked", sanitizer(result["sanitizer"]), f"{result['seconds']:.0f}"]
+
+
+def table_of(results: Sequence[Dict[str, Any]]) -> str:
+    """The table in Markdown, and below it what each bug is and where its hunts point first."""
+    rows = [list(HEAD), ["---"] * len(HEAD)] + [row_of(result) for result in results]
+    table = "\n".join("| " + " | ".join(cell.replace("|", "\\|") for cell in row) + " |" for row in rows)
+    meant = ("In the four lists: the place of the first row or line that is in the bug's function, of the first that is at most five lines from its line, and of the first at its line, of how many. "
+             "Equals of Ochiai stand in an order by chance, and have its mean place. Inputs fail where gcc's build of 32 bits does, with AddressSanitizer unless the bug is a wrong output. "
+             "Seconds are CPU seconds of the hunt, from the C files to the screen.")
+    notes = "\n".join(f"- **{result['name']}**: {result['what']}. Mended: {result['mended']}. {first_of(result)}" for result in results)
+    return f"{table}\n\n{meant}\n\n{notes}\n"
+
+
+def first_of(result: Dict[str, Any]) -> str:
+    """What the screen says first."""
+    first = result["first"]
+    hunted = f"Hunted: {result['runs']:,} runs, {result['failed']:,} of them failing."
+    return f"{hunted} The first bug: `{first[3]}` at {first[0]}:{first[1]} in {first[2]}." if first else f"{hunted} No bug is shown."
