@@ -1,7 +1,7 @@
 #!/usr/bin/env python3
 """Hunts real bugs of real programs, and makes a table of what came.
 
-    real.py [NAME..] --executable CBI --work FOLDER [--table FILE] [--sources FOLDER] [--jobs N] [--again] [--list]
+    real.py [NAME..] --executable CBI --work FOLDER [--table FILE] [--sources FOLDER] [--jobs N] [--count N] [--again] [--list]
 
 NAME is a bug or a program; without one all are taken. The sources are Debian's, by apt-get, or from the folder of --sources (PACKAGE/ or PACKAGE_VERSION.dsc). What was measured before is
 taken from the folder of work; --again measures anew. A source or tool that is missing is told, and the bug left out.
@@ -11,6 +11,7 @@ import json
 import os
 import sys
 import time
+from dataclasses import replace
 from typing import Any, Dict, List
 
 from real_bug import Bug, every_bug
@@ -64,7 +65,7 @@ def result_of(bug: Bug, sources: Sources, chosen: argparse.Namespace) -> Dict[st
     """What was measured before, or is now."""
     path = os.path.join(sources.work, "results", f"{bug.name}.json")
     if chosen.again or not os.path.exists(path):
-        found = measured(bug, sources, os.path.abspath(chosen.executable), chosen.jobs)
+        found = measured(replace(bug, count=chosen.count or bug.count), sources, os.path.abspath(chosen.executable), chosen.jobs)
         os.makedirs(os.path.dirname(path), exist_ok=True)
         with open(path, "w", encoding="utf-8") as file:
             json.dump(found, file, indent=1)
@@ -89,6 +90,7 @@ def main() -> int:
     parser.add_argument("--table", metavar="FILE", help="where the table goes, or else to out")
     parser.add_argument("--sources", metavar="FOLDER", help="takes sources from there, and gets none")
     parser.add_argument("--jobs", metavar="N", type=int, default=1, help="how many runs go on at a time (1)")
+    parser.add_argument("--count", metavar="N", type=int, help="makes so many inputs for each bug in place of its record's number")
     parser.add_argument("--again", action="store_true", help="measures anew what was measured before")
     parser.add_argument("--list", action="store_true", help="names the bugs, and ends")
     chosen = parser.parse_args()

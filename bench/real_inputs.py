@@ -29,13 +29,18 @@ def generated(bug: Bug, folder: str, source: str) -> List[str]:
     return sorted(os.listdir(folder))
 
 
+def wrong_build(bug: Bug, broken: str) -> str:
+    """By which it is said how many inputs fail: with AddressSanitizer, but where the bug shows in the output anyway."""
+    return built(bug.program, broken, "plain", ["-O1"]) if bug.kind == "wrong output" else built(bug.program, broken, "addresses", ADDRESSES)
+
+
 def made(bug: Bug, mended: str, broken: str, work: str) -> Made:
     """Makes the inputs. Where few fail, only so many of the others are hunted as the record says."""
     whole, inputs, expected = (os.path.join(work, name) for name in ("made", "inputs", "expected"))
     for folder in (whole, inputs, expected):
         shutil.rmtree(folder, ignore_errors=True)
     names = generated(bug, whole, mended)
-    right, wrong = built(bug.program, mended, "plain", ["-O1"]), built(bug.program, broken, "addresses", ADDRESSES)
+    right, wrong = built(bug.program, mended, "plain", ["-O1"]), wrong_build(bug, broken)
     os.makedirs(inputs)
     os.makedirs(expected)
     failing, others = 0, 0

@@ -49,12 +49,12 @@ def words_of(program: Program) -> List[str]:
 
 def ran(home: str, program: Program, path: str, more: Optional[Dict[str, str]] = None) -> "subprocess.CompletedProcess[bytes]":
     """A run on the input of a file, in a folder that goes, with the input under the program's first argument. One that doesn't end is ended by SIGTERM."""
-    folder = home + ".run"
-    shutil.rmtree(folder, ignore_errors=True)
-    os.makedirs(folder)
-    words = words_of(program)
+    folder, words = os.path.dirname(home), words_of(program)
     named = next((word for word in words if not word.startswith("-")), None)
     if named:
+        folder = home + ".run"
+        shutil.rmtree(folder, ignore_errors=True)
+        os.makedirs(folder)
         shutil.copyfile(path, os.path.join(folder, named))
     with open(path, "rb") as given:
         return subprocess.run(["timeout", str(SECONDS), home, *words], cwd=folder, stdin=given, stdout=subprocess.PIPE, stderr=subprocess.PIPE, check=False,
