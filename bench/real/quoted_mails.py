@@ -22,13 +22,21 @@ class Writer:
     def paragraph(self, quote: str) -> List[str]:
         return [quote + self.words(12) for _ in range(self.chance.randrange(1, 4))]
 
+    def thread(self) -> List[str]:
+        """Answers to answers: quotes whose depth grows and shrinks."""
+        rows, depth, mark = [], self.chance.randrange(1, 4), self.chance.choice((">", ">", "> ", "| "))
+        for _ in range(self.chance.randrange(1, 5)):
+            rows += self.paragraph(mark * depth + ("" if mark.endswith(" ") or not depth else " "))
+            depth = max(0, depth + self.chance.choice((-2, -1, 0, 1, 2, 3)))
+        return rows
+
     def block(self) -> List[str]:
         """A block of lines, behind which some are empty."""
         pick = self.chance.randrange(8)
         if pick < 3:
             rows = self.paragraph("")
         elif pick < 5:
-            rows = [row for _ in range(self.chance.randrange(1, 3)) for row in self.paragraph(self.chance.choice(("> ", "> ", "> > ", ">>> ", "| ")))]
+            rows = self.thread()
         elif pick == 5:
             rows = [f"{self.chance.choice('-*')} {self.words(6)}" for _ in range(self.chance.randrange(1, 4))]
         elif pick == 6:
