@@ -8,5 +8,5 @@ BUGS = [
     Bug(name="yajl-surrogate", program=YAJL, kind="wrong output, or a read past the end", what="a character behind half of a pair of surrogates is skipped",
         mended="Debian's yajl 2.1.0-3+deb12u1, CVE-2017-16516", inputs=("escaped_texts.py",), function="yajl_string_decode", patch="yajl_surrogate.patch", count=300),
     Bug(name="yajl-nul", program=YAJL, kind="wrong output", what="U+0000 in a string is left out", mended="yajl 1.0.12, ChangeLog", inputs=("escaped_texts.py",),
-        function="yajl_string_decode", patch="yajl_nul.patch", count=1500, others=300),
+        function="yajl_string_decode", patch="yajl_nul.patch", count=3000, others=300),
 ]

@@ -8,7 +8,7 @@ from pathlib import Path
 from typing import List
 
 PLAIN = ("\\n", "\\t", "\\\"", "\\\\", "\\/", "\\b", "\\f", "\\r", "\\u0041", "\\u00e9", "\\u20ac")
-LONE, NUL = 0.004, 0.0008   # how often a character is half of a pair, and U+0000
+LONE, NUL = 0.004, 0.00004   # how often a character is half of a pair, and U+0000
 
 
 class Writer:
