@@ -1,7 +1,7 @@
 #!/usr/bin/env python3
 """Hunts real bugs of real programs, and makes a table of what came.
 
-    real.py [NAME..] --executable CBI --work FOLDER [--table FILE] [--sources FOLDER] [--jobs N] [--count N] [--again] [--list]
+    real.py [NAME..] --executable CBI --work FOLDER [--table FILE] [--sources FOLDER] [--jobs N] [--count N] [--others N] [--again] [--list]
 
 NAME is a bug or a program; without one all are taken. The sources are Debian's, by apt-get, or from the folder of --sources (PACKAGE/ or PACKAGE_VERSION.dsc). What was measured before is
 taken from the folder of work; --again measures anew. A source or tool that is missing is told, and the bug left out.
@@ -44,7 +44,7 @@ def measured(bug: Bug, sources: Sources, executable: str, jobs: int) -> Dict[str
     work = os.path.join(sources.work, bug.program.name, f"{bug.name}.hunt")
     os.makedirs(work, exist_ok=True)
     inputs = made(bug, mended, broken, work)
-    told(bug.name, f"{inputs.total} inputs, on {inputs.failing} of which gcc's build with AddressSanitizer fails", begun)
+    told(bug.name, f"{inputs.total} inputs, on {len(inputs.failing)} of which gcc's build fails", begun)
     keep = os.path.join(work, "kept")
     done = hunted(bug, broken, inputs, keep, executable, jobs)
     came = shown(bug, broken, keep)
@@ -53,11 +53,12 @@ def measured(bug: Bug, sources: Sources, executable: str, jobs: int) -> Dict[str
     if came.failing:
         places["ochiai"], *_ = ochiai(bug, broken, came, inputs.inputs)
         told(bug.name, "coverage", begun)
-    failing = [os.path.join(inputs.inputs, name) for name, fails in chosen_runs(came) if fails][:MOST_SANITIZED]
+    names = [name for name, fails in chosen_runs(came) if fails] or inputs.failing
+    failing = [os.path.join(inputs.inputs, name) for name in names[:MOST_SANITIZED]]
     first = came.lists["bugs"][:1]
     return {"name": bug.name, "program": bug.program.name, "version": bug.program.version, "kind": bug.kind, "what": bug.what, "mended": bug.mended,
             "lines": lines_of_files(os.path.join(broken, bug.program.folder), list(bug.program.files)), "tokens": came.tokens, "sites": came.sites, "made": inputs.total,
-            "failing": inputs.failing, "runs": came.runs, "failed": came.failing, "places": places, "sanitizer": sanitizers(bug.program, broken, failing), "seconds": done.seconds,
+            "failing": len(inputs.failing), "runs": came.runs, "failed": came.failing, "places": places, "sanitizer": sanitizers(bug.program, broken, failing), "seconds": done.seconds,
             "first": first[0] if first else None}
 
 
@@ -65,7 +66,7 @@ def result_of(bug: Bug, sources: Sources, chosen: argparse.Namespace) -> Dict[st
     """What was measured before, or is now."""
     path = os.path.join(sources.work, "results", f"{bug.name}.json")
     if chosen.again or not os.path.exists(path):
-        found = measured(replace(bug, count=chosen.count or bug.count), sources, os.path.abspath(chosen.executable), chosen.jobs)
+        found = measured(replace(bug, count=chosen.count or bug.count, others=bug.others if chosen.others is None else chosen.others), sources, os.path.abspath(chosen.executable), chosen.jobs)
         os.makedirs(os.path.dirname(path), exist_ok=True)
         with open(path, "w", encoding="utf-8") as file:
             json.dump(found, file, indent=1)
@@ -91,6 +92,7 @@ def main() -> int:
     parser.add_argument("--sources", metavar="FOLDER", help="takes sources from there, and gets none")
     parser.add_argument("--jobs", metavar="N", type=int, default=1, help="how many runs go on at a time (1)")
     parser.add_argument("--count", metavar="N", type=int, help="makes so many inputs for each bug in place of its record's number")
+    parser.add_argument("--others", metavar="N", type=int, help="hunts at most so many inputs that don't fail, in place of the record's number")
     parser.add_argument("--again", action="store_true", help="measures anew what was measured before")
     parser.add_argument("--list", action="store_true", help="names the bugs, and ends")
     chosen = parser.parse_args()

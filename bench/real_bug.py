@@ -32,8 +32,8 @@ class Program:
     turns: int = 10000000
 
     def texts(self) -> List[str]:
-        """What is compiled, as seen from the folder."""
-        return ([self.driver] if self.driver else []) + list(self.files)
+        """What is compiled, as seen from the folder: all but headers."""
+        return ([self.driver] if self.driver else []) + [name for name in self.files if not name.endswith(".h")]
 
 
 @dataclass(frozen=True)

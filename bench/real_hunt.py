@@ -1,6 +1,7 @@
 """Hunts a bug by cbi-hunt, and finds the places of its line and function among what came."""
 import os
 import re
+import shutil
 import sys
 from typing import Callable, Dict, FrozenSet, List, NamedTuple, Optional, Sequence, Tuple
 
@@ -54,6 +55,7 @@ class Shown(NamedTuple):
 def hunted(bug: Bug, source: str, made: Made, keep: str, executable: str, jobs: int) -> Timed:
     """Calls cbi-hunt. What it shows stands in the folder that is kept, as screen."""
     program = bug.program
+    shutil.rmtree(keep, ignore_errors=True)
     words = [sys.executable, os.path.join(TOOLS, "cbi-hunt"), *program.texts(), "--inputs", made.inputs, "--memory", program.memory, "--turns", str(program.turns),
              "--keep", keep, "--jobs", str(jobs), "--cbi", executable, "--no-check"]
     words += [] if bug.traps_alone else ["--expect", made.expected]

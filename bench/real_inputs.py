@@ -11,11 +11,11 @@ from real_source import Missing
 
 
 class Made(NamedTuple):
-    """The folder of the inputs that are hunted and that of expected outputs; how many inputs were made, and how many of these fail as gcc builds the program with AddressSanitizer."""
+    """The folder of the inputs that are hunted and that of expected outputs; how many inputs were made, and which of these fail as gcc builds the program."""
     inputs: str
     expected: str
     total: int
-    failing: int
+    failing: List[str]
 
 
 def generated(bug: Bug, folder: str, source: str) -> List[str]:
@@ -43,14 +43,16 @@ def made(bug: Bug, mended: str, broken: str, work: str) -> Made:
     right, wrong = built(bug.program, mended, "plain", ["-O1"]), wrong_build(bug, broken)
     os.makedirs(inputs)
     os.makedirs(expected)
-    failing, others = 0, 0
+    failing: List[str] = []
+    others = 0
     for name in names:
         path = os.path.join(whole, name)
         status, output = output_of(right, bug.program, path)
         if status is None:
             continue
         fails = output_of(wrong, bug.program, path) != (status, output)
-        failing, others = failing + fails, others + (not fails)
+        failing += [name] if fails else []
+        others += not fails
         if fails or bug.others is None or others <= bug.others:
             os.link(path, os.path.join(inputs, name))
             with open(os.path.join(expected, name), "wb") as file:

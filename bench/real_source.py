@@ -1,4 +1,5 @@
 """Gets the source of a program from Debian, builds it, and puts a bug back."""
+import glob
 import os
 import shutil
 import subprocess
@@ -49,7 +50,7 @@ class Sources:
         return self.lists
 
     def fetched(self, program: Program) -> str:
-        """The .dsc of a package in its version."""
+        """The .dsc of a package in its version; or its authors' archive, where there is no more of it."""
         named = f"{program.package}_{program.version.split(':')[-1]}.dsc"
         for folder in [self.given] if self.given else [self.work]:
             if os.path.exists(os.path.join(folder, named)):
@@ -57,7 +58,13 @@ class Sources:
         if self.given:
             raise Missing(f"{self.given} has neither {program.package} nor {named}")
         need("apt-get", "dpkg-source")
-        call(["apt-get", *self.apt(), "source", "--download-only", f"{program.package}={program.version}"], self.work, f"the source of {program.package} {program.version}")
+        try:
+            call(["apt-get", *self.apt(), "source", "--download-only", f"{program.package}={program.version}"], self.work, f"the source of {program.package} {program.version}")
+        except Missing:
+            archives = glob.glob(os.path.join(self.work, f"{program.package}_{program.version.rsplit('-', 1)[0]}.orig.tar.*"))
+            if not archives:
+                raise
+            return archives[0]
         return os.path.join(self.work, named)
 
     def unpacked(self, program: Program) -> str:
@@ -71,16 +78,23 @@ class Sources:
         if there and os.path.isdir(there):
             shutil.copytree(there, folder, symlinks=True)
         else:
-            call(["dpkg-source", "--no-check", "-x", self.fetched(program), folder], self.work, f"dpkg-source of {program.package}")
+            self.unpack(self.fetched(program), folder)
         for line in program.build:
             call(["sh", "-c", line], folder, f"{program.name}: {line}")
         if program.driver:
             shutil.copy(os.path.join(FILES, program.driver), os.path.join(folder, program.folder))
-        for name in program.texts():
+        for name in [*program.texts(), *program.files]:
             if not os.path.exists(os.path.join(folder, program.folder, name)):
                 raise Missing(f"the source of {program.package} has no {name}")
         with open(folder + ".ready", "w", encoding="ascii"):
             return folder
+
+    def unpack(self, archive: str, folder: str) -> None:
+        if archive.endswith(".dsc"):
+            call(["dpkg-source", "--no-check", "-x", archive, folder], self.work, f"dpkg-source of {os.path.basename(archive)}")
+        else:
+            os.makedirs(folder)
+            call(["tar", "xf", archive, "--strip-components=1", "-C", folder], self.work, f"tar of {os.path.basename(archive)}")
 
     def with_patch(self, bug: Bug, name: str, patch: Optional[str]) -> str:
         """A copy of the program with a patch of ours; without one the program itself."""

@@ -39,8 +39,9 @@ def table_of(results: Sequence[Dict[str, Any]]) -> str:
     rows = [list(HEAD), ["---"] * len(HEAD)] + [row_of(result) for result in results]
     table = "\n".join("| " + " | ".join(cell.replace("|", "\\|") for cell in row) + " |" for row in rows)
     meant = ("In the four lists: the place of the first row or line that is in the bug's function, of the first that is at most five lines from its line, and of the first at its line, of how many. "
-             "Equals of Ochiai stand in an order by chance, and have its mean place. Seconds are CPU seconds of the hunt.")
-    notes = "\n".join(f"- **{result['name']}**: {result['what']} Mended: {result['mended']}. {first_of(result)}" for result in results)
+             "Equals of Ochiai stand in an order by chance, and have its mean place. Inputs fail where gcc's build of 32 bits does, with AddressSanitizer unless the bug is a wrong output. "
+             "Seconds are CPU seconds of the hunt, from the C files to the screen.")
+    notes = "\n".join(f"- **{result['name']}**: {result['what']}. Mended: {result['mended']}. {first_of(result)}" for result in results)
     return f"{table}\n\n{meant}\n\n{notes}\n"
 
 

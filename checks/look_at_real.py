@@ -1,13 +1,23 @@
-"""Looks at the example with a real program, without its source: the random programs that it makes, and what it says where it can't begin."""
+"""Looks at real programs without their sources: at examples/bc, the random programs that it makes, and what it says where it can't begin; and at the bench of real bugs, by a small program of our own."""
+import json
 import os
 import re
 import shutil
 import subprocess
 import sys
 
-from looking import EXAMPLES, Case
+import looking
+from looking import EXAMPLES, TOP, Case
 
 HERE = os.path.join(EXAMPLES, "bc")
+BENCH = os.path.join(TOP, "bench")
+sys.path.insert(0, BENCH)
+import real  # noqa: E402
+import real_bug  # noqa: E402
+import real_hunt  # noqa: E402
+import real_source  # noqa: E402
+import real_table  # noqa: E402
+
 # bc has room for 32 arrays and for 32 scalars at first, and for 32 more whenever one has no room; the numbers of arrays begin at 1, those of scalars at 5.
 ARRAYS, SCALARS = 31, 59
 
@@ -72,3 +82,162 @@ class Beginnings(Case):
             rows = file.read().splitlines()
         changed = [row for row in rows if row[0] in "+-" and not row.startswith(("+++", "---"))]
         self.assertEqual(changed, ["-  for (; indx < a_count; indx++)", "+  for (; indx < v_count; indx++)"])
+
+
+PATCH = """\
+--- a/src/one.c
++++ b/src/one.c
+@@ -10,5 +10,5 @@
+ ten
+ eleven
+-twelve
++another twelve
+ thirteen
+ fourteen
+@@ -30,4 +30,3 @@
+ thirty
+-thirty-one
+ thirty-two
+ thirty-three
+--- a/src/two.c\t2020-01-01
++++ b/src/two.c\t2020-01-01
+@@ -5,2 +4,4 @@
+ five
++new
++newer
+ six
+"""
+
+
+class RealRecords(Case):
+    """The records of bench/real_bugs_*.py, their patches and generators."""
+
+    def test_changed_lines(self):
+        self.assertEqual(real_bug.lines_of(PATCH, 1), {"src/one.c": [12, 30, 31], "src/two.c": [5, 6]})
+        self.assertEqual(real_bug.lines_of(PATCH, 0), {"src/one.c": [12, 31], "src/two.c": [5, 6]})
+
+    def test_a_bug_is_a_few_lines_of_a_file_that_is_hunted(self):
+        bugs = real_bug.every_bug()
+        self.assertEqual(len({bug.name for bug in bugs}), len(bugs))
+        for bug in bugs:
+            changed = real_bug.changed_lines(bug)
+            self.assertTrue(1 <= sum(map(len, changed.values())) <= 6, bug.name)
+            hunted = {os.path.normpath(os.path.join(bug.program.folder, name)) for name in bug.program.files}
+            self.assertTrue(set(changed) <= hunted or any(name.endswith(".h") for name in changed), (bug.name, changed))
+            self.assertTrue(bug.mended and bug.what and bug.function, bug.name)
+
+    def test_a_seed_says_which_inputs(self):
+        for words in sorted({bug.inputs for bug in real_bug.every_bug() if ".." not in bug.inputs[0]}):
+            made = []
+            for folder, seed in (("one", "3"), ("two", "3"), ("other", "4")):
+                self.write(f"{folder}/none", "")
+                os.remove(self.path(folder, "none"))
+                self.call(sys.executable, os.path.join(real_bug.FILES, words[0]), "9", folder, seed, *words[1:])
+                made.append([self.read(os.path.join(folder, name)) for name in sorted(os.listdir(self.path(folder)))])
+            self.assertEqual((len(made[0]), made[0]), (9, made[1]), words)
+            self.assertNotEqual(made[0], made[2], words)
+            shutil.rmtree(self.path("one"))
+            shutil.rmtree(self.path("two"))
+            shutil.rmtree(self.path("other"))
+
+    def test_json_texts_are_json(self):
+        for what, member in (("edits", "edits"), ("patch", "patch")):
+            os.makedirs(self.path(what))
+            self.call(sys.executable, os.path.join(real_bug.FILES, "json_texts.py"), "60", what, "1", what)
+            for name in os.listdir(self.path(what)):
+                self.assertIsInstance(json.loads(self.read(os.path.join(what, name)))[member], list)
+
+
+# Says of each number whether it is odd; with the bug 7 and 17 are said to be even.
+PARITY = """\
+#include <stdio.h>
+
+static int is_odd(int number)
+{
+    int left = number % 10;
+    return left % 2 == 1;
+}
+
+int main(void)
+{
+    int number;
+    while (scanf("%d", &number) == 1)
+        puts(is_odd(number) ? "odd" : "even");
+    return 0;
+}
+"""
+PARITY_PATCH = """\
+--- a/parity.c
++++ b/parity.c
+@@ -3,7 +3,7 @@
+ static int is_odd(int number)
+ {
+     int left = number % 10;
+-    return left % 2 == 1;
++    return left % 2 == 1 && left != 7;
+ }
+ 
+ int main(void)
+"""
+NUMBERS = """\
+import os, sys
+for place in range(int(sys.argv[1])):
+    with open(os.path.join(sys.argv[2], f"n{place:02}"), "w") as file:
+        file.write(f"{place} {place + 1}\\n")
+"""
+
+
+class RealBench(Case):
+    """bench/real.py. Of the numbers 0 to 40, two a file, those files fail that have 7, 17, 27 or 37: 6, 7, 16, 17, 26, 27, 36 and 37."""
+
+    def bug(self, **more):
+        program = real_bug.Program(name="parity", package="parity", version="1", files=("parity.c",))
+        self.write("sources/parity/parity.c", PARITY)
+        return real_bug.Bug(**{**dict(name="parity-seven", program=program, kind="wrong output", what="seven is even", mended="2", inputs=(self.write("numbers.py", NUMBERS),),
+                                      function="is_odd", patch=self.write("seven.patch", PARITY_PATCH), count=40), **more})
+
+    def test_a_bug_is_measured(self):
+        if not shutil.which("gcc") or not shutil.which("gcov"):
+            self.skipTest("there is no gcc or no gcov here")
+        os.makedirs(self.path("work"))
+        sources = real_source.Sources(self.path("work"), self.path("sources"))
+        found = real.measured(self.bug(), sources, looking.CBI, 1)
+        self.assertEqual((found["made"], found["failing"], found["runs"], found["failed"], found["lines"]), (40, 8, 40, 8, 15))
+        # `left == 7` is true in the failing runs and in no other, and is seen where `left` is set, the line above.
+        self.assertEqual(tuple(found["places"]["bugs"])[:3], (1, 1, None))
+        self.assertEqual(tuple(found["first"]), ("parity.c", 5, "is_odd", "left == 7"))
+        # All runs come to all of the seven lines that gcov counts (3, 5, 6, 9, 12, 13, 14), so each is as suspicious as any other: three are in the function, four near, one is the line.
+        self.assertEqual(tuple(found["places"]["ochiai"]), (8 / 4, 8 / 5, 8 / 2, 7))
+        self.assertEqual(tuple(found["sanitizer"])[:2], (0, 8))
+
+    def test_few_others(self):
+        if not shutil.which("gcc"):
+            self.skipTest("there is no gcc here")
+        os.makedirs(self.path("work"))
+        bug = self.bug(others=5)
+        sources = real_source.Sources(self.path("work"), self.path("sources"))
+        made = real.made(bug, sources.mended(bug), sources.broken(bug), self.path("work"))
+        self.assertEqual((made.total, made.failing), (40, [f"n{place:02}" for place in (6, 7, 16, 17, 26, 27, 36, 37)]))
+        self.assertEqual(sorted(os.listdir(made.inputs)), [f"n{place:02}" for place in (0, 1, 2, 3, 4, 6, 7, 16, 17, 26, 27, 36, 37)])
+        self.assertEqual(self.read(os.path.join(made.expected, "n06")), b"even\nodd\n")
+
+    def test_what_is_missing_is_told(self):
+        self.write("sources/cjson/README", "")
+        out, err = self.call(sys.executable, os.path.join(BENCH, "real.py"), "cjson-insert", "--work", "work", "--sources", "sources", "--executable", looking.CBI)
+        self.assertEqual((out, err), ("cjson-insert: left out: the source of cjson has no cJSON.c\n", ""))
+        os.rename(self.path("sources", "cjson"), self.path("sources", "other"))
+        out, err = self.call(sys.executable, os.path.join(BENCH, "real.py"), "cjson-insert", "--work", "work", "--sources", "sources", "--executable", looking.CBI)
+        self.assertEqual(out, f"cjson-insert: left out: {self.path('sources')} has neither cjson nor cjson_1.7.15-1+deb12u4.dsc\n")
+
+    def test_the_table(self):
+        self.assertEqual([real_table.place(value) for value in (None, 3.0, 2.5)], ["-", "3", "2.5"])
+        self.assertEqual([real_table.share(*counts) for counts in ((0, 600), (2, 2000), (48, 400), (12, 300))], ["0 of 600", "2 of 2,000 (0.1 %)", "48 of 400 (12 %)", "12 of 300 (4 %)"])
+        self.assertEqual(real_table.sanitizer((0, 10, "", "", 0)), "nothing in 10 failing runs")
+        self.assertEqual(real_table.sanitizer((9, 10, "heap-buffer-overflow", "storage.c:186 in more_arrays", 8)), "heap-buffer-overflow, storage.c:186 in more_arrays (8 of 10 failing runs)")
+
+    def test_places(self):
+        bug = self.bug()
+        rows = [real_hunt.Row("other.c", 6, "main", ""), real_hunt.Row("parity.c", 12, "main", ""), real_hunt.Row("parity.c", 11, "main", ""),
+                real_hunt.Row("parity.c", 5, "is_odd_2", ""), real_hunt.Row("parity.c", 6, "is_odd", "")]
+        self.assertEqual(tuple(real_hunt.places_of(rows, bug)), (4, 3, 5, 5))
+        self.assertEqual(tuple(real_hunt.places_of(rows[:2], bug)), (None, None, None, 2))

@@ -1,6 +1,7 @@
-"""Writes JSON texts: documents with edits of their arrays (edits), or with a JSON Patch, RFC 6902 (patch).
+"""Writes JSON texts: documents with edits of their arrays (edits), or with a JSON Patch, RFC 6902 (patch), or values with a bracket too many or too few (brackets) or that
+are cut short (cut).
 
-    python3 json_texts.py COUNT FOLDER SEED edits|patch
+    python3 json_texts.py COUNT FOLDER SEED edits|patch|brackets|cut
 """
 import json
 import random
@@ -79,13 +80,27 @@ class Writer:
             rows.append(f'{{"op": "{op}", "path": {path}, "from": {json.dumps(self.pointer(read))}, "value": {self.value(2)}}}')
         return f'{{"doc": {document}, "patch": [{", ".join(rows)}]}}'
 
+    def brackets(self) -> str:
+        """A value; some have a bracket more, less, or another one in its place."""
+        text = self.value()
+        places = [place for place, sign in enumerate(text) if sign in "[]{}"]
+        if not places or self.chance.random() < 0.7:
+            return text + self.chance.choice(("",) * 18 + ("]", "}"))
+        at = self.chance.choice(places)
+        return text[:at] + self.chance.choice(("", "]", "}", "[", text[at] * 2)) + text[at + 1:]
+
+    def cut(self) -> str:
+        """An object, half of them up to some place."""
+        text = self.object(0)
+        return text[:self.chance.randrange(1, len(text) + 1)] if self.chance.random() < 0.5 else text
+
 
 def main(words: List[str]) -> int:
     count, folder, seed, what = words
     writer = Writer(random.Random(int(seed)))
-    made: Dict[str, Callable[[], str]] = {"edits": writer.edits, "patch": writer.patch}
+    made: Dict[str, Callable[[], str]] = {"edits": writer.edits, "patch": writer.patch, "brackets": writer.brackets, "cut": writer.cut}
     for place in range(int(count)):
-        (Path(folder) / f"t{place:05}").write_text(made[what]() + "\n", encoding="utf-8")
+        (Path(folder) / f"t{place:05}").write_text(made[what](), encoding="utf-8")
     return 0
 
 
