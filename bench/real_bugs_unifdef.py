@@ -1,9 +1,10 @@
-"""unifdef, which takes conditions of the preprocessor out of a text."""
+"""unifdef, which takes conditions of the preprocessor out of a text. In cells each run ends where it adds 1 to a null pointer (unifdef.c:781, `strrchr(tline, '\\r') + 1`), so its memory is
+bytes, where that is the number 1."""
 import os
 
 from real_bug import FILES, Bug, Program
 
-UNIFDEF = Program(name="unifdef", package="unifdef", version="2.10-1.1", driver="files_driver.c", files=("unifdef.c",),
+UNIFDEF = Program(name="unifdef", package="unifdef", version="2.10-1.1", driver="files_driver.c", files=("unifdef.c",), memory="bytes",
                   options=("-Dmain=program_main", f"-I{FILES}", f"-I{os.path.join(FILES, 'system')}"))
 
 BUGS = [
