@@ -104,10 +104,6 @@ def tokens_of(path: str) -> int:
 
 # Places
 
-def same_file(one: str, other: str) -> bool:
-    return os.path.basename(one) == os.path.basename(other)
-
-
 def is_function(named: str, function: str) -> bool:
     """Whether a name is that of a function; static ones of several files have a number behind theirs."""
     return re.sub(r"_\d+$", "", named) == re.sub(r"_\d+$", "", function)
@@ -115,13 +111,16 @@ def is_function(named: str, function: str) -> bool:
 
 def places_of(rows: Sequence[Row], bug: Bug) -> Places:
     """The places of a bug in a list of rows."""
-    changed = [(file, line) for file, lines in changed_lines(bug).items() for line in lines]
+    changed = [(os.path.relpath(file, bug.program.folder), line) for file, lines in changed_lines(bug).items() for line in lines]
+
+    def same(row: Row, file: str) -> bool:
+        return os.path.normpath(row.file) == file
 
     def first(wanted: Callable[[Row], bool]) -> Place:
         return next((float(number) for number, row in enumerate(rows, 1) if wanted(row)), None)
     return Places(first(lambda row: is_function(row.function, bug.function)),
-                  first(lambda row: any(same_file(row.file, file) and abs(row.line - line) <= corpus_scores.NEAR for file, line in changed)),
-                  first(lambda row: any(same_file(row.file, file) and row.line == line for file, line in changed)), len(rows))
+                  first(lambda row: any(same(row, file) and abs(row.line - line) <= corpus_scores.NEAR for file, line in changed)),
+                  first(lambda row: any(same(row, file) and row.line == line for file, line in changed)), len(rows))
 
 
 def chosen_runs(came: Shown) -> List[Tuple[str, bool]]:
@@ -139,5 +138,6 @@ def ochiai(bug: Bug, source: str, came: Shown, inputs: str) -> Tuple[Places, int
     failures = sum(fails for _, fails in runs)
     visits = corpus_scores.visits([(fails, lines) for (_, fails), lines in zip(runs, cover.runs)])
     scores = corpus_scores.suspicious(corpus_scores.ochiai, cover.coded, visits, failures, len(runs) - failures)
-    found = [corpus_scores.expected(scores, wanted) for wanted in (target.function, target.near, target.lines)]
+    function = {line for line in cover.coded if is_function(cover.functions[line], bug.function)}
+    found = [corpus_scores.expected(scores, wanted) for wanted in (function, target.near, target.lines)]
     return Places(found[0], found[1], found[2], len(cover.coded)), failures, len(runs) - failures

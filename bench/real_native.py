@@ -97,19 +97,15 @@ def sanitizers(program: Program, source: str, paths: Sequence[str]) -> Said:
 # Coverage
 
 class Coverage(NamedTuple):
-    """The files of a program, all lines with code, the function of each, and of each run the lines that it came to. A line is a number: see FILE_LINES."""
+    """The files of a program, as seen from its source's folder, all lines with code, the function of each, and of each run the lines that it came to. A line is a number: see FILE_LINES."""
     files: List[str]
     coded: List[int]
     functions: Dict[int, str]
     runs: List[FrozenSet[int]]
 
     def numbered(self, changed: Dict[str, List[int]]) -> List[int]:
-        """Lines by file as such numbers. A file is found by the end of its path."""
-        found = []
-        for name, lines in changed.items():
-            at = next((at for at, file in enumerate(self.files) if os.path.normpath("/" + file).endswith("/" + os.path.basename(name))), None)
-            found += [at * FILE_LINES + line for line in lines] if at is not None else []
-        return found
+        """Lines by file as such numbers."""
+        return [self.files.index(name) * FILE_LINES + line for name, lines in changed.items() if name in self.files for line in lines]
 
 
 class Gcov:
@@ -145,7 +141,7 @@ class Gcov:
         """The lines with a count of what gcov says of one object; all lines with code are kept, with their functions."""
         came: Set[int] = set()
         for file in told["files"]:
-            name = str(file["file"])
+            name = os.path.normpath(os.path.join(self.program.folder, str(file["file"])))
             if name.startswith("/usr/") or name.endswith("real_cover.c"):
                 continue
             if name not in self.files:

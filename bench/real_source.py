@@ -103,7 +103,8 @@ class Sources:
             return mended
         need("patch")
         folder = os.path.join(self.work, bug.program.name, f"{bug.name}.{name}")
-        shutil.rmtree(folder, ignore_errors=True)
+        for old in [folder, *glob.glob(folder + ".*")]:
+            shutil.rmtree(old, ignore_errors=True)
         subprocess.run(["cp", "-a", mended, folder], check=True)
         call(["patch", "-p1", "-F0", "-i", os.path.join(FILES, patch)], folder, f"{patch} doesn't fit")
         return folder

@@ -10,7 +10,7 @@ from pathlib import Path
 from typing import Any, Callable, Dict, List
 
 WORDS = ("a", "b", "name", "list", "x/y", "t~u", "", "0", "12", "value")
-JUNK = ":;<=>?@Aaz~"
+JUNK = ":;<=>?Aaz"
 
 
 class Writer:
@@ -21,7 +21,7 @@ class Writer:
 
     def number(self) -> str:
         """A number: most are short, and each digit more is as likely as none."""
-        length = 1 + int(self.chance.expovariate(1 / 7))
+        length = 1 + int(self.chance.expovariate(1 / 6))
         digits = "".join(self.chance.choice("0123456789") for _ in range(length)).lstrip("0") or "0"
         point = "." + str(self.chance.randrange(1, 1000)) if self.chance.random() < 0.2 else ""
         power = self.chance.choice(("e5", "E-3", "e+2")) if self.chance.random() < 0.1 else ""
@@ -65,14 +65,14 @@ class Writer:
             else:
                 at = self.chance.randrange(len(document))
                 wrong = self.chance.random()
-                steps.append("-" if wrong < 0.03 else str(at) + self.chance.choice(JUNK) if wrong < 0.05 else str(at))
+                steps.append("-" if wrong < 0.03 else str(at) + self.chance.choice(JUNK) if wrong < 0.12 else str(at))
                 document = document[at]
         if self.chance.random() < 0.1:
             steps.append(self.chance.choice(("1", "new", "-", "01")))
         return "".join("/" + step for step in steps)
 
     def patch(self) -> str:
-        document = "[" + ", ".join(self.value(1) for _ in range(int(self.chance.expovariate(1 / 4)))) + "]" if self.chance.random() < 0.5 else self.object(0)
+        document = self.array(0, int(self.chance.expovariate(1 / 14))) if self.chance.random() < 0.5 else self.object(0)
         read: Any = json.loads(document)
         rows = []
         for _ in range(self.chance.randrange(1, 4)):
