@@ -129,6 +129,14 @@ class Ported(Hunting):
         _, err = self.hunted(due=2)
         self.assertRegex(err, r"^check\.c:7:(12: error: 'undeclared_name' undeclared| )")
 
+    def test_too_many_sites_are_told_with_the_schemes_that_are_fewer(self):
+        """Each of 260 assignments has a pair with each of 260 variables: 67,600 and more, of 65,536."""
+        names = [f"v{number}" for number in range(260)]
+        self.write("many.c", "typedef int n;\nint main(void)\n{\n" + "".join(f"    n {name} = 0;\n" for name in names) + "".join(f"    {name} = getchar();\n" for name in names) +
+                   "    return 0;\n}\n#include <stdio.h>\n")
+        _, err = self.call("cbi-hunt", "many.c", "--inputs", "in puts", due=2)
+        self.assertIn("--schemes branches,returns", err)
+
     def test_a_refusal_has_a_place_and_no_control_byte(self):
         """A text without `main` is refused at its last line, or at its first where it has none."""
         for text, due in (("", "odd.c:1: no `main`"), ("int f(void)\n{\n    return 1;\n}\n", "odd.c:4: no `main`"), ("int main(void)\n{\n    \x1b return 0;\n}\n", r"odd.c:3:5: error: stray '\33' in program" if shutil.which("gcc") else "odd.c:3: the byte `\\033`: ")):

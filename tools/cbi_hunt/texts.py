@@ -123,7 +123,10 @@ def ported_text(chosen: argparse.Namespace, cbi: str, kept: Kept, inputs: Inputs
     try:
         transform(chosen, cbi, kept.path("source.c"), kept.path("program"))
     except Fault as fault:
-        raise Fault(f"{chosen.text} was ported, and the text isn't taken: {str(fault).split(': ', 1)[1]} (cbi-port writes it)")
+        said = str(fault).split(": ", 1)[1]
+        if said.startswith("cbi: refusal 17 "):
+            raise Refused(refused(chosen.text, said))
+        raise Fault(f"{chosen.text} was ported, and the text isn't taken: {said} (cbi-port writes it)")
     told = [f"ported: {ported.summary()}"]
     if takes_arguments(chosen):
         told.append(NO_ARGUMENTS)

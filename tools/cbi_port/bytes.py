@@ -2,6 +2,7 @@
 from typing import Any, Dict, Tuple
 
 from cbi_port.byte_objects import BASE, STACK, WORDS, ByteObjects
+from cbi_port.images import runs
 from cbi_port.types import CHAR, INT, UINT, VOID, Function, Pointer
 from cbi_port.values import ASSIGN, POSTFIX, Value
 
@@ -110,7 +111,7 @@ class Bytes(ByteObjects):
         if end + STACK + 65536 > 4 * WORDS:
             raise self.program.refuse(None, "more than three megabytes of objects", "smaller arrays")
         data = self.image.rstrip(b"\0")
-        words = [int.from_bytes(data[at:at + 4].ljust(4, b"\0"), "little") for at in range(0, len(data), 4)]
+        words = runs([int.from_bytes(data[at:at + 4].ljust(4, b"\0"), "little") for at in range(0, len(data), 4)])
         rows = ["0"] * (BASE // 4) + [f"{word}u" if word > 0x7fffffff else str(word) for word in words]
         helpers.heads.insert(0, f"unsigned cbi_m[{WORDS}];")
         if words:

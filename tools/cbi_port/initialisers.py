@@ -1,5 +1,5 @@
 """Initialisers (C99 6.7.8): which place gets which value."""
-from typing import Any, Dict, List, Optional, Sequence, Tuple
+from typing import Any, Dict, List, Optional, Sequence, Set, Tuple
 
 from cbi_port.calls import Calls
 from cbi_port.conversions import number
@@ -28,12 +28,31 @@ class Cursor:
         return self.items[self.at] if self.at < len(self.items) else None
 
 
+class Leaves(Dict[Path, Leaf]):
+    """Leaves by their paths. Which paths were begun is kept, so that one that is set for the first time needs no search."""
+
+    def __init__(self) -> None:
+        super().__init__()
+        self.begun: Set[Path] = set()
+
+    def without(self, path: Path) -> None:
+        """Takes away what stands at a path or below it."""
+        if path in self.begun:
+            for old in [it for it in self if it[:len(path)] == path]:
+                del self[old]
+
+    def put(self, path: Path, leaf: Leaf) -> None:
+        self.without(path)
+        self.begun.update(path[:length] for length in range(len(path) + 1))
+        self[path] = leaf
+
+
 class Initialisers(Calls):
     """Walks through initialisers, and writes them as assignments."""
 
     def leaves(self, type_: CType, node: Any) -> Tuple[CType, Dict[Path, Leaf]]:
         """Where the values of an initialiser go; and the type, with the length of an array that it gives."""
-        found: Dict[Path, Leaf] = {}
+        found = Leaves()
         self.fill(type_, node, (), found)
         if isinstance(type_, Array) and type_.count is None:
             if kind(node) == "InitList" and len(node.exprs) == 1 and is_char_array(type_) and is_string(node.exprs[0]):
@@ -48,12 +67,7 @@ class Initialisers(Calls):
             return type_._replace(count=most), found
         return type_, found
 
-    def set(self, found: Dict[Path, Leaf], path: Path, leaf: Leaf) -> None:
-        for old in [it for it in found if it[:len(path)] == path]:
-            del found[old]
-        found[path] = leaf
-
-    def fill(self, type_: CType, node: Any, path: Path, found: Dict[Path, Leaf]) -> None:
+    def fill(self, type_: CType, node: Any, path: Path, found: Leaves) -> None:
         if kind(node) == "InitList":
             items = [it for it in node.exprs or [] if not (kind(it) == "ID" and it.name == "__cbi_none")]
             if not isinstance(type_, (Array, Struct)):
@@ -61,31 +75,30 @@ class Initialisers(Calls):
                     self.fill(type_, items[0], path, found)
                 return
             if len(items) == 1 and is_char_array(type_) and is_string(items[0]):
-                self.set(found, path, Leaf(type_, items[0]))
+                found.put(path, Leaf(type_, items[0]))
                 return
-            for old in [it for it in found if it[:len(path)] == path]:
-                del found[old]
+            found.without(path)
             self.aggregate(type_, Cursor(items), path, found, True, [])
             return
         if isinstance(type_, Array) and isinstance(type_.of, Int) and kind(node) == "Constant" and node.type == "string" and node.value[0] == "L":
             from pycparser import c_ast
             data = characters_of(node.value) + [0]
             for index, byte in enumerate(data[:type_.count if isinstance(type_.count, int) else None]):
-                self.set(found, path + (index,), Leaf(type_.of, c_ast.Constant("int", str(byte), node.coord)))
+                found.put(path + (index,), Leaf(type_.of, c_ast.Constant("int", str(byte), node.coord)))
             return
         if isinstance(type_, Array) and not (is_char_array(type_) and is_string(node)):
             if kind(node) == "CompoundLiteral":
                 self.fill(type_, node.init, path, found)
                 return
             raise self.refuse(node, "an array that begins with no list", "`{ .. }` around its elements")
-        self.set(found, path, Leaf(type_, node))
+        found.put(path, Leaf(type_, node))
 
     def parts(self, type_: Any) -> List[Tuple[Step, CType]]:
         """The members of a struct that an initialiser goes through."""
         members = [(member, member.type) for member in type_.members if member.name]
         return members[:1] if type_.union else members
 
-    def aggregate(self, type_: Any, cursor: Cursor, path: Path, found: Dict[Path, Leaf], top: bool, start: List[Any]) -> None:
+    def aggregate(self, type_: Any, cursor: Cursor, path: Path, found: Leaves, top: bool, start: List[Any]) -> None:
         """Takes items for the parts of an array or a struct; `start` are the designators that say where it begins."""
         index = 0
         parts = self.parts(type_) if isinstance(type_, Struct) else []
@@ -112,13 +125,13 @@ class Initialisers(Calls):
             if not top and index >= most:
                 return
 
-    def one(self, type_: CType, item: Any, path: Path, found: Dict[Path, Leaf], cursor: Cursor) -> None:
+    def one(self, type_: CType, item: Any, path: Path, found: Leaves, cursor: Cursor) -> None:
         """Takes what one part wants from the list."""
         if kind(item) == "InitList" or not isinstance(type_, (Array, Struct)) or is_char_array(type_) and is_string(item):
             self.fill(type_, item, path, found)
             cursor.at += 1
         elif isinstance(type_, Struct) and self.gives(item, type_):
-            self.set(found, path, Leaf(type_, item))
+            found.put(path, Leaf(type_, item))
             cursor.at += 1
         else:
             if isinstance(type_, Struct) and not self.parts(type_) or isinstance(type_, Array) and type_.count == 0:
@@ -129,7 +142,7 @@ class Initialisers(Calls):
         return kind(node) not in ("Constant",) and self.type_of(node) is struct
 
     def designated(self, type_: Any, designators: List[Any], parts: Sequence[Tuple[Step, CType]], item: Any, path: Path,
-                   found: Dict[Path, Leaf], cursor: Cursor) -> int:
+                   found: Leaves, cursor: Cursor) -> int:
         """Takes an item that says where it goes; the index of the part that it goes to."""
         first, rest = designators[0], designators[1:]
         last = None

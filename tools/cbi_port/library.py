@@ -51,7 +51,7 @@ class Library(GnuCalls):
                 self.wrappers[name] = symbol
             return symbol
         found = self.prelude_symbol(name)
-        if found is None and name in self.model.own_calls and not name.startswith("lib_") and name in RAW:
+        if (found is None or not found.defined) and name in self.model.own_calls and not name.startswith("lib_") and name in RAW:
             return self.raw_function(name, node)
         return found if found is not None and found.kind == "function" and found.defined else None
 

@@ -133,7 +133,7 @@ class Places(Floats, Declarations):
             return self.place(c_ast.Constant("string", f'"{written_name(self.function.name)}"', node.coord))
         if symbol is None and node.name.startswith("__cbi_"):
             symbol = self.prelude_symbol(node.name)
-            if node.name == "__cbi_err" and not self.in_prelude and not self.stderr:
+            if node.name == "__cbi_errors" and not self.in_prelude and not self.stderr:
                 self.liberties["what is written to stderr is left out (--stderr joins it)"] = None
         if symbol is None:
             if self.partial:

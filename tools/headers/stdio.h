@@ -10,7 +10,7 @@ typedef int off_t;
 typedef int fpos_t;
 #define stdin (&__cbi_in)
 #define stdout (&__cbi_out)
-#define stderr (&__cbi_err)
+#define stderr (&__cbi_errors)
 #define EOF (-1)
 #define BUFSIZ 8192
 #define FILENAME_MAX 4096

@@ -202,7 +202,7 @@ int mkstemp(char *name) {
     do __cbi_made_name(name + length - 6); while (__cbi_find(name));
     return open(name, O_RDWR | O_CREAT | O_EXCL);
 }
-int fclose(struct __cbi_FILE *f) { int done = close(f->number); if (f != &__cbi_in && f != &__cbi_out && f != &__cbi_err) free(f); return done; }
+int fclose(struct __cbi_FILE *f) { int done = close(f->number); if (f != &__cbi_in && f != &__cbi_out && f != &__cbi_errors) free(f); return done; }
 void __cbi_status(struct stat *to, unsigned mode, unsigned length) {
     to->st_dev = 1; to->st_ino = 1; to->st_mode = mode; to->st_nlink = 1; to->st_uid = 1000; to->st_gid = 1000; to->st_rdev = 0; to->st_size = length;
     to->st_blksize = 4096; to->st_blocks = (length + 511) / 512; to->st_atime = 0; to->st_mtime = 0; to->st_ctime = 0;

@@ -21,13 +21,13 @@ void __cbi_option_swap(char **words) {
 }
 int __cbi_option_fault(const char *program, const char *what, const char *dashes, const char *name, const char *rest) {
 #ifdef __CBI_STDERR__
-    if (__cbi_options.tells) fprintf(&__cbi_err, "%s: %s'%s%s'%s\n", program, what, dashes, name, rest);
+    if (__cbi_options.tells) fprintf(&__cbi_errors, "%s: %s'%s%s'%s\n", program, what, dashes, name, rest);
 #endif
     return '?';
 }
 int __cbi_option_letter_fault(const char *program, const char *what, int letter) {
 #ifdef __CBI_STDERR__
-    if (__cbi_options.tells) fprintf(&__cbi_err, "%s: %s -- '%c'\n", program, what, letter);
+    if (__cbi_options.tells) fprintf(&__cbi_errors, "%s: %s -- '%c'\n", program, what, letter);
 #endif
     __cbi_options.fault = letter;
     return '?';
@@ -37,11 +37,11 @@ int __cbi_option_several(const char *program, const char *dashes, unsigned lengt
 #ifdef __CBI_STDERR__
     int n;
     if (__cbi_options.tells) {
-        fprintf(&__cbi_err, "%s: option '%s%s' is ambiguous; possibilities:", program, dashes, next);
+        fprintf(&__cbi_errors, "%s: option '%s%s' is ambiguous; possibilities:", program, dashes, next);
         for (n = 0; longs[n].name; n++)
             if (strncmp(longs[n].name, next, length) == 0 && (n == first || only || longs[n].has_arg != longs[first].has_arg || longs[n].flag != longs[first].flag || longs[n].val != longs[first].val))
-                fprintf(&__cbi_err, " '%s%s'", dashes, longs[n].name);
-        fputs("\n", &__cbi_err);
+                fprintf(&__cbi_errors, " '%s%s'", dashes, longs[n].name);
+        fputs("\n", &__cbi_errors);
     }
 #endif
     __cbi_options.next = __cbi_options.next + strlen(next);

@@ -4,8 +4,17 @@ struct cbi_unsigned { unsigned value; };
 struct cbi_memory_state { unsigned stack; unsigned heap; unsigned lists[32]; };
 struct cbi_memory_state cbi_memory;
 void cbi_begin(unsigned *image, unsigned count) {
-    unsigned n;
-    for (n = 0; n < count; n++) cbi_m[n + 1024] = image[n];
+    unsigned n = 0u;
+    unsigned at = 1024u;
+    unsigned end;
+    while (n < count) {
+        at += image[n];
+        end = at + image[n + 1u];
+        for (n += 2u; at < end; at++) {
+            cbi_m[at] = image[n];
+            n++;
+        }
+    }
 }
 void cbi_no_memory(unsigned a) {
     int *nothing = NULL;

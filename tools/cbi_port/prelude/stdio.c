@@ -4,7 +4,7 @@
 #undef EOF
 struct __cbi_FILE __cbi_in = { 0 };
 struct __cbi_FILE __cbi_out = { 1 };
-struct __cbi_FILE __cbi_err = { 2 };
+struct __cbi_FILE __cbi_errors = { 2 };
 // Where a form is written to: the output (kind 0), a text (1), nowhere (2) or a file (3).
 #ifdef __CBI_OPENED__
 struct __cbi_sink { char *at; unsigned room; int count; int kind; struct __cbi_FILE *file; };
@@ -40,7 +40,7 @@ int __puts(const char *s) { while (*s) { __cbi_out_byte(*s); s++; } __cbi_out_by
 int fputs(const char *s, struct __cbi_FILE *f) { while (*s) { if (fputc(*s, f) == -1) return -1; s++; } return 1; }
 unsigned fwrite(const void *from, unsigned size, unsigned count, struct __cbi_FILE *f) { const char *s = from; unsigned n; for (n = 0; n < size * count; n++) if (fputc(s[n], f) == -1) return n / size; return count; }
 unsigned fread(void *to, unsigned size, unsigned count, struct __cbi_FILE *f) { char *s = to; unsigned n = 0; int c; if (size == 0) return 0; while (n < size * count) { c = fgetc(f); if (c == -1) break; s[n] = c; n++; } return n / size; }
-void perror(const char *s) { if (s && *s) { fputs(s, &__cbi_err); fputs(": ", &__cbi_err); } fputs(strerror(errno), &__cbi_err); fputs("\n", &__cbi_err); }
+void perror(const char *s) { if (s && *s) { fputs(s, &__cbi_errors); fputs(": ", &__cbi_errors); } fputs(strerror(errno), &__cbi_errors); fputs("\n", &__cbi_errors); }
 void __cbi_put(struct __cbi_sink *to, int c) {
     if (to->kind == 1) { if (to->room > 1u) { *to->at = c; to->at++; to->room--; } }
     else if (to->kind == 0) __cbi_out_byte(c);

@@ -87,10 +87,10 @@ char *nl_langinfo(int what) { return what == 14 ? "ANSI_X3.4-1968" : what == 655
 void __cbi_told(int with, const char *form, va_list more) {
 #ifdef __CBI_STDERR__
     int number = errno;
-    fputs("prog: ", &__cbi_err);
-    if (form) vfprintf(&__cbi_err, form, more);
-    if (with) fprintf(&__cbi_err, form ? ": %s" : "%s", strerror(number));
-    fputs("\n", &__cbi_err);
+    fputs("prog: ", &__cbi_errors);
+    if (form) vfprintf(&__cbi_errors, form, more);
+    if (with) fprintf(&__cbi_errors, form ? ": %s" : "%s", strerror(number));
+    fputs("\n", &__cbi_errors);
 #endif
 }
 void vwarn(const char *form, va_list more) { __cbi_told(1, form, more); }
@@ -105,10 +105,10 @@ void error(int status, int number, const char *form, ...) {
 #ifdef __CBI_STDERR__
     va_list more;
     va_start(more, form);
-    fputs("prog: ", &__cbi_err);
-    vfprintf(&__cbi_err, form, more);
-    if (number) fprintf(&__cbi_err, ": %s", strerror(number));
-    fputs("\n", &__cbi_err);
+    fputs("prog: ", &__cbi_errors);
+    vfprintf(&__cbi_errors, form, more);
+    if (number) fprintf(&__cbi_errors, ": %s", strerror(number));
+    fputs("\n", &__cbi_errors);
 #endif
     if (status) exit(status);
 }
