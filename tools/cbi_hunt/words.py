@@ -85,6 +85,8 @@ def arguments(words: List[str]) -> argparse.Namespace:
     parser.add_argument("--memory", choices=["auto", "cells", "bytes"], default="auto", help="how a ported text keeps memory (docs/PORTING.md); the text is ported unless it is auto")
     parser.add_argument("--stderr", action="store_true", help="what goes to stderr goes to out; the text is ported")
     parser.add_argument("--args", metavar="WORDS", help="the arguments of main: words, or first-line for those of the input's first line; the text is ported")
+    parser.add_argument("--cflags", default="", metavar="FLAGS", help="the flags of your own build, which a ported text is compared with; -fwrapv there is --wrap too")
+    parser.add_argument("--wrap", action="store_true", help="signed integers wrap where they overflow, as with gcc's -fwrapv; the text is ported")
     parser.add_argument("--no-check", dest="check", action="store_false", help="doesn't compare a ported text with what gcc makes of the files")
     parser.add_argument("--inputs", metavar="DIR", required=True, help="the inputs: a folder of files, or a file of lines")
     judges = parser.add_mutually_exclusive_group()

@@ -37,6 +37,8 @@ class Body:
         self.lengths = False
         self.outer_names: Set[str] = set()  # what is declared `extern` within the function
         self.last_member: Dict[str, str] = {}  # which member of a union was used last, by the way to it
+        self.tails: Dict[int, Any] = {}     # calls of the function to itself that become rounds of a loop, by their statements
+        self.parameters: List[Any] = []
         self.dead = 0              # within what a constant says is never evaluated
 
     def put(self, text: str) -> None:

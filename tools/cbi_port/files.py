@@ -13,7 +13,7 @@ from cbi_port.system import Named
 MOST_TOKENS, MOST_BYTES = 100000, 1048576
 
 
-def port_files(files: Sequence[str], options: List[str], args: Any, stderr: bool, memory: str, named: Named = ()) -> Ported:
+def port_files(files: Sequence[str], options: List[str], args: Any, stderr: bool, memory: str, named: Named = (), wrap: bool = False) -> Ported:
     """See `cbi_port.port`."""
     tokens: List[Token] = [Token("mark", "", files[0] if files else "", 1)]
     missing: List[Problem] = []
@@ -32,7 +32,7 @@ def port_files(files: Sequence[str], options: List[str], args: Any, stderr: bool
     first: Optional[Program] = None
     for way in (["cells", "bytes"] if memory == "auto" else [memory]):
         del tokens[size:]
-        program = Program(units, tokens, way, args, stderr, named)
+        program = Program(units, tokens, way, args, stderr, named, wrap)
         ported = run(program)
         if not program.problems:
             program.problems.extend(too_large(ported, tokens))

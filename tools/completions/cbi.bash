@@ -59,7 +59,7 @@ _cbi() {
 }
 
 _cbi_hunt() {
-    _cbi_options '--inputs -I -D -U -include --memory --stderr --args --no-check --expect --oracle --oracle-shell --oracle-timeout --hangs --status --since --changed --minimize --mutate --neighbours --rate --runs --seed --turns --schemes --jobs --policy --keep --all --html --farm --parts --cbi --version --help'
+    _cbi_options '--inputs -I -D -U -include --memory --stderr --args --wrap --cflags --no-check --expect --oracle --oracle-shell --oracle-timeout --hangs --status --since --changed --minimize --mutate --neighbours --rate --runs --seed --turns --schemes --jobs --policy --keep --all --html --farm --parts --cbi --version --help'
 }
 
 _cbi_show() {
@@ -71,7 +71,7 @@ _cbi_explain() {
 }
 
 _cbi_port() {
-    _cbi_options '-I -D -U -include -o --args --file --stderr --memory --quiet --check --inputs --tool --turns --version --help'
+    _cbi_options '-I -D -U -include -o --args --file --stderr --memory --wrap --quiet --check --cflags --inputs --tool --turns --version --help'
 }
 
 complete -o filenames -F _cbi cbi
