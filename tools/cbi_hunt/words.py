@@ -82,7 +82,7 @@ def arguments(words: List[str]) -> argparse.Namespace:
     parser.add_argument("-D", action="append", default=[], metavar="NAME[=V]", help="a name that is defined; the text is ported")
     parser.add_argument("-U", action="append", default=[], metavar="NAME", help="a name that isn't; the text is ported")
     parser.add_argument("-include", action="append", default=[], metavar="FILE", help="a file that is read before the text; the text is ported")
-    parser.add_argument("--memory", choices=["auto", "cells", "bytes"], default="auto", help="how a ported text keeps memory (docs/PORTING.md); the text is ported unless it is auto")
+    parser.add_argument("--memory", choices=["auto", "cells", "bytes", "flat"], default="auto", help="how a ported text keeps memory (docs/PORTING.md); the text is ported unless it is auto")
     parser.add_argument("--stderr", action="store_true", help="what goes to stderr goes to out; the text is ported")
     parser.add_argument("--args", metavar="WORDS", help="the arguments of main: words, or first-line for those of the input's first line; the text is ported")
     parser.add_argument("--cflags", default="", metavar="FLAGS", help="the flags of your own build, which a ported text is compared with; -fwrapv there is --wrap too")

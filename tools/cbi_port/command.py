@@ -22,7 +22,7 @@ def words(arguments: List[str]) -> argparse.Namespace:
     parser.add_argument("--args", metavar="WORDS", help="the arguments of main: words, or first-line for those of the input's first line")
     parser.add_argument("--file", action="append", default=[], metavar="NAME=PATH", help="a file that the text may open under that name; NAME=- is the one input")
     parser.add_argument("--stderr", action="store_true", help="what goes to stderr goes to out")
-    parser.add_argument("--memory", choices=["auto", "cells", "bytes"], default="auto", help="how memory is kept (docs/PORTING.md)")
+    parser.add_argument("--memory", choices=["auto", "cells", "bytes", "flat"], default="auto", help="how memory is kept (docs/PORTING.md)")
     parser.add_argument("--wrap", action="store_true", help="signed integers wrap where they overflow, as with gcc's -fwrapv")
     parser.add_argument("--quiet", action="store_true", help="nothing on err but refusals")
     parser.add_argument("--check", action="store_true", help="compare the text with the files as gcc builds them")

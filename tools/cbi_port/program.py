@@ -4,6 +4,7 @@ from typing import Any, Dict, List, Optional, Sequence, Set, Tuple
 
 from cbi_port import Ported, forms
 from cbi_port.body import Body
+from cbi_port.bounds import BoundedBytes
 from cbi_port.bytes import Bytes
 from cbi_port.helpers import Helpers
 from cbi_port.library import Library
@@ -12,13 +13,14 @@ from cbi_port.objects import Objects
 from cbi_port.reader import HEADERS, Unit, prelude_index, read_prelude
 from cbi_port.scopes import TAKEN, Names, Scope, Symbol, plain_name
 from cbi_port.system import Named, asked
-from cbi_port.tails import Tails
 from cbi_port.trees import declared_outside, gives_value, holds_open, kind, names_under_address
 from cbi_port.unions import Unions
+from cbi_port.unwinding import Unwinding
 from cbi_port.wrappers import OBJECT, Wrappers
 from cbi_port.types import (INT, VOID, Array, CType, Function, Int, Pointer, Struct, Void, is_complete, is_whole,
                             spelled, to_function)
 
+MODELS: Dict[str, Any] = {"cells": Objects, "bytes": BoundedBytes, "flat": Bytes}
 WRAPS = "signed integers wrap where they overflow (--wrap), as gcc's -fwrapv has it"
 DEFINITION = "its definition, or the file that has it beside the others"
 
@@ -29,7 +31,7 @@ def prelude_text(name: str) -> str:
     return plain if plain.startswith("cbi_") else ("cbi_own_" if name.startswith("__") else "cbi_") + plain
 
 
-class Program(Tails, Library):
+class Program(Unwinding, Library):
     """A translation of files into one text, with one model of memory."""
 
     def __init__(self, units: Sequence[Unit], tokens: List[Token], memory: str, args: Any, stderr: bool, named: Named = (), wrap: bool = False) -> None:
@@ -82,7 +84,7 @@ class Program(Tails, Library):
         self.prelude_units: Dict[str, Unit] = {}
         self.prelude_symbols: Dict[str, Symbol] = {}
         self.prelude_scope = Scope()
-        self.model: Objects = Bytes(self) if memory == "bytes" else Objects(self)
+        self.model: Objects = MODELS[memory](self)
         self.model.own_calls = self.model.calls()
         self.first = Body("cbi_init", VOID)
         self.function = self.first
@@ -370,6 +372,7 @@ class Program(Tails, Library):
             if unit.tree is not None:
                 self.survey(unit)
         self.begin_main()
+        self.find_jumps()
         if not self.model.in_bytes:
             self.makers_of_text.find()
         for unit in self.units:

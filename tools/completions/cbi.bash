@@ -19,7 +19,7 @@ _cbi_value() {
     --hangs) value='neither fail' ;;
     --status | --changed) value='ignore fail' ;;
     --format) value='text html sarif quickfix' ;;
-    --memory) value='auto cells bytes' ;;
+    --memory) value='auto cells bytes flat' ;;
     --rate) value='1 2 5 10 20 50 100 1000' ;;
     --part | --parts | --turns | --run | --runs | --first | --count | --seed | --stream | --jobs | --oracle | --oracle-shell | --oracle-timeout | --mutate | --neighbours | --args | -D | -U) value=' ' ;;
     --bank | --input | --expect | --report | --program | --whole | --inputs | --keep | --hunt | --html | --farm | --cbi | --source | --lines | --cards | --pairs | --reports | --output | --sites | --tool | --since | -I | -include | -o) ;;
