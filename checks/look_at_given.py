@@ -18,6 +18,7 @@ sys.path.insert(0, TOOLS)
 import cbi_files  # noqa: E402
 import cbi_traps  # noqa: E402
 from cbi_hunt import beside_gcc, counts, given, texts  # noqa: E402
+from cbi_port import builds  # noqa: E402
 
 PLAIN = "int main(void)\n{\n    return getchar() - getchar();\n}\n"
 
@@ -148,7 +149,8 @@ class Hanging(Case):
             patience.append(more.get("timeout"))
             return run(words, **more)
 
-        native = beside_gcc.Native(self.path("native"), None)
+        native = builds.Builds(builds.Files([]), self.room)
+        native.made = {builds.OWN: self.path("native"), builds.NARROW: None}
         comparison = beside_gcc.Comparison(chosen, native, self.path("prog.cbi"), looking.CBI, self.room)
         with unittest.mock.patch.object(beside_gcc.subprocess, "run", noted):
             found = comparison.compare([(name, name.encode() + b"\n") for name in ("h1", "a1", "h2", "a2", "a3")])

@@ -2,7 +2,7 @@
 
 A program of ports_table says behind its text what it does: `refused LINE WORDS`, or what it reads, its words, what it
 writes and its status (or trap), and files that it may open. Without these it writes nothing and ends with 0. `memory cells` or `memory bytes` says
-how its memory is kept.
+how its memory is kept, and `flags` what gcc is told more.
 """
 import ast
 import os
@@ -18,7 +18,7 @@ from looking import CBI, Case, EXAMPLES, TOOLS, TOP
 sys.path.insert(0, TOOLS)
 sys.setrecursionlimit(20000)
 import cbi_port  # noqa: E402
-from cbi_port import check  # noqa: E402
+from cbi_port import builds, check  # noqa: E402
 from cbi_port.files import too_large  # noqa: E402
 
 TABLE = os.path.join(TOP, "checks", "ports_table")
@@ -48,6 +48,7 @@ class Due:
         self.output = written[1].encode() if written else b""
         self.status = int(written[3]) if written and written[2] == "status" else 0
         self.memory = (re.search(r"(?m)^/\* memory (cells|bytes) \*/$", text) or ["", ""])[1]
+        self.flags = shlex.split((re.search(r"(?m)^/\* flags (.*) \*/$", text) or ["", ""])[1])
         self.trap = int(written[3]) if written and written[2] == "trap" else None
 
 
@@ -72,8 +73,8 @@ class Programs(Case):
             if due.trap is None:
                 self.assertEqual(got.status, due.status, f"{name} {mode}")
         if due.trap is None and BUILDS_32:
-            built = check.compiled([os.path.join(TABLE, name)], [], self.room, "built", ["-O0"])
-            native = check.run_native(built, due.words, due.given, due.named)
+            built = builds.compiled([os.path.join(TABLE, name)], [], self.room, "built", ["-O0", *due.flags])
+            native = builds.run_native(built, due.words, due.given, due.named)
             self.assertEqual((native.output, native.status), (due.output, due.status), f"{name} by gcc")
 
     def test_programs(self):
@@ -96,7 +97,7 @@ class Programs(Case):
                 for memory in ("auto", "bytes"):
                     if memory == "bytes" and due.trap is not None:
                         continue
-                    ported = cbi_port.port([os.path.join(TABLE, name)], args=due.words, memory=memory, named=due.named)
+                    ported = cbi_port.port([os.path.join(TABLE, name)], args=due.words, memory=memory, named=due.named, wrap="-fwrapv" in due.flags)
                     if memory == "auto" and due.memory:
                         self.assertEqual("bytes" if any("as bytes" in it for it in ported.liberties) else "cells", due.memory, name)
                     self.hold(name, text, ported)
@@ -157,7 +158,7 @@ class Worked(Case):
                 rows += [f"in {'abcdefgh'[step % 7] * (step % 5 + 1)} {step * 7 % 31}", f"out {'abcdefgh'[step % 3]} {step % 4}"]
             rows += ["show", "sum"] + (["in x1 4"] if few == 2 else ["what"] if few == 3 else [])
             inputs.append((str(few), ("\n".join(rows) + "\n").encode()))
-        checked = check.compare([name], [], ported, inputs, CBI, "first-line", TURNS)
+        checked = check.compare(builds.Files([name]), ported, inputs, CBI, "first-line", TURNS)
         self.assertEqual((checked.equal, checked.differences), (4, []))
         hand = cbi_port.Ported(by_hand, [], [], [], {})
         with_hand = check.transformed(CBI, hand, self.room)[0]
@@ -174,7 +175,7 @@ class Worked(Case):
         ported = cbi_port.port([name], args="first-line")
         rows = ["in nuts 12", "in bolts 30", "out nuts 5", "show", "sum", "in nuts 1", "sum"]
         given = [(str(some), ("\n".join(["", *rows[:some]]) + "\n").encode()) for some in (0, 3, 5, 7)]
-        checked = check.compare([name], [], ported, given, CBI, "first-line", TURNS)
+        checked = check.compare(builds.Files([name]), ported, given, CBI, "first-line", TURNS)
         self.assertEqual((checked.equal, checked.differences), (4, []))
 
 
@@ -189,7 +190,7 @@ class Files(Case):
         second = self.write("second.c", "#include \"shared.h\"\nint total = 1;\nstatic int hidden = 20;\nstatic int helper(void) { return hidden++; }\n"
                             "int add(struct item i)\n{\n    if (i.n > twice(1))\n        total += i.n + helper();\n    return total;\n}\n")
         ported = cbi_port.port([first, second], ["-I" + self.room])
-        checked = check.compare([first, second], ["-I" + self.room], ported, [("none", b"")], CBI, None, TURNS)
+        checked = check.compare(builds.Files([first, second], ["-I" + self.room]), ported, [("none", b"")], CBI, None, TURNS)
         self.assertEqual(checked.equal, 1, checked.differences)
         self.transform(ported.text.decode("latin-1"))
         of_second = [index for index, line in enumerate(ported.lines, 1) if line.file == second and line.line == 7]
@@ -214,7 +215,7 @@ class Files(Case):
         third = self.write("third.c", "#include \"list.h\"\nstruct hidden { int deep[4]; };\nint third(void) { struct hidden h = { { 1, 2, 3, 4 } }; handle p = &h; return p->deep[3] + (int)sizeof *p; }\n")
         for memory in ("cells", "bytes"):
             ported = cbi_port.port([main, more, third], ["-I" + self.room], memory=memory)
-            checked = check.compare([main, more, third], ["-I" + self.room], ported, [("none", b"")], CBI, None, TURNS)
+            checked = check.compare(builds.Files([main, more, third], ["-I" + self.room]), ported, [("none", b"")], CBI, None, TURNS)
             self.assertEqual(checked.equal, 1, checked.differences)
 
     def test_what_is_told_of_the_system(self):
@@ -225,7 +226,7 @@ class Files(Case):
             ported = cbi_port.port([name], stderr=True, memory=memory)
             self.assertEqual(ported.liberties, ["getenv gives NULL, whatever the environment has"])
             got = check.run_ported(CBI, check.transformed(CBI, ported, self.room)[0], b"", self.room, TURNS)
-            built = check.compiled([name], [], self.room, "built", ["-O0"])
+            built = builds.compiled([name], [], self.room, "built", ["-O0"])
             by_gcc = subprocess.run([built], stdout=subprocess.PIPE, stderr=subprocess.STDOUT, check=False)
             self.assertEqual((got.output, got.status), (by_gcc.stdout, by_gcc.returncode))
             self.assertEqual(by_gcc.stdout, b"prog: No such file or directory\nUnknown error 200\n")
@@ -241,7 +242,7 @@ class Files(Case):
         for memory in ("cells", "bytes"):
             for args, named, given in rows:
                 ported = cbi_port.port([name], args=args, memory=memory, named=named)
-                checked = check.compare([name], [], ported, [("given", given)], CBI, args, TURNS, named)
+                checked = check.compare(builds.Files([name]), ported, [("given", given)], CBI, args, TURNS, named)
                 self.assertEqual(checked.equal, 1, f"{memory} {args}: {checked.differences}")
 
     def test_names_of_functions_of_floats(self):
@@ -280,6 +281,69 @@ class Files(Case):
         text = b"\n".join((b"1," * 30000, b"1," * 15001 + b"1", b"1," * 7500))
         self.assertEqual([it.construct for it in too_large(cbi_port.Ported(text, lines, [], [], {}), [])],
                          [what.format("105,003 tokens, of which 100,000") + " (a.c 57 %, b.c 28 %, what is added 14 %)"])
+
+
+class OwnBuild(Case):
+    """The text beside the program as its author builds it, and beside one of 32 bits."""
+
+    # What it does is said by the first byte: `+` adds a million to a long, w times 2,200; `/` overruns an array; `d` and `t` call themselves so many times.
+    TEXT = ("#include <stdio.h>\n#include <stdlib.h>\nstatic int deep(int n) { int below = n ? deep(n - 1) : 0; return below + 1; }\nint main(void)\n{\n    long sum = 0;\n    int c = getchar(), n;\n"
+            "    if (scanf(\"%d\", &n) != 1) return 3;\n    if (c == '+') while (n-- > 0) sum += 1000000;\n    if (c == '/') { char *p = malloc(4); p[n] = 7; sum = p[n]; free(p); }\n    if (c == 'd') sum = deep(n);\n"
+            "    if (c == 'u') { unsigned long m = 4294967295ul; sum = m + n > 7; }\n    printf(\"%ld\\n\", sum);\n    return 0;\n}\n")
+
+    def setUp(self):
+        super().setUp()
+        if not BUILDS_32:
+            self.skipTest("gcc builds nothing for 32 bits here")
+        self.name = self.write("a.c", self.TEXT)
+
+    def compared(self, rows, flags=()):
+        ported = cbi_port.port([self.name], wrap="-fwrapv" in flags)
+        return check.compare(builds.Files([self.name], flags=flags), ported, [(row, row.encode()) for row in rows], CBI, None, TURNS)
+
+    def test_what_comes_of_32_bits_is_never_explained(self):
+        """2,200 millions are more than a long of 32 bits has, and 4,294,967,296 more than an unsigned one: the author's build of 64 bits has both. The overrun is one in either."""
+        found = self.compared(["+ 7", "+ 2200", "/ 4", "u 1", "u 9"])
+        self.assertEqual((found.equal, found.total, found.wide, found.narrow), (2, 5, ["+ 2200", "u 1"], True))
+        self.assertEqual([(it.name, it.explained, it.kind) for it in found.differences], [("+ 2200", "", check.WIDTH), ("/ 4", "trap 6 where a sanitizer stops", ""), ("u 1", "", check.WIDTH)])
+        self.assertEqual([it.what for it in found.differences if it.kind],
+                         ["the output differs first at byte 1, line 1; gcc's ends with 0, the text's with trap 1; a sanitizer stops gcc's of 32 bits alone",
+                          "the output differs first at byte 1, line 1; gcc's of 32 bits does what the text does"])
+        self.assertEqual(found.notes(), ["2 inputs of 5 do something else in your own build than in one of 32 bits, which the text is: + 2200, u 1. No difference there is called explained."])
+        self.assertEqual(found.summary(), "2 of 5 outputs as gcc's, 1 run trap 6 where a sanitizer stops")
+
+    def test_a_program_of_32_bits_has_one_build(self):
+        """Where the author's flags say 32 bits, the two builds do the same, and a sanitizer stops his too."""
+        found = self.compared(["+ 2200", "u 1"], flags=["-m32"])
+        self.assertEqual((found.equal, found.wide, [it.explained for it in found.differences]), (1, [], ["trap 1 where a sanitizer stops"]))
+
+    def test_numbers_that_wrap(self):
+        """With -fwrapv nothing is undefined where a sum wraps: the text does what gcc's of 32 bits does."""
+        found = self.compared(["+ 2200"], flags=["-m32", "-fwrapv"])
+        self.assertEqual((found.equal, found.differences), (1, []))
+
+    def test_the_limit_of_calls_is_the_tool_s(self):
+        """Five hundred calls and main, and then a thousand; and without an end, where gcc's build ends too."""
+        found = self.compared(["d 500", "d 1000", "d 100000000"])
+        self.assertEqual([(it.name, it.explained, it.kind) for it in found.differences], [("d 1000", "", check.LIMIT), ("d 100000000", "trap 12 where a sanitizer stops", "")])
+        self.assertEqual(found.notes(), ["1 run needs more than 512 calls at once, this tool's limit (trap 12), and gcc's goes on: d 1000."])
+
+    def test_the_scripts(self):
+        """`--check` tells which inputs differ by the width first, and ends with 1; a hunt has the line, and flags of one's own."""
+        for name in ("+ 7", "+ 2200", "/ 4", "d 1000"):
+            self.write(f"in/{name[:1].replace('/', 'o')}{name[2:]}", name)
+        wide = "1 input of 4 does something else in your own build than in one of 32 bits, which the text is: {}+2200. No difference there is called explained.\n"
+        deep = "1 run needs more than 512 calls at once, this tool's limit (trap 12), and gcc's goes on: {}d1000.\n"
+        out, _ = self.call("cbi-port", "--check", "--inputs", "in", "a.c", due=1)
+        self.assertTrue(out.startswith(wide.format("in/") + deep.format("in/")), out)
+        self.assertTrue(out.endswith("\n1 of 4 outputs as gcc's, 1 run trap 6 where a sanitizer stops\n"), out)
+        out, _ = self.call("cbi-port", "--check", "--inputs", "in", "--cflags", "-m32 -O2 -fwrapv", "a.c", due=1)
+        self.assertTrue(out.startswith(deep.format("in/") + "in/d1000: "), out)
+        self.assertTrue(out.endswith("\n2 of 4 outputs as gcc's, 1 run trap 6 where a sanitizer stops\n"), out)
+        out, _ = self.call("cbi-hunt", "a.c", "--inputs", "in", due=None)
+        self.assertIn("\nported: 6 library functions; 1 of 4 outputs as gcc's, 1 run trap 6 where a sanitizer stops\n" + wide.format("") + deep.format(""), out)
+        out, err = self.call("cbi-hunt", "a.c", "--inputs", "in", "--wrap", due=None)
+        self.assertIn("cbi-hunt: signed integers wrap where they overflow (--wrap), as gcc's -fwrapv has it\n", err)
 
 
 class Command(Case):

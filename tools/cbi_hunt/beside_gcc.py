@@ -3,11 +3,10 @@
 Runs of the text come first. Where one is cut at its turns gcc's may hang as well, so it is given a time by how long the others took, and is ended then.
 """
 import argparse
-import shutil
 import subprocess
 import tempfile
 import time
-from typing import List, NamedTuple, Optional, Sequence, Tuple
+from typing import List, Sequence, Tuple
 
 import cbi_files
 import cbi_port
@@ -15,6 +14,7 @@ from cbi_files import count_of
 from cbi_hunt.counts import Told
 from cbi_hunt.inputs import Inputs
 from cbi_port import check
+from cbi_port.builds import OWN, Builds, Files, Ran, build_flags
 
 MOST_CHECKED = 300     # inputs that are compared
 MOST_DIFFERENCES = 3
@@ -24,19 +24,14 @@ BOTH_HANG = "hang in both builds"
 Chance = Tuple[str, bytes]
 
 
-class Native(NamedTuple):
-    """gcc's builds: the plain one, and the one with sanitizers, where there is one."""
-    plain: str
-    strict: Optional[str]
-
-
 class Comparison:
     """The runs of both builds, input by input."""
 
-    def __init__(self, chosen: argparse.Namespace, native: Native, program: str, cbi: str, folder: str):
-        self.chosen, self.native, self.program, self.cbi, self.folder = chosen, native, program, cbi, folder
-        self.longest, self.equal = 0.0, 0
+    def __init__(self, chosen: argparse.Namespace, builds: Builds, program: str, cbi: str, folder: str):
+        self.chosen, self.builds, self.program, self.cbi, self.folder = chosen, builds, program, cbi, folder
+        self.longest = 0.0
         self.differences: List[check.Difference] = []
+        self.wide: List[str] = []
 
     def arguments(self, data: bytes) -> Tuple[List[str], bytes]:
         from cbi_hunt.texts import words_of
@@ -56,27 +51,24 @@ class Comparison:
                 self.differences.append(check.Difference(name, "", BOTH_HANG))
             else:
                 self.one(name, data, got)
-        return check.Checked(self.equal, len(chances), self.differences)
+        return check.Checked(len(chances) - len(self.differences), len(chances), self.differences, self.wide, self.builds.has_narrow())
 
-    def one(self, name: str, data: bytes, got: check.Ran) -> None:
+    def one(self, name: str, data: bytes, got: Ran) -> None:
         words, rest = self.arguments(data)
         begun = time.monotonic()
-        due = check.run_native(self.native.plain, words, rest)
-        if not due.stopped:
+        run = self.builds.runs(words, rest)
+        due = run(OWN)
+        if due is not None and not due.stopped:
             self.longest = max(self.longest, time.monotonic() - begun)
-        if (due.output, due.status, due.stopped, got.stopped) == (got.output, got.status, "", ""):
-            self.equal += 1
-        else:
-            self.differences.append(check.told(name, due, got, lambda: self.sanitized(words, rest)))
-
-    def sanitized(self, words: List[str], rest: bytes) -> Optional[check.Ran]:
-        return check.run_native(self.native.strict, words, rest) if self.native.strict is not None else None
+        judged = check.beside(name, got, run)
+        self.wide += [name] * judged.wide
+        self.differences += [judged.difference] if judged.difference is not None else []
 
     def hangs(self, data: bytes) -> bool:
         """Whether gcc's build doesn't end either, in a time that is long beside that of the runs that ended."""
         words, rest = self.arguments(data)
         try:
-            subprocess.run([self.native.plain, *words], input=rest, stdout=subprocess.DEVNULL, stderr=subprocess.DEVNULL, check=False, timeout=max(LEAST_PATIENCE, TIMES * self.longest))
+            subprocess.run([str(self.builds.program(OWN)), *words], input=rest, stdout=subprocess.DEVNULL, stderr=subprocess.DEVNULL, check=False, timeout=max(LEAST_PATIENCE, TIMES * self.longest))
         except subprocess.TimeoutExpired:
             return True
         return False
@@ -84,17 +76,12 @@ class Comparison:
 
 def compare(chosen: argparse.Namespace, cbi: str, ported: cbi_port.Ported, chances: Sequence[Chance]) -> check.Checked:
     """Missing where gcc isn't there, or doesn't take the files."""
-    if shutil.which("gcc") is None:
-        raise cbi_port.Missing("no gcc: Debian's package gcc has it")
     with tempfile.TemporaryDirectory(prefix="cbi-hunt-") as folder:
-        plain = check.compiled(chosen.texts, chosen.cpp, folder, "plain", ["-O0"])
-        if plain is None:
-            raise cbi_port.Missing("gcc doesn't take the files")
-        strict = check.compiled(chosen.texts, chosen.cpp, folder, "strict", ["-O0", "-fsanitize=address,undefined", "-fno-sanitize-recover=all"])
+        builds = check.builds_of(Files(chosen.texts, chosen.cpp, build_flags(chosen)), folder)
         program, refused = check.transformed(cbi, ported, folder)
         if program is None:
             raise cbi_port.Missing(f"the text isn't taken: {refused}")
-        return Comparison(chosen, Native(plain, strict), program, cbi, folder).compare(chances)
+        return Comparison(chosen, builds, program, cbi, folder).compare(chances)
 
 
 def compared(chosen: argparse.Namespace, cbi: str, ported: cbi_port.Ported, inputs: Inputs) -> Tuple[str, List[str]]:
@@ -108,10 +95,10 @@ def compared(chosen: argparse.Namespace, cbi: str, ported: cbi_port.Ported, inpu
         return f"not compared with gcc's: {missing}", []
     finally:
         told.clear()
-    odd = [difference for difference in found.differences if not difference.explained]
+    odd = [difference for difference in found.differences if not difference.explained and not difference.kind]
     lines = [f"  {difference.name}: {difference.what}" for difference in odd[:MOST_DIFFERENCES]]
     if odd:
         lines.insert(0, f"{count_of(len(odd), 'output')} {'differs' if len(odd) == 1 else 'differ'} from gcc's and nothing says why: what is hunted may be of the port.")
     if len(inputs.names) > len(chances):
-        return f"{found.summary()} (of {len(inputs.names)} inputs the first {len(chances)} were looked at)", lines
-    return found.summary(), lines
+        return f"{found.summary()} (of {len(inputs.names)} inputs the first {len(chances)} were looked at)", found.notes() + lines
+    return found.summary(), found.notes() + lines

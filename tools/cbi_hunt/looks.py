@@ -11,6 +11,7 @@ from typing import Counter as Counts
 from typing import List, Optional, Tuple
 
 import cbi_files
+import cbi_port
 from cbi_answer import Answer, BugShown
 from cbi_files import Program, count_of, status_of
 from cbi_hunt.again import Repeater, for_predicate, program_for
@@ -114,7 +115,7 @@ def command_for(hunt: Hunt, name: str, path: str, data: bytes, made: bool) -> st
         return f"{run}{quoted(file)} {quoted(os.path.join(chosen.keep, 'plain'))}"
     compiled = f"{before}{cbi} transform --mode plain {quoted(chosen.text)} | {run}"
     if chosen.ported:
-        words = ["--quiet", *(["--args", chosen.args] if chosen.args else []), *["--stderr"] * chosen.stderr, *(["--memory", chosen.memory] if chosen.memory != "auto" else []),
+        words = ["--quiet", *(["--args", chosen.args] if chosen.args else []), *["--stderr"] * chosen.stderr, *["--wrap"] * cbi_port.wraps(chosen), *(["--memory", chosen.memory] if chosen.memory != "auto" else []),
                  *chosen.texts, *chosen.cpp]
         compiled = f"{before}{script('cbi-port')} {' '.join(map(quoted, words))} | {cbi} transform --mode plain - | {run}"
     given = hunt.inputs.lines is None and hunt.inputs.names.index(name) < hunt.inputs.given

@@ -27,7 +27,7 @@ class Files(NamedTuple):
 
 def said_of(files: Files, data: bytes) -> Optional[str]:
     """What a sanitizer says of a run on an input; none where it says nothing, gcc isn't there, or it takes too long."""
-    from cbi_port.check import compiled
+    from cbi_port.builds import compiled
     with tempfile.TemporaryDirectory(prefix="cbi-hunt-") as folder:
         try:
             program = compiled(files.names, files.options, folder, "checked", CHECKS)

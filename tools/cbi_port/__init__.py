@@ -6,6 +6,8 @@ kept is refused, all of it at once (`Refused`).
 import argparse
 from typing import Dict, List, NamedTuple, Optional, Sequence, Tuple, Union
 
+WRAPPING = {"-fwrapv", "-fno-strict-overflow"}   # flags of gcc
+
 
 class Line(NamedTuple):
     """Whose a line of the text is. Where `added`, the tool wrote all of it, and `file` is empty."""
@@ -99,14 +101,19 @@ def for_preprocessor(chosen: argparse.Namespace) -> List[str]:
     return [f"-{word}{it}" for word in "IDU" for it in getattr(chosen, word)] + [word for it in chosen.include for word in ("-include", it)]
 
 
+def wraps(chosen: argparse.Namespace) -> bool:
+    """Whether signed integers wrap, by the options of a script: its own, or the flags of the author's build."""
+    return bool(chosen.wrap or WRAPPING & set(chosen.cflags.split()))
+
+
 def port(files: Sequence[str], cpp: Sequence[str] = (), args: Optional[Union[str, Sequence[str]]] = None,
-         stderr: bool = False, memory: str = "auto", named: Sequence[Tuple[str, Optional[bytes]]] = ()) -> Ported:
+         stderr: bool = False, memory: str = "auto", named: Sequence[Tuple[str, Optional[bytes]]] = (), wrap: bool = False) -> Ported:
     """The files as one text of the dialect.
 
     `cpp` are options of the preprocessor (`-I`, `-D`). `args` are the words behind the program's name: a list, or
     "first-line" for those of the first line of the input. `stderr` joins what goes to stderr to the output. `named` are the
-    files that the text may open, by their names; the one without bytes is the one input.
+    files that the text may open, by their names; the one without bytes is the one input. `wrap` lets signed numbers wrap.
     Raises `Refused`, `Missing` for want of a tool, and OSError for a file that can't be read.
     """
     from cbi_port.files import port_files
-    return port_files(files, list(cpp), args, stderr, memory, named)
+    return port_files(files, list(cpp), args, stderr, memory, named, wrap)

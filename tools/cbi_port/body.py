@@ -14,6 +14,7 @@ class Body:
         self.quiet = False
         self.same: List[Value] = []
         self.pools: Dict[str, int] = {}
+        self.floor: Dict[str, int] = {}  # of these, what a statement still needs
         self.most: Dict[str, int] = {}
         self.fixed: List[str] = []
         self.number = 0
@@ -23,6 +24,8 @@ class Body:
         self.hoisted: Dict[int, Any] = {}
         self.labels: Dict[str, int] = {}
         self.frame = 0             # bytes of memory that the function's objects take
+        self.objects: List[Tuple[str, int]] = []  # where each of them lies, and its bytes
+        self.beside = ""           # where what statements keep beside begins
         self.addressed: Any = set()
         self.ends: List[str] = []  # what is done before each return
         self.whole: Any = None
@@ -37,6 +40,11 @@ class Body:
         self.lengths = False
         self.outer_names: Set[str] = set()  # what is declared `extern` within the function
         self.last_member: Dict[str, str] = {}  # which member of a union was used last, by the way to it
+        self.tails: Dict[int, Any] = {}     # calls of the function to itself that become rounds of a loop, by their statements
+        self.parameters: List[Any] = []
+        self.jumps = False         # whether `longjmp` may leave the function
+        self.marks = 0             # how many calls of `setjmp` it has
+        self.replaced: Dict[int, Value] = {}  # the values of expressions that are evaluated already, by their nodes
         self.dead = 0              # within what a constant says is never evaluated
 
     def put(self, text: str) -> None:
@@ -45,7 +53,7 @@ class Body:
     def fresh_statement(self) -> None:
         """Lets what was kept beside for the last statement be used again."""
         if not self.held:
-            self.pools.clear()
+            self.pools = dict(self.floor)
 
     def temporary(self, what: str) -> str:
         """A name that holds something within a statement: "long", "int", "unsigned", or what a declaration begins with."""

@@ -15,7 +15,6 @@ from cbi_port.types import (CHAR, INT, SCHAR, SHORT, UINT, Array, CType, Functio
 from cbi_port.values import ADD, ASSIGN, EQUAL, ORDER, POSTFIX, TIMES, UNARY, Leaf, Place, Value
 
 BASE = 4096
-WORDS = 1000000
 STACK = 1 << 20
 SUM = re.compile(r"^(.*) \+ (\d+)u$", re.S)
 
@@ -39,6 +38,9 @@ class ByteObjects(Objects):
 
     in_bytes = True
     more_word = "unsigned "
+    bounded = False            # whether each access is held to the objects' bounds
+    words = 1000000            # of memory
+    frames = 16                # to how many bytes the objects of a function are aligned
 
     def __init__(self, program: Any) -> None:
         super().__init__(program)
@@ -304,13 +306,17 @@ class ByteObjects(Objects):
     # Calls.
 
     def spare(self, type_: CType) -> str:
-        return self.frame_room(size_of(type_))
+        return self.beside_room(size_of(type_))
+
+    def beside_room(self, size: int) -> str:
+        """Room for what a statement keeps beside, which no name of the text has."""
+        return self.frame_room(size)
 
     def more_arguments(self, values: List[Value], node: Any) -> str:
         if not values:
             return "0u"
         total = sum(-(-size_of(value.type) // 4) * 4 for value in values)
-        base = self.frame_room(total)
+        base = self.beside_room(total)
         texts, at = [], 0
         for value in values:
             text, level = moved(base, ADD if "+" in base else POSTFIX, at)
@@ -346,7 +352,7 @@ class ByteObjects(Objects):
         pass
 
     def entry(self, body: Any) -> str:
-        return f"struct cbi_unsigned cbi_frame; cbi_frame.value = cbi_enter({-(-body.frame // 16) * 16}u); " if body.frame else ""
+        return f"struct cbi_unsigned cbi_frame; cbi_frame.value = cbi_enter({-(-body.frame // self.frames) * self.frames}u); " if body.frame else ""
 
     def leave(self, text: str, value: Optional[Tuple[str, CType]]) -> str:
         body = self.program.function

@@ -1,10 +1,16 @@
 """Memory as bytes: the library's functions of it, and what it begins with."""
-from typing import Any, Dict, Tuple
+from typing import Any, Dict, Sequence, Tuple
 
-from cbi_port.byte_objects import BASE, STACK, WORDS, ByteObjects
+from cbi_port.byte_objects import BASE, STACK, ByteObjects
 from cbi_port.images import runs
 from cbi_port.types import CHAR, INT, UINT, VOID, Function, Pointer
 from cbi_port.values import ASSIGN, POSTFIX, Value
+
+
+def table(name: str, numbers: Sequence[int]) -> str:
+    """An array of numbers without signs."""
+    rows = [f"{number}u" if number > 0x7fffffff else str(number) for number in numbers]
+    return f"unsigned {name}[{len(rows)}] = {{ {', '.join(rows)} }};"
 
 
 class Bytes(ByteObjects):
@@ -105,21 +111,21 @@ class Bytes(ByteObjects):
 
     def finish_memory(self, helpers: Any) -> None:
         """Declares the memory, with what it begins with."""
-        while len(self.image) % 16:
+        while len(self.image) % self.frames:
             self.image.append(0)
         end = BASE + len(self.image)
-        if end + STACK + 65536 > 4 * WORDS:
-            raise self.program.refuse(None, "more than three megabytes of objects", "smaller arrays")
+        if end + STACK + 65536 > 4 * self.words:
+            raise self.program.refuse(None, "more than two and a half megabytes of objects", "smaller arrays")
         data = self.image.rstrip(b"\0")
         words = runs([int.from_bytes(data[at:at + 4].ljust(4, b"\0"), "little") for at in range(0, len(data), 4)])
-        rows = ["0"] * (BASE // 4) + [f"{word}u" if word > 0x7fffffff else str(word) for word in words]
-        helpers.heads.insert(0, f"unsigned cbi_m[{WORDS}];")
+        helpers.heads.insert(0, f"unsigned cbi_m[{self.words}];")
         if words:
-            helpers.heads.insert(1, f"unsigned cbi_image[{len(words)}] = {{ {', '.join(rows[BASE // 4:])} }};")
+            helpers.heads.insert(1, table("cbi_image", words))
             self.start = f"cbi_begin(cbi_image, {len(words)}u); "
         else:
             self.start = ""
-        helpers.heads.append("unsigned cbi_stack_begin(void); unsigned cbi_heap_begin(void);")
+        helpers.heads.append("unsigned cbi_stack_begin(void); unsigned cbi_heap_begin(void); unsigned cbi_heap_end(void);")
         helpers.tails.append(f"unsigned cbi_stack_begin(void) {{ return {end}u; }}")
         helpers.tails.append(f"unsigned cbi_heap_begin(void) {{ return {end + STACK}u; }}")
+        helpers.tails.append(f"unsigned cbi_heap_end(void) {{ return {4 * self.words}u; }}")
         self.orders(helpers)

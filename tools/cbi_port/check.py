@@ -1,6 +1,5 @@
 """Compares a ported text with what gcc makes of the files: output and status on each input."""
 import os
-import re
 import shutil
 import subprocess
 import sys
@@ -8,28 +7,28 @@ import tempfile
 from typing import Any, Callable, Dict, List, NamedTuple, Optional, Sequence, Tuple
 
 from cbi_port import Missing, Ported
-from cbi_port.system import Named, place_files
+from cbi_port.builds import NARROW, NARROW_CHECKED, NO_END, OWN, OWN_CHECKED, Builds, Files, Ran
+from cbi_port.system import Named
 
-SECONDS = 20
-
-
-class Ran(NamedTuple):
-    """How a run ended: `status` from 0 to 255, or what stopped it."""
-    output: bytes
-    status: Optional[int]
-    stopped: str
+SHOWN = 3   # names of inputs in a line
+WIDTH, LIMIT = "width", "limit"   # why a difference isn't explained
 
 
 class Difference(NamedTuple):
+    """An input on which the text does something else than gcc's build. Where nothing explains it, `kind` may say of what it comes."""
     name: str
     what: str
     explained: str
+    kind: str = ""
 
 
 class Checked(NamedTuple):
+    """`wide` are the inputs on which the author's own build and one of 32 bits do different things; `narrow` is false where there is no such build."""
     equal: int
     total: int
     differences: List[Difference]
+    wide: List[str] = []
+    narrow: bool = True
 
     def summary(self) -> str:
         text = f"{self.equal} of {self.total} outputs as gcc's"
@@ -39,38 +38,34 @@ class Checked(NamedTuple):
                 kinds[difference.explained] = kinds.get(difference.explained, 0) + 1
         return ", ".join([text] + [f"{count} run{'s' * (count > 1)} {why}" for why, count in kinds.items()])
 
-
-def compiled(files: Sequence[str], options: Sequence[str], folder: str, name: str, more: Sequence[str]) -> Optional[str]:
-    """The files as gcc builds them, of 32 bits where it can."""
-    out = os.path.join(folder, name)
-    # Floats of 32 and 64 bits are reckoned in their own width.
-    ways: List[List[str]] = [["-m32", "-msse2", "-mfpmath=sse"], ["-m32"], []]
-    for width in ways:
-        done = subprocess.run(["gcc", *width, "-std=gnu99", "-w", "-g", *more, *options, "-o", out, *files, "-lm"],
-                              stdout=subprocess.PIPE, stderr=subprocess.PIPE)
-        if done.returncode == 0:
-            return out
-    return None
-
-
-def run_native(program: str, words: Sequence[str], data: bytes, named: Named = ()) -> Ran:
-    """A run of what gcc made, in a folder that has the files that are named."""
-    with tempfile.TemporaryDirectory(prefix="cbi-port-") as folder:
-        place_files(folder, words, named, data)
-        return run_in_folder(program, words, data, folder)
+    def notes(self) -> List[str]:
+        """What is left out of what is explained, in a line each."""
+        rows = []
+        if self.wide:
+            rows.append(f"{plural(len(self.wide), 'input')} of {self.total} {'does' if len(self.wide) == 1 else 'do'} something else in your own build than in one of 32 bits, "
+                        f"which the text is: {several(self.wide)}. No difference there is called explained.")
+        deep = [difference.name for difference in self.differences if difference.kind == LIMIT]
+        if deep:
+            rows.append(f"{plural(len(deep), 'run')} {'needs' if len(deep) == 1 else 'need'} more than 512 calls at once, this tool's limit (trap 12), and gcc's {'goes' if len(deep) == 1 else 'go'} on: {several(deep)}.")
+        if not self.narrow:
+            rows.append("gcc builds nothing for 32 bits here (Debian's package gcc-multilib), so what comes of the text's 32 bits isn't known.")
+        return rows
 
 
-def run_in_folder(program: str, words: Sequence[str], data: bytes, folder: str) -> Ran:
-    environment = dict(os.environ, ASAN_OPTIONS="detect_leaks=0:exitcode=99", UBSAN_OPTIONS="halt_on_error=1:exitcode=99")
-    try:
-        done = subprocess.run([program, *words], input=data, stdout=subprocess.PIPE, stderr=subprocess.PIPE, timeout=SECONDS, env=environment, cwd=folder)
-    except subprocess.TimeoutExpired as late:
-        return Ran(late.stdout or b"", None, "no end")
-    told = done.stderr.decode("utf-8", "replace")
-    if done.returncode < 0:
-        return Ran(done.stdout, None, f"signal {-done.returncode}")
-    found = re.search(r"(AddressSanitizer: [\w-]+|runtime error: [^\n]*)", told)
-    return Ran(done.stdout, done.returncode & 255, found[1] if found else "")
+def plural(count: int, what: str) -> str:
+    return f"{count} {what}{'s' * (count != 1)}"
+
+
+def several(names: Sequence[str]) -> str:
+    """The first names, and how many more there are."""
+    more = len(names) - SHOWN
+    return ", ".join(names[:SHOWN]) + (f" and {more} more" if more > 0 else "")
+
+
+class Judged(NamedTuple):
+    """How a run of the text is beside gcc's; `wide` where gcc's two builds differ. No difference where it does what the author's build does."""
+    wide: bool
+    difference: Optional[Difference]
 
 
 def run_ported(tool: str, program: str, data: bytes, folder: str, turns: int) -> Ran:
@@ -124,47 +119,82 @@ def words_of(args: Any, data: bytes) -> Tuple[List[str], bytes]:
     return list(args or []), data
 
 
-def compare(files: Sequence[str], options: Sequence[str], ported: Ported, inputs: Sequence[Tuple[str, bytes]], tool: str, args: Any = None,
-            turns: int = 100000000, named: Named = ()) -> Checked:
-    """Runs the files and the text on all inputs. Missing where gcc or the tool isn't there."""
+def builds_of(files: Files, folder: str) -> Builds:
+    """gcc's builds. Missing where it isn't there, or doesn't take the files."""
     if shutil.which("gcc") is None:
         raise Missing("no gcc: Debian's package gcc has it")
+    builds = Builds(files, folder)
+    if builds.program(OWN) is None:
+        # What is written for 32 bits alone.
+        builds.made[OWN], builds.made[OWN_CHECKED] = builds.program(NARROW), builds.program(NARROW_CHECKED)
+    if builds.program(OWN) is None:
+        raise Missing("gcc doesn't take the files")
+    return builds
+
+
+def compare(files: Files, ported: Ported, inputs: Sequence[Tuple[str, bytes]], tool: str, args: Any = None, turns: int = 100000000, named: Named = ()) -> Checked:
+    """Runs the files and the text on all inputs. Missing where gcc or the tool isn't there."""
     with tempfile.TemporaryDirectory(prefix="cbi-port-") as folder:
-        plain = compiled(files, options, folder, "plain", ["-O0"])
-        if plain is None:
-            raise Missing("gcc doesn't take the files")
-        strict = compiled(files, options, folder, "strict", ["-O0", "-fsanitize=address,undefined", "-fno-sanitize-recover=all"])
+        builds = builds_of(files, folder)
         program, refused = transformed(tool, ported, folder)
         if program is None:
             raise Missing(f"the text isn't taken: {refused}")
-        equal, differences = 0, []
+        differences, wide = [], []
         for name, data in inputs:
             words, rest = words_of(args, data)
-            due, got = run_native(plain, words, rest, named), run_ported(tool, program, data, folder, turns)
-            if due.output == got.output and due.status == got.status and not due.stopped and not got.stopped:
-                equal += 1
-                continue
-            differences.append(told(name, due, got, lambda: run_native(strict, words, rest, named) if strict is not None else None))
-        return Checked(equal, len(inputs), differences)
+            judged = beside(name, run_ported(tool, program, data, folder, turns), builds.runs(words, rest, named))
+            wide += [name] * judged.wide
+            differences += [judged.difference] if judged.difference is not None else []
+        return Checked(len(inputs) - len(differences), len(inputs), differences, wide, builds.has_narrow())
 
 
-def told(name: str, due: Ran, got: Ran, sanitized: Callable[[], Optional[Ran]]) -> Difference:
+def is_stopped(ran: Optional[Ran]) -> bool:
+    """Whether a sanitizer stopped a run."""
+    return ran is not None and (ran.stopped not in ("", NO_END) or ran.status == 99)
+
+
+def beside(name: str, got: Ran, run: Callable[[str], Optional[Ran]]) -> Judged:
+    """A run of the text beside gcc's, which `run` gives by the name of the build.
+
+    What the two builds of gcc write may differ by chance where a sanitizer stops the author's own one, so there they aren't compared.
+    """
+    due = run(OWN)
+    assert due is not None
+    if due.stopped == NO_END and got.stopped == "cut at its turns":
+        return Judged(False, Difference(name, how(due, got), "cut where gcc's doesn't end"))
+    narrow = run(NARROW)
+    wide = narrow is not None and narrow != due and not is_stopped(run(OWN_CHECKED))
+    if due == got and not due.stopped:
+        return Judged(wide, None)
+    explained = "" if wide else explanation(due, got, run)
+    if wide and narrow == got:
+        return Judged(True, Difference(name, how(due, got) + "; gcc's of 32 bits does what the text does", "", WIDTH))
+    if not explained and run(OWN_CHECKED) is not None and is_stopped(run(NARROW_CHECKED)):
+        return Judged(True, Difference(name, how(due, got) + "; a sanitizer stops gcc's of 32 bits alone", "", WIDTH))
+    if not explained and got.stopped == "trap 12":
+        return Judged(wide, Difference(name, how(due, got) + ": more than 512 calls at once, the tool's limit", "", LIMIT))
+    return Judged(wide, Difference(name, how(due, got), explained, WIDTH if wide else ""))
+
+
+def how(due: Ran, got: Ran) -> str:
+    """In what a run of the text differs from gcc's."""
     what = []
     if due.output != got.output:
         what.append(f"the output differs first at {first_difference(due.output, got.output)}")
     if due.stopped or got.stopped or due.status != got.status:
         what.append(f"gcc's ends with {due.stopped or due.status}, the text's with {got.stopped or got.status}")
+    return "; ".join(what)
+
+
+def explanation(due: Ran, got: Ran, run: Callable[[str], Optional[Ran]]) -> str:
+    """Why a run of the text may differ from that of the author's build: this one aborts, ends by a signal, or is stopped by a sanitizer."""
     if due.stopped == "signal 6" and got.stopped in ("trap 13", "trap 14") and due.output == got.output[:len(due.output)]:
-        return Difference(name, "; ".join(what), f"end in {got.stopped} where gcc's aborts")
-    explained = ""
-    held = sanitized()
-    if held is not None and (held.stopped or held.status == 99):
-        explained = f"{got.stopped or 'differ'} where a sanitizer stops"
-    if not explained and due.stopped.startswith("signal") and got.stopped.startswith("trap"):
-        explained = f"{got.stopped} where gcc's ends by {due.stopped}"
-    if not explained and got.stopped == "trap 12":
-        explained = "trap 12, more than 512 calls"
-    return Difference(name, "; ".join(what), explained)
+        return f"end in {got.stopped} where gcc's aborts"
+    if is_stopped(run(OWN_CHECKED)):
+        return f"{got.stopped or 'differ'} where a sanitizer stops"
+    if due.stopped.startswith("signal") and got.stopped.startswith("trap"):
+        return f"{got.stopped} where gcc's ends by {due.stopped}"
+    return ""
 
 
 def tool_at(said: Optional[str]) -> Optional[str]:
@@ -176,17 +206,19 @@ def tool_at(said: Optional[str]) -> Optional[str]:
     return None
 
 
-def check(files: Sequence[str], options: Sequence[str], ported: Ported, folder: Optional[str], said: Optional[str], args: Any, turns: int, named: Named = ()) -> int:
+def check(files: Files, ported: Ported, folder: Optional[str], said: Optional[str], args: Any, turns: int, named: Named = ()) -> int:
     """The command `--check`; 0 where each difference is explained."""
     tool = tool_at(said)
     if tool is None:
         print("cbi-port: no executable cbi: --tool names it", file=sys.stderr)
         return 2
     try:
-        checked = compare(files, options, ported, inputs_below(folder), tool, args, turns, named)
+        checked = compare(files, ported, inputs_below(folder), tool, args, turns, named)
     except Missing as missing:
         print(f"cbi-port: {missing}", file=sys.stderr)
         return 2
+    for note in checked.notes():
+        print(note)
     for difference in checked.differences:
         print(f"{difference.name}: {difference.what}{': ' + difference.explained if difference.explained else ''}")
     print(checked.summary())

@@ -5,7 +5,7 @@ import sys
 from typing import List, Optional, Tuple
 
 from cbi_files import NOT_PROVED, TROUBLE, Words
-from cbi_port import Missing, Refused, for_preprocessor, port
+from cbi_port import Missing, Refused, for_preprocessor, port, wraps
 
 ABOUT = """Writes one text of the dialect of cbi that does what the C files do, on their lines; docs/PORTING.md says what it takes.
 What can't be kept is refused: a line for each on err, with file, line, the construct, and what to write in its place."""
@@ -22,9 +22,11 @@ def words(arguments: List[str]) -> argparse.Namespace:
     parser.add_argument("--args", metavar="WORDS", help="the arguments of main: words, or first-line for those of the input's first line")
     parser.add_argument("--file", action="append", default=[], metavar="NAME=PATH", help="a file that the text may open under that name; NAME=- is the one input")
     parser.add_argument("--stderr", action="store_true", help="what goes to stderr goes to out")
-    parser.add_argument("--memory", choices=["auto", "cells", "bytes"], default="auto", help="how memory is kept (docs/PORTING.md)")
+    parser.add_argument("--memory", choices=["auto", "cells", "bytes", "flat"], default="auto", help="how memory is kept (docs/PORTING.md)")
+    parser.add_argument("--wrap", action="store_true", help="signed integers wrap where they overflow, as with gcc's -fwrapv")
     parser.add_argument("--quiet", action="store_true", help="nothing on err but refusals")
     parser.add_argument("--check", action="store_true", help="compare the text with the files as gcc builds them")
+    parser.add_argument("--cflags", default="", metavar="FLAGS", help="the flags of your own build, for --check")
     parser.add_argument("--inputs", metavar="FOLDER", help="the inputs of --check")
     parser.add_argument("--tool", metavar="CBI", help="the executable cbi of --check")
     parser.add_argument("--turns", type=int, default=100000000, help="the turns of each run of --check")
@@ -59,7 +61,7 @@ def main() -> int:
         print(f"cbi-port: --file: {wrong}", file=sys.stderr)
         return TROUBLE
     try:
-        ported = port(said.files, options, args, said.stderr, said.memory, named)  # type: ignore[arg-type]
+        ported = port(said.files, options, args, said.stderr, said.memory, named, wraps(said))  # type: ignore[arg-type]
     except Refused as refused:
         for problem in refused.problems:
             print(f"cbi-port: {problem}", file=sys.stderr)
@@ -80,6 +82,7 @@ def main() -> int:
             print(f"cbi-port: {liberty}", file=sys.stderr)
         print(f"ported: {ported.summary()}", file=sys.stderr)
     if said.check:
+        from cbi_port.builds import Files, build_flags
         from cbi_port.check import check
-        return check(said.files, options, ported, said.inputs, said.tool, args, said.turns, named)
+        return check(Files(said.files, options, build_flags(said)), ported, said.inputs, said.tool, args, said.turns, named)
     return 0

@@ -31,6 +31,7 @@ class Context:
     structs: List[Struct]
     function: "Body"
     in_prelude: bool
+    wrap: bool
     begins = False              # where what lives as long as the program begins
     externals: Dict[str, Symbol]
     by_node: Dict[int, CType]

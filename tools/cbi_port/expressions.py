@@ -135,10 +135,20 @@ class Expressions(Places):
         if value.constant is not None:
             return number(type_.wrap(-value.constant if sign == "-" else ~value.constant), type_)
         if is_long(type_):
-            name = ("cbi_long_neg" if type_.signed else "cbi_long_minus") if sign == "-" else "cbi_long_not"
+            name = ("cbi_long_neg" if type_.signed and not self.wraps(type_) else "cbi_long_minus") if sign == "-" else "cbi_long_not"
             found = Value(type_, f"{name}(&{self.temporary('long')}, {value.at(ASSIGN)})", POSTFIX, pure=value.pure)
             return found if value.wide is None else self.cut_long(found, value.wide)
+        if sign == "-" and self.wraps(type_):
+            return self.wrapped_around(self.negated(self.converted(value, UINT), sign, node))
         return Value(type_, prefixed(sign, value.text, value.level), UNARY, pure=value.pure)
+
+    def wraps(self, type_: CType) -> bool:
+        """Whether what overflows in a type of signed numbers wraps, as gcc's -fwrapv has it."""
+        return self.wrap and not self.in_prelude and isinstance(type_, Int) and type_.signed and type_.rank >= 3
+
+    def wrapped_around(self, value: Value) -> Value:
+        """A number that was computed without a sign, as an int."""
+        return Value(INT, prefixed("(int)", value.text, value.level), UNARY, value.constant, value.pure)
 
     def address_of(self, node: Any) -> Value:
         inner = node.expr
@@ -191,7 +201,7 @@ class Expressions(Places):
 
     def step(self, place: Place, sign: str, behind: bool, used: bool, node: Any) -> Value:
         type_ = place.type
-        natural = not place.memory and place.member is None and not place.stored and (
+        natural = not place.memory and place.member is None and not place.stored and not self.wraps(type_) and (
             isinstance(type_, Int) and not is_float(type_) and (type_.rank >= 3 and type_.size == 4 or type_.size == 1 and type_.rank == 1)
             or is_pointer(type_) and not isinstance(type_.to, (Void, Function, Array)) and not self.model.in_bytes)
         if isinstance(type_, (Void, Struct, Array)):
@@ -319,7 +329,8 @@ class Expressions(Places):
                 return Value(type_, f"{place.text} {sign}= {self.index(value).at(ASSIGN)}", ASSIGN, pure=False)
         elif not isinstance(type_, Int):
             raise self.refuse(node, f"`{sign}=` of a `{spelled(type_)}`", "a number on the left: a member, an element or a variable of a type of numbers")
-        elif isinstance(value.type, Int) and not is_float(value.type) and not is_float(type_) and not place.memory and place.member is None and not is_long(value.type) and (
+        elif isinstance(value.type, Int) and not is_float(value.type) and not is_float(type_) and not place.memory and place.member is None and not is_long(value.type) and not (
+                sign in ("+", "-", "*", "<<") and self.wraps(promoted(type_) if sign == "<<" else common(promoted(type_), promoted(value.type, value.bits)))) and (
                 type_.rank >= 3 and type_.size == 4 or type_.size == 1 and type_.rank == 1 and (type_ != UCHAR or sign in "+-*&|^")):
             place = self.model.within(place, CHANGED)
             text = f"{place.text} {sign}= {self.promoted(value).at(ASSIGN)}"

@@ -5,6 +5,7 @@ from typing import Any, Dict, List, Optional, Sequence, Tuple
 from cbi_port import Ported, Problem, Refused
 from cbi_port.compiler import in_its_words
 from cbi_port.lines import Refusal, Token
+from cbi_port.long_jumps import JUMPS, rewrite
 from cbi_port.program import Program
 from cbi_port.reader import NO_HEADER, PreprocessorFailed, Unit, flags_of, pieces, read
 from cbi_port.system import Named
@@ -13,7 +14,7 @@ from cbi_port.system import Named
 MOST_TOKENS, MOST_BYTES = 100000, 1048576
 
 
-def port_files(files: Sequence[str], options: List[str], args: Any, stderr: bool, memory: str, named: Named = ()) -> Ported:
+def port_files(files: Sequence[str], options: List[str], args: Any, stderr: bool, memory: str, named: Named = (), wrap: bool = False) -> Ported:
     """See `cbi_port.port`."""
     tokens: List[Token] = [Token("mark", "", files[0] if files else "", 1)]
     missing: List[Problem] = []
@@ -28,25 +29,34 @@ def port_files(files: Sequence[str], options: List[str], args: Any, stderr: bool
         unread.append((file, problems))
     if missing or any(problems for _, problems in unread):
         raise Refused(of_the_rest(missing, unread, units, tokens, options, args, stderr))
+    unwound: List[Refusal] = []
+    if any(token.text in JUMPS for token in tokens):
+        rewrite(units, unwound)
     size = len(tokens)
     first: Optional[Program] = None
-    for way in (["cells", "bytes"] if memory == "auto" else [memory]):
+    for way in ("cells", "bytes", "flat") if memory == "auto" else ("bytes", "flat") if memory == "bytes" else (memory,):
         del tokens[size:]
-        program = Program(units, tokens, way, args, stderr, named)
+        program = Program(units, tokens, way, args, stderr, named, wrap)
+        program.problems.extend(unwound)
         ported = run(program)
-        if not program.problems:
-            program.problems.extend(too_large(ported, tokens))
-        if not program.problems:
-            if first is not None:
-                why = min((it for it in first.problems if it.bytes_do), key=lambda it: it.at).problem(tokens)
-                note = f"memory is kept as bytes, for {why.construct} at {why.file}:{why.line}: bounds and ends of objects aren't looked at"
-                ported = ported._replace(liberties=[note] + ported.liberties)
-            return ported
-        if memory != "auto" or way == "bytes" or not any(it.bytes_do for it in program.problems):
-            raise Refused(ordered([it for it in program.problems if not it.bytes_do] or program.problems, tokens, files))
-        # What else is refused may come of what bytes do.
-        first = program
+        large = [] if program.problems else too_large(ported, tokens)
+        if not program.problems and not large:
+            return ported._replace(liberties=notes_of_memory(way, memory, first, tokens) + ported.liberties)
+        if way == "cells" and memory == "auto" and any(it.bytes_do for it in program.problems):
+            # What else is refused may come of what bytes do.
+            first = program
+        elif not (way == "bytes" and large):
+            raise Refused(ordered(large or [it for it in program.problems if not it.bytes_do] or program.problems, tokens, files))
     raise AssertionError("no model of memory")
+
+
+def notes_of_memory(way: str, asked: str, first: Optional[Program], tokens: Sequence[Token]) -> List[str]:
+    """What is told of how memory is kept; `first` is the program that cells couldn't keep."""
+    unbounded = "bounds and ends of objects aren't looked at, since the text would be too large with that" if way == "flat" and asked != way else ""
+    if first is None:
+        return [unbounded] if unbounded else []
+    why = min((it for it in first.problems if it.bytes_do), key=lambda it: it.at).problem(tokens)
+    return [f"memory is kept as bytes, for {why.construct} at {why.file}:{why.line}" + (f": {unbounded}" if unbounded else "")]
 
 
 def of_the_rest(missing: Sequence[Problem], unread: Sequence[Tuple[str, List[Refusal]]], units: List[Unit], tokens: List[Token], options: List[str], args: Any,

@@ -99,7 +99,8 @@ class Helpers:
 
     def raw(self, text: str) -> Dict[str, Tuple[str, str]]:
         """The parts of the prelude's own text that are named, and those that these name."""
-        pieces = raw_pieces(["raw_bytes.c" if self.program.model.in_bytes else "raw_cells.c", "raw_long.c"])
+        model = self.program.model
+        pieces = raw_pieces(["raw_bytes.c" if model.in_bytes else "raw_cells.c", *["raw_bounds.c"] * (model.in_bytes and model.bounded), "raw_long.c"])
         wanted: Set[str] = set()
         todo = set(WORD.findall(text))
         while todo:

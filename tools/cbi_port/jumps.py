@@ -63,10 +63,14 @@ class Jumps(Statements):
         """The function whose labels are named, also where a static variable of it begins with them."""
         return self.function if self.function.flat is not None else self.jumping
 
+    def must_cut(self, node: Any) -> bool:
+        """Whether a statement is cut into segments."""
+        return is_cut(node)
+
     # Statements at the level of the segments.
 
     def statement(self, node: Any) -> None:
-        if self.function.flat is None or self.function.held or not (is_cut(node) or self.at_level and kind(node) in ("Decl", "DeclList", "Compound")):
+        if self.function.flat is None or self.function.held or not (self.must_cut(node) or self.at_level and kind(node) in ("Decl", "DeclList", "Compound")):
             level, self.at_level = self.at_level, False
             super().statement(node)
             self.at_level = level

@@ -149,6 +149,8 @@ class Objects(Cells):
             return text
         if value is None:
             return f"{{ {' '.join(ends)} {text} }}"
+        if is_whole(value[1]):
+            return f"{{ {value[0]}; {' '.join(ends)} return cbi_result; }}"
         word = self.spell(value[1])
         plain = word in ("int", "unsigned", "char")
         name = self.program.function.temporary("unsigned" if word == "unsigned" else "int") + ".value" if plain else self.program.function.temporary(word)

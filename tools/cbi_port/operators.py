@@ -3,7 +3,7 @@ from typing import Any, Optional
 
 from cbi_port.conversions import number
 from cbi_port.expressions import LONG_NAMES, Expressions
-from cbi_port.types import INT, Int, Void, common, is_float, is_long, is_pointer, spelled
+from cbi_port.types import INT, UINT, Int, Void, common, is_float, is_long, is_pointer, spelled
 from cbi_port.values import COND, LEVELS, POSTFIX, SHIFT, UNARY, Value
 
 
@@ -78,6 +78,8 @@ class Operators(Expressions):
                 return number(found, type_)
         if is_long(type_):
             return self.of_width(self.long_operated(sign, left, right, type_), sign, left, right)
+        if self.wraps(type_) and sign in "+-*":
+            return self.wrapped_around(self.operated(sign, self.converted(left, UINT), self.converted(right, UINT), node, at))
         level = LEVELS[sign]
         return Value(type_, f"{left.at(level)} {at}{sign} {right.at(level + 1)}", level, None, left.pure and right.pure)
 
@@ -91,7 +93,7 @@ class Operators(Expressions):
     def long_operated(self, sign: str, left: Value, right: Value, type_: Int) -> Value:
         left, right = self.converted(left, type_), self.converted(right, type_)
         name = LONG_NAMES[sign]
-        if not type_.signed and sign in "+-*/%":
+        if sign in "+-*/%" and not type_.signed or sign in "+-*" and self.wraps(type_):
             name = {"add": "plus", "sub": "less", "mul": "times", "div": "over", "rem": "rest"}[name]
         text = f"cbi_long_{name}(&{self.temporary('long')}, {self.long_text(left)}, {self.long_text(right)})"
         return Value(type_, text, POSTFIX, None, left.pure and right.pure)
@@ -109,6 +111,8 @@ class Operators(Expressions):
             text = f"cbi_long_{name}(&{self.temporary('long')}, {self.long_text(left)}, {self.converted(right, INT, True).at(COND)})"
             shifted = Value(type_, text, POSTFIX, None, left.pure and right.pure)
             return shifted if left.wide is None else self.cut_long(shifted, left.wide)
+        if self.wraps(type_) and sign == "<<":
+            return self.wrapped_around(self.shifted(sign, self.converted(left, UINT), right, at))
         return Value(type_, f"{left.at(SHIFT)} {at}{sign} {right.at(SHIFT + 1)}", SHIFT, None, left.pure and right.pure)
 
     def ordered(self, sign: str, left: Value, right: Value, type_: Int, at: str) -> Value:

@@ -4,9 +4,9 @@ from typing import Any, Dict, List, Optional, Sequence, Set, Tuple
 
 from cbi_port import Ported, forms
 from cbi_port.body import Body
+from cbi_port.bounds import BoundedBytes
 from cbi_port.bytes import Bytes
 from cbi_port.helpers import Helpers
-from cbi_port.jumps import Jumps
 from cbi_port.library import Library
 from cbi_port.lines import Refusal, Sheet, Token, bare, mark
 from cbi_port.objects import Objects
@@ -15,10 +15,13 @@ from cbi_port.scopes import TAKEN, Names, Scope, Symbol, plain_name
 from cbi_port.system import Named, asked
 from cbi_port.trees import declared_outside, gives_value, holds_open, kind, names_under_address
 from cbi_port.unions import Unions
+from cbi_port.unwinding import Unwinding
 from cbi_port.wrappers import OBJECT, Wrappers
 from cbi_port.types import (INT, VOID, Array, CType, Function, Int, Pointer, Struct, Void, is_complete, is_whole,
                             spelled, to_function)
 
+MODELS: Dict[str, Any] = {"cells": Objects, "bytes": BoundedBytes, "flat": Bytes}
+WRAPS = "signed integers wrap where they overflow (--wrap), as gcc's -fwrapv has it"
 DEFINITION = "its definition, or the file that has it beside the others"
 
 
@@ -28,10 +31,10 @@ def prelude_text(name: str) -> str:
     return plain if plain.startswith("cbi_") else ("cbi_own_" if name.startswith("__") else "cbi_") + plain
 
 
-class Program(Jumps, Library):
+class Program(Unwinding, Library):
     """A translation of files into one text, with one model of memory."""
 
-    def __init__(self, units: Sequence[Unit], tokens: List[Token], memory: str, args: Any, stderr: bool, named: Named = ()) -> None:
+    def __init__(self, units: Sequence[Unit], tokens: List[Token], memory: str, args: Any, stderr: bool, named: Named = (), wrap: bool = False) -> None:
         self.tokens, self.units = tokens, units
         self.sheet = Sheet(tokens, units[0].file if units else "")
         self.problems: List[Refusal] = []
@@ -44,12 +47,12 @@ class Program(Jumps, Library):
         self.floats = bool(self.words & {"float", "double"} | self.words & called & set(forms.FLOAT_NAMES)) or any(
             token.kind == "number" and token.text[:2] not in ("0x", "0X") and re.search("[.eE]", token.text) for token in tokens)
         self.asked = asked(tokens, self.words, args, stderr, named)
-        self.liberties.update(dict.fromkeys(self.asked.told))
+        self.liberties.update(dict.fromkeys(self.asked.told + [WRAPS] * wrap))
         self.prelude_parts = (["FLOATS"] if self.floats else []) + forms.parts_of(tokens, self.floats) + self.asked.parts
         self.lengths = {}
         self.structs, self.externals, self.by_node, self.headers, self.forwards = [], {}, {}, {}, {}
         self.statics: Dict[str, Dict[str, Symbol]] = {}
-        self.in_prelude = False
+        self.in_prelude, self.wrap = False, wrap
         self.args, self.stderr = args, stderr
         self.function_numbers: Dict[Symbol, int] = {}
         self.dispatchers: Dict[Any, Tuple[str, Function, List[CType]]] = {}
@@ -81,7 +84,7 @@ class Program(Jumps, Library):
         self.prelude_units: Dict[str, Unit] = {}
         self.prelude_symbols: Dict[str, Symbol] = {}
         self.prelude_scope = Scope()
-        self.model: Objects = Bytes(self) if memory == "bytes" else Objects(self)
+        self.model: Objects = MODELS[memory](self)
         self.model.own_calls = self.model.calls()
         self.first = Body("cbi_init", VOID)
         self.function = self.first
@@ -369,6 +372,7 @@ class Program(Jumps, Library):
             if unit.tree is not None:
                 self.survey(unit)
         self.begin_main()
+        self.find_jumps()
         if not self.model.in_bytes:
             self.makers_of_text.find()
         for unit in self.units:

@@ -7,7 +7,7 @@ from cbi_port.lines import Refusal, mark
 from cbi_port.scopes import Scope, Symbol
 from cbi_port.trees import breaks, direct_of, ends_by_itself, goes_before, kind, leading, mentions
 from cbi_port.types import (UCHAR, Array, CType, Function, Int, Struct, Void, is_complete, is_float, is_long, is_open,
-                            is_whole, spelled)
+                            spelled)
 from cbi_port.values import ASSIGN, UNARY, Value
 
 
@@ -191,7 +191,7 @@ class Statements(Initialisers):
             text = self.model.copy_to("cbi_result", value, result)
         else:
             text = value.text
-        self.put(self.model.leave(f"return {text};", None if is_whole(result) else (text, result)), node)
+        self.put(self.model.leave(f"return {text};", (text, result)), node)
 
     def st_Break(self, node: Any) -> None:
         loops = self.function.loops

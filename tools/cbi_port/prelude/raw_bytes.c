@@ -233,7 +233,7 @@ unsigned cbi_malloc(unsigned size) {
     } else {
         if (cbi_memory.heap == 0u) cbi_memory.heap = cbi_heap_begin();
         at = cbi_memory.heap;
-        if (at + (1u << list) > 4000000u) return 0u;
+        if (at + (1u << list) > cbi_heap_end()) return 0u;
         cbi_memory.heap = at + (1u << list);
     }
     cbi_store_word(at, size);

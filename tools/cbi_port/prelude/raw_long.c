@@ -302,3 +302,14 @@ struct cbi_long *cbi_long_rem(struct cbi_long *to, struct cbi_long *a, struct cb
     if (sign) return cbi_long_minus(to, &x);
     return cbi_long_copy(to, &x);
 }
+struct cbi_jump_state { int last; int to; int value; };
+struct cbi_jump_state cbi_jumps;
+int cbi_jump_mark(void) {
+    cbi_jumps.last = cbi_jumps.last + 1;
+    return cbi_jumps.last;
+}
+void cbi_jump(int to, int value) {
+    if (to == 0) abort();
+    cbi_jumps.to = to;
+    cbi_jumps.value = value + (value == 0);
+}
