@@ -250,10 +250,10 @@ module _ (token : ℕ) (pre : Kinds) (spots : List Spot) (step : Option ExprTree
       → lacks_condition (parenthesized_kinds (pre ++ semicolon ++ c ++ semicolon ++ stepped) ++ rest)
       ≡ begins_with_semicolon (c ++ (semicolon ++ (stepped ++ (kind.Punctuator sign.RightParen ∷ rest))))
   lacks_is c rest = ap lacks_condition (
-        append_assoc (pre ++ semicolon ++ c ++ semicolon ++ stepped) (kind.Punctuator sign.RightParen ∷ []) rest
-        ∙ append_assoc (pre ++ semicolon ++ c ++ semicolon) stepped (kind.Punctuator sign.RightParen ∷ rest)
-        ∙ append_assoc (pre ++ semicolon ++ c) semicolon (stepped ++ (kind.Punctuator sign.RightParen ∷ rest))
-        ∙ append_assoc (pre ++ semicolon) c (semicolon ++ (stepped ++ (kind.Punctuator sign.RightParen ∷ rest)))
+      append_assoc (pre ++ semicolon ++ c ++ semicolon ++ stepped) (kind.Punctuator sign.RightParen ∷ []) rest
+      ∙ append_assoc (pre ++ semicolon ++ c ++ semicolon) stepped (kind.Punctuator sign.RightParen ∷ rest)
+      ∙ append_assoc (pre ++ semicolon ++ c) semicolon (stepped ++ (kind.Punctuator sign.RightParen ∷ rest))
+      ∙ append_assoc (pre ++ semicolon) c (semicolon ++ (stepped ++ (kind.Punctuator sign.RightParen ∷ rest)))
       )
       ∙ lacks_behind pre (c ++ (semicolon ++ (stepped ++ (kind.Punctuator sign.RightParen ∷ rest)))) plain_pre
 
@@ -277,7 +277,7 @@ module _ (token : ℕ) (pre : Kinds) (spots : List Spot) (step : Option ExprTree
         fors = λ rest. omega (
           arith,
           ap {B = ℕ} (λ b. if b then 0 else 1) (lacks_is (expr_kinds x) rest
-          ∙ begins_plain (expr_kinds x) (semicolon ++ (stepped ++ (kind.Punctuator sign.RightParen ∷ rest))) (expr_plain x h) (expr_some x h)),
+              ∙ begins_plain (expr_kinds x) (semicolon ++ (stepped ++ (kind.Punctuator sign.RightParen ∷ rest))) (expr_plain x h) (expr_some x h)),
           count_both is_for_branch (spot.Branch token branch.For ∷ []) (spots ++ part_spots (Some x) ++ part_spots step),
           w.fors rest,
         );

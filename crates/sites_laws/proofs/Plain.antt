@@ -227,9 +227,14 @@ commas_end false = tt
 
 initial_plain : (x : InitialTree) → ShapedInitial x → Plain (kind.Punctuator sign.Equal ∷ initial_kinds x)
 initial_plain (s.Value value) h = (refl, expr_plain value h.1)
-initial_plain (s.Braced token items comma) h = (refl, (refl,
+initial_plain (s.Braced token items comma) h = (
+  refl,
+  (
+    refl,
     before_sign (exprs_kinds items ++ (if comma then kind.Punctuator sign.Comma ∷ [] else [])) sign.RightBrace
-    (both (exprs_kinds items) (if comma then kind.Punctuator sign.Comma ∷ [] else []) (exprs_plain items h.1) (commas_end comma)) refl))
+        (both (exprs_kinds items) (if comma then kind.Punctuator sign.Comma ∷ [] else []) (exprs_plain items h.1) (commas_end comma)) refl,
+  ),
+)
 
 pub start_plain : (x : StartTree) → ShapedStart x → Plain (start_kinds x)
 start_plain x h = both (declarator_kinds x.declarator) (optional_kinds (λ y. kind.Punctuator sign.Equal ∷ initial_kinds y) x.initial)
