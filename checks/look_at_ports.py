@@ -259,12 +259,12 @@ class Files(Case):
             cbi_port.port([self.path("none.c")])
         # All headers that aren't there at once, in all files, and of the rest what doesn't come of them.
         first = self.write("c.c", "#include <none/at_all.h>\n#include <unistd.h>\n#include \"mine.h\"\nint main(void)\n{\n    WINDOW *w = initscr();\n    if (fork())\n        pause();\n    return mine(w);\n}\n")
-        second = self.write("d.c", "#include \"mine.h\"\n#include <math.h>\nint mine(int w) { return erf(2) > 1 + refused(w); }\n")
+        second = self.write("d.c", "#include \"mine.h\"\n#include <math.h>\nint mine(int w) { return j0(2) > 1 + refused(w); }\n")
         with self.assertRaises(cbi_port.Refused) as caught:
             cbi_port.port([first, second])
         self.assertEqual([(os.path.basename(it.file), it.line, it.construct) for it in caught.exception.problems],
                          [("c.c", 1, "`#include` of none/at_all.h"), ("c.c", 3, "`#include` of mine.h"), ("d.c", 1, "`#include` of mine.h"),
-                          ("c.c", 7, "`fork`"), ("c.c", 8, "`pause`"), ("d.c", 3, "`erf`")])
+                          ("c.c", 7, "`fork`"), ("c.c", 8, "`pause`"), ("d.c", 3, "`j0`")])
         with self.assertRaises(cbi_port.Refused) as caught:
             cbi_port.port([self.write("b.c", "int f(void) { return 0; }\n")])
         self.assertEqual(caught.exception.problems[0].construct, "no `main`")
@@ -378,7 +378,7 @@ class Command(Case):
         for said, what in (("list", "--file: `list` is no NAME=PATH"), ("list=none at all", "No such file or directory: 'none at all'")):
             _, err = self.call("cbi-port", "--file", said, "f.c", due=2)
             self.assertIn(what, err)
-        self.write("c.c", "int main(void)\n{\n    double f = erf(1);\n    goto x;\n}\n")
+        self.write("c.c", "int main(void)\n{\n    double f = j0(1);\n    goto x;\n}\n")
         out, err = self.call("cbi-port", "c.c", due=1)
         self.assertEqual(out, "")
         self.assertEqual([row.split(": ")[1] for row in err.strip().split("\n")], ["c.c:3", "c.c:4"])

@@ -23,13 +23,13 @@ class BoundedBytes(Bytes):
 
     def __init__(self, program: Any) -> None:
         super().__init__(program)
-        self.objects: List[Tuple[int, int]] = []
+        self.placed: List[Tuple[int, int]] = []
 
     # What lives as long as the program.
 
     def static_room(self, size: int, align: int) -> int:
         at = super().static_room(size, align)
-        self.objects.append((at, max(size, 1)))
+        self.placed.append((at, max(size, 1)))
         self.image.extend(bytes(STRING_GAP if align == 1 else GAP))
         return at
 
@@ -86,7 +86,7 @@ class BoundedBytes(Bytes):
         count = -(-data // 32)
         words = [0] * count
         behind: List[int] = []
-        for at, size in self.objects:
+        for at, size in self.placed:
             if at + size > BASE + 32 * count:
                 behind += [at, size]
                 continue

@@ -10,8 +10,8 @@ PRINTS = {"printf": 0, "fprintf": 1, "dprintf": 1, "sprintf": 1, "asprintf": 1, 
 FLAGS = r"[-+ #0'I]*"
 # Functions of the library by which floats come in without a word of theirs.
 FLOAT_NAMES = {"strtod", "strtof", "atof", "difftime", *(word + end for end in ("", "f", "l") for word in (
-    "acos", "acosh", "asin", "asinh", "atan", "atan2", "atanh", "cbrt", "ceil", "cos", "cosh", "exp", "exp10", "exp2", "expm1", "fabs", "floor", "fmod", "hypot",
-    "log", "log10", "log1p", "log2", "logb", "pow", "rint", "round", "sin", "sinh", "sqrt", "tan", "tanh", "trunc"))}
+    "acos", "acosh", "asin", "asinh", "atan", "atan2", "atanh", "cbrt", "ceil", "cos", "cosh", "erf", "erfc", "exp", "exp10", "exp2", "expm1", "fabs", "floor", "fmod", "hypot",
+    "log", "log10", "log1p", "log2", "logb", "pow", "rint", "round", "sin", "lgamma", "sinh", "sqrt", "tan", "tanh", "tgamma", "trunc"))}
 
 # What asks for a part of the prelude that only few texts want.
 PARTS = [("WIDE", rf"%{FLAGS}[\d*]*(?:\.[\d*]*)?(?:l[sc\[]|[SC])"), ("HEX", rf"%{FLAGS}[\d*]*(?:\.[\d*]*)?(?:l|L)?[aA]"),

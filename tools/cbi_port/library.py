@@ -32,7 +32,7 @@ UNWOUND = "a status that each function returns, and that its caller tests"
 NO = {**dict.fromkeys(["setjmp", "longjmp", "_setjmp", "_longjmp", "sigsetjmp", "siglongjmp"], UNWOUND),
       "fork": "one process, which does what both would do", "alloca": "`malloc`"}
 # Of <math.h> what isn't there.
-ROUNDED = {word + end for end in ("", "f", "l") for word in ("erf", "erfc", "lgamma", "tgamma", "j0", "j1", "jn", "y0", "y1", "yn")}
+ROUNDED = {word + end for end in ("", "f", "l") for word in ("j0", "j1", "jn", "y0", "y1", "yn")}
 TYPED = {"malloc", "calloc", "realloc", "free", "memcpy", "memmove", "memset", "memcmp", "mempcpy", "bzero", "bcopy", "bcmp", "qsort", "qsort_r", "bsearch", "alloca",
          "strdup", "fread", "fwrite", "read", "write"}
 

@@ -3,14 +3,14 @@
 Such calls come before the rest of their expression, each into a name of its own, since nothing may be done behind one that a jump has left. C
 leaves the order of operands open; where it doesn't (`&&`, `||`, `?:` and commas), statements stand in place of the operators.
 """
-from typing import Any, Dict, List, Optional
+from typing import Any, Dict, List, Optional, Sequence, Set
 
 from cbi_port.lines import Refusal
 from cbi_port.long_jumps import CALLING_BACK, JUMPS, MARK, Reach, called_name, holds_jump, marks_in, may_jump, reach_of, within
 from cbi_port.reader import HEADERS
 from cbi_port.tails import Tails
 from cbi_port.trees import LOOPS, is_statements, kind
-from cbi_port.types import INT, VOID, Int, Pointer, Struct, Void, is_long, is_whole, to_function
+from cbi_port.types import INT, VOID, CType, Int, Pointer, Struct, Void, is_long, is_whole, to_function
 from cbi_port.values import ASSIGN, COND, POSTFIX, UNARY, Value
 
 # What a statement evaluates first.
@@ -28,8 +28,13 @@ def does_something(node: Any) -> bool:
 class Unwinding(Tails):
     """Functions that jumps may leave."""
 
+    units: Sequence[Any]
+    words: Set[str]
     reach: Reach
     last_room = ""
+
+    def nothing(self, result: CType) -> str:
+        raise NotImplementedError
 
     def find_jumps(self) -> None:
         """Finds out what jumps may leave. A function that the library calls can't be left so."""
