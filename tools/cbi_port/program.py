@@ -17,8 +17,7 @@ from cbi_port.trees import declared_outside, gives_value, holds_open, kind, name
 from cbi_port.unions import Unions
 from cbi_port.unwinding import Unwinding
 from cbi_port.wrappers import OBJECT, Wrappers
-from cbi_port.types import (INT, VOID, Array, CType, Function, Int, Pointer, Struct, Void, is_complete, is_whole,
-                            spelled, to_function)
+from cbi_port.types import INT, VOID, Array, CType, Function, Int, Pointer, Struct, Void, is_complete, is_whole, spelled, to_function
 
 MODELS: Dict[str, Any] = {"cells": Objects, "bytes": BoundedBytes, "flat": Bytes}
 WRAPS = "signed integers wrap where they overflow (--wrap), as gcc's -fwrapv has it"
