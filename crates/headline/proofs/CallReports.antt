@@ -39,7 +39,7 @@ module _ (file program : List ℕ) (is_file : program ≡ file) (held : Option H
         report_is = let run_is = call.run_is in let right_is = is.right_is in cc;
       }
 
-  call-reports : (number : ℕ) (made : List Made) (runs : List JudgedRun) → length made ≡ length runs → AreCallsFor file held turns plan number made
+  pub call-reports : (number : ℕ) (made : List Made) (runs : List JudgedRun) → length made ≡ length runs → AreCallsFor file held turns plan number made
       → ArePlannedRuns parts (IsMadeOn plan held) turns number runs → AreReportsOf file made (planned_reports parts id number runs)
   call-reports number [] [] many calls are = tt
   call-reports number [] (run ∷ runs) many calls are = absurd (omega (arith, many))

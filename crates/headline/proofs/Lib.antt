@@ -13,6 +13,8 @@ pub mod ListedRanked
 pub mod NoneRefused
 pub mod Numbered
 pub mod Ranking
+pub mod RunsUnrefused
+pub mod SessionUnrefused
 pub mod Stopping
 pub mod Studies
 pub mod Widened

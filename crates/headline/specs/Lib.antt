@@ -7,3 +7,5 @@ pub mod Laws
 pub mod Listed
 pub mod Running
 pub mod Unrefused
+pub mod UnrefusedRuns
+pub mod UnrefusedSession

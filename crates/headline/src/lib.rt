@@ -22,4 +22,4 @@ pub use laws::{
 };
 pub use listed::{runs_are_their_calls, the_ranking_of_runs_is_the_elimination};
 pub use running::a_written_file_runs_as_the_text_means;
-pub use unrefused::nothing_on_the_way_is_refused;
+pub use unrefused::{no_runs_are_refused, no_session_is_refused, nothing_on_the_way_is_refused};

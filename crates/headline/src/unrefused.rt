@@ -5,6 +5,8 @@ ghost use Rattle.headline.specs.Unrefused.{
   NoRunIsRefused,
   NoWideningIsRefused,
 };
+ghost use Rattle.headline.specs.UnrefusedRuns.{NoRunsAreRefused};
+ghost use Rattle.headline.specs.UnrefusedSession.{NoSessionIsRefused};
 
 use collector::{
     groups_do_not_matter, one_collection, order_does_not_matter, reports_are_taken_whole,
@@ -43,4 +45,33 @@ pub fn nothing_on_the_way_is_refused(alloc: Global)
     order_does_not_matter();
     groups_do_not_matter();
     reports_of_runs_are_taken();
+}
+
+/// No session is refused: over a file that `transform` wrote, with a text of edits that add the reports of texts which `run`, `runs` and `collect` left of
+/// that file, where runs of one number are one run and the limits of collections hold for all of them, that remove only runs that are held, and that ask
+/// for rankings. (Of edits that relabel a run it says nothing.)
+pub fn no_session_is_refused(alloc: Global)
+    ensures { NoSessionIsRefused }
+{
+    one_program(alloc);
+    one_ending();
+    one_accepted_text();
+    one_bank();
+    one_report();
+    one_collection(alloc);
+    written_collection();
+    order_does_not_matter();
+    reports_of_runs_are_taken();
+    session_edits::one_list(alloc);
+}
+
+/// No runs on the lines of lists are refused: of a file that `transform` wrote, with a list of names of inputs of at most 16,777,216 bytes each, one of as
+/// many names of expected outputs where it is given, and at most 16,777,216 site lines in the reports of the calls for the lines.
+pub fn no_runs_are_refused(alloc: Global)
+    ensures { NoRunsAreRefused }
+{
+    one_program(alloc);
+    one_ending();
+    one_accepted_text();
+    name_lists::one_list();
 }
