@@ -36,7 +36,8 @@ use Rattle.session_replay.proofs.ReplayLemmas.{accepts-same}
 use Rattle.command_collect.specs.Collect.{AreSpelled, nothing_of, reports_in}
 use Rattle.cbi_options.specs.declared.words.SessionWords.{SessionWords}
 use Rattle.command_session.specs.declared.replayed.SessionTexts.{SessionTexts}
-use Rattle.command_session.specs.Session.{AreRefusedTexts, AreSessionTexts, IsTold, SessionRefused, id_of}
+use Rattle.command_session.specs.Session as session
+use Rattle.command_session.specs.Session.{AreSessionTexts, IsTold, SessionRefused, id_of}
 use Rattle.command_session.proofs.SessionLemmas.{same-refused}
 use Rattle.headline.specs.Chain.{IsReportOf, Made}
 use Rattle.headline.specs.Handed.{HoldRuns, by_number}
@@ -163,7 +164,7 @@ module _ (one_report : OneReport) (one_collection : OneCollection) (written : Wr
 
   none-refused : (bytes : List ℕ) (made : List Made) (left : List (List ℕ)) (bundles : List Bundle) (edits : List Edit) → SpellsEdits (id_of file) bytes edits → HoldRuns file made left
       → AreSpelled left bundles → ArePlainEdits (reports_in bundles) edits → RemoveHeldRuns edits → AreOneByNumber made → length (by_number made) ≤ report_limit
-      → sum_by (λ m. length (run m).entries) (by_number made) ≤ mark_limit → AreRefusedTexts (record { program = file; edits = bytes }) → ⊥
+      → sum_by (λ m. length (run m).entries) (by_number made) ≤ mark_limit → session.AreRefusedTexts (record { program = file; edits = bytes }) → ⊥
   none-refused bytes made left bundles edits spelled hold are plain removes one few few_lines (inl none) = none p spells
   none-refused bytes made left bundles edits spelled hold are plain removes one few few_lines (inr (inl none)) = none edits spelled
   none-refused bytes made left bundles edits spelled hold are plain removes one few few_lines (inr (inr faulty)) =
@@ -178,4 +179,4 @@ module _ (one_report : OneReport) (one_collection : OneCollection) (written : Wr
       → sum_by (λ m. length (run m).entries) (by_number made) ≤ mark_limit → SessionRefused s held → ⊥
   no-session s held texts made left bundles edits tells are same spelled hold is plain removes one few few_lines refused =
       none-refused texts.edits made left bundles edits spelled hold is plain removes one few few_lines
-      (subst (λ bytes. AreRefusedTexts (record { program = bytes; edits = texts.edits })) same (same-refused held s texts refused.texts tells are refused.are_texts refused.refused))
+      (subst (λ bytes. session.AreRefusedTexts (record { program = bytes; edits = texts.edits })) same (same-refused held s texts refused.texts tells are refused.are_texts refused.refused))
