@@ -46,7 +46,8 @@ class Checked(NamedTuple):
                         f"which the text is: {several(self.wide)}. No difference there is called explained.")
         deep = [difference.name for difference in self.differences if difference.kind == LIMIT]
         if deep:
-            rows.append(f"{plural(len(deep), 'run')} {'needs' if len(deep) == 1 else 'need'} more than 512 calls at once, this tool's limit (trap 12), and gcc's {'goes' if len(deep) == 1 else 'go'} on: {several(deep)}.")
+            needs, goes = ("needs", "goes") if len(deep) == 1 else ("need", "go")
+            rows.append(f"{plural(len(deep), 'run')} {needs} more than 512 calls at once, this tool's limit (trap 12), and gcc's {goes} on: {several(deep)}.")
         if not self.narrow:
             rows.append("gcc builds nothing for 32 bits here (Debian's package gcc-multilib), so what comes of the text's 32 bits isn't known.")
         return rows

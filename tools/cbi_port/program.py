@@ -97,8 +97,7 @@ class Program(Unwinding, Library):
     # The names of whole files.
 
     def unit_symbol(self, name: str) -> Optional[Symbol]:
-        symbol = self.statics.get(self.unit.file, {}).get(name)
-        return symbol
+        return self.statics.get(self.unit.file, {}).get(name)
 
     def survey(self, unit: Unit) -> None:
         """Declares what stands outside functions."""
@@ -362,7 +361,6 @@ class Program(Unwinding, Library):
                 found = self.resolve(type_)
                 symbol = self.scope.names[decl.name]
                 symbol.type = Pointer(found) if type_ is not decl.type else found
-
 
     def run(self) -> Ported:
         """The whole translation; `self.problems` has what can't be kept."""
