@@ -18,7 +18,7 @@ FILES = os.path.join(HERE, "real")
 @dataclass(frozen=True)
 class Program:
     """A program of a package of Debian's. `files` are those that are compiled, as seen from `folder` of its source; a `driver` of ours, with a main that reads the input, stands before them.
-    `build` are lines of a shell that are done in the source's folder before (configure, make)."""
+    `build` are lines of a shell that are done in the source's folder before (configure, make). `schemes` are the sites that are looked at, where all would be too many."""
     name: str
     package: str
     version: str
@@ -31,6 +31,7 @@ class Program:
     memory: str = "auto"
     schemes: Optional[str] = None   # which sites are looked at, where all are more than a program may have
     turns: int = 10000000
+    schemes: Optional[str] = None
 
     def texts(self) -> List[str]:
         """What is compiled, as seen from the folder: all but headers."""

@@ -59,6 +59,7 @@ def hunted(bug: Bug, source: str, made: Made, keep: str, executable: str, jobs: 
     words = [sys.executable, os.path.join(TOOLS, "cbi-hunt"), *program.texts(), "--inputs", made.inputs, "--memory", program.memory, "--turns", str(program.turns),
              "--keep", keep, "--jobs", str(jobs), "--cbi", executable, "--no-check"]
     words += [] if bug.traps_alone else ["--expect", made.expected]
+    words += ["--schemes", program.schemes] if program.schemes else []
     words += ["--hangs", "fail"] if bug.hangs else []
     words += ["--args", program.arguments] if program.arguments else []
     words += ["--schemes", program.schemes] if program.schemes else []
