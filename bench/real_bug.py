@@ -29,7 +29,6 @@ class Program:
     build: Tuple[str, ...] = ()
     arguments: Optional[str] = None
     memory: str = "auto"
-    schemes: Optional[str] = None   # which sites are looked at, where all are more than a program may have
     turns: int = 10000000
     schemes: Optional[str] = None
 

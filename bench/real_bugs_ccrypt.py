@@ -1,10 +1,10 @@
-"""ccrypt, whose null pointer the articles hunted (PLDI 2003, section 3.2)."""
+"""ccrypt, whose null pointer the articles hunted (PLDI 2003, section 3.2). It is built with its own copy of crypt, which it has for where the system has none."""
 import os
 
 from real_bug import FILES, Bug, Program
 
 CCRYPT = Program(
-    name="ccrypt", package="ccrypt", version="1.11-2", driver="ccrypt_driver.c", folder="src", build=("./configure",), memory="bytes",
+    name="ccrypt", package="ccrypt", version="1.11-2", driver="ccrypt_driver.c", folder="src", build=("./configure ac_cv_lib_crypt_crypt=no",), memory="bytes",
     files=("main.c", "traverse.c", "platform.c", "readkey.c", "rijndael.c", "unixcryptlib.c", "xalloc.c", "ccryptlib.c", "ccrypt.c", "unixcrypt3.c"),
     options=("-I..", "-I.", f"-I{FILES}", f"-I{os.path.join(FILES, 'system')}", "-DHAVE_CONFIG_H", '-DLOCALEDIR=""', "-Dmain=program_main"))
 

@@ -62,7 +62,6 @@ def hunted(bug: Bug, source: str, made: Made, keep: str, executable: str, jobs: 
     words += ["--schemes", program.schemes] if program.schemes else []
     words += ["--hangs", "fail"] if bug.hangs else []
     words += ["--args", program.arguments] if program.arguments else []
-    words += ["--schemes", program.schemes] if program.schemes else []
     words += ["--", *program.options] if program.options else []
     here = os.getcwd()
     os.chdir(os.path.join(source, program.folder))
