@@ -10,7 +10,7 @@ BUGS = [
         mended="1.7.19, and 1.7.15-1+deb12u3 of Debian (CVE-2023-26819)", inputs=("json_texts.py", "edits"), function="parse_number", patch="cjson_number_cut.patch",
         count=10000, others=600),
     Bug(name="cjson-insert", program=CJSON, kind="wrong output", what="no item is inserted before any but the first item of an array: the check for a damaged list looks at the new item",
-        mended="1.7.18; the patch for CVE-2023-50471 brought it, and Debian has it since 1.7.15-1+deb12u1", inputs=("json_texts.py", "edits"), function="cJSON_InsertItemInArray",
+        mended="by 1.7.19; the patch for CVE-2023-50471 brought it, and Debian has it since 1.7.15-1+deb12u1", inputs=("json_texts.py", "edits"), function="cJSON_InsertItemInArray",
         mend="cjson_insert.mend.patch", count=600),
     Bug(name="cjson-pointer-index", program=CJSON_UTILS, kind="wrong output", what="an index of a JSON Pointer goes on behind its digits, since its first character is looked at in place of the current one",
         mended="1.7.19, and 1.7.15-1+deb12u4 of Debian (CVE-2025-57052)", inputs=("json_texts.py", "patch"), function="decode_array_index_from_pointer", patch="cjson_pointer_index.patch",
