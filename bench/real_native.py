@@ -48,13 +48,15 @@ def words_of(program: Program) -> List[str]:
 
 
 def ran(home: str, program: Program, path: str, more: Optional[Dict[str, str]] = None) -> "subprocess.CompletedProcess[bytes]":
-    """A run on the input of a file, in a folder that goes, with the input under the program's first argument. One that doesn't end is ended by SIGTERM."""
+    """A run on the input of a file. Where it has arguments or a driver, which may write files, it is in a folder that goes, with the input under its first argument. One that doesn't end is ended
+    by SIGTERM."""
     folder, words = os.path.dirname(home), words_of(program)
     named = next((word for word in words if not word.startswith("-")), None)
-    if named:
+    if named or program.driver:
         folder = home + ".run"
         shutil.rmtree(folder, ignore_errors=True)
         os.makedirs(folder)
+    if named:
         shutil.copyfile(path, os.path.join(folder, named))
     with open(path, "rb") as given:
         return subprocess.run(["timeout", str(SECONDS), home, *words], cwd=folder, stdin=given, stdout=subprocess.PIPE, stderr=subprocess.PIPE, check=False,
