@@ -349,6 +349,12 @@ def plots(faults: Sequence[Any], runs: int) -> List[Tuple[str, str]]:
                                                      looks, [(k / 100, f"{k} %") for k in (0, 10, 20, 30, 40, 50)], 0, 0.5))]
 
 
+def counted(new: Sequence[Any]) -> str:
+    """Of how many faults of the second set that is kept back there are measurements."""
+    every = sum(fault.new for subject in read_corpus() for fault in subject.faults)
+    return f"All {every} are measured." if len(new) == every else f"{len(new)} of the {every} are measured by now, those whose runs take longest first; the others aren't."
+
+
 def shown_count(results: Results) -> int:
     counts = counts_of(results)
     return SHOWN if SHOWN in counts else counts[-1]
@@ -384,7 +390,7 @@ def parts(results: Results) -> Dict[str, str]:
         add_turns(fault)
     made = {"three": three_at_once(results), "three summed": three_summed(results), "speeds": speeds(results, most), "corpus": corpus_table(),
             "headline": words.headline(opened, kept, new, three_of(results)[1], runs), "decided": words.decided(new, kept, opened, runs),
-            "aims": words.aims(new, kept, opened, three_of(results)[1], runs)}
+            "aims": words.aims(new, kept, opened, three_of(results)[1], runs), "new counted": counted(new)}
     for some, prefix in ((opened, ""), (kept, "kept "), (new, "new ")):
         if some:
             made.update(of_faults(some, runs, most, prefix))

@@ -69,7 +69,7 @@ def measured(faults: Faults, runs: int) -> str:
 
 def headline(opened: Faults, kept: Faults, new: Faults, three: Sequence[Any], runs: int) -> str:
     """The two made lines of README and a table: of how many faults the first five places are right."""
-    sets = [(some, which) for some, which in ((new, "kept back for this"), (kept, "kept back before"), (opened, "open")) if has(some, f"turns 1 {runs}")]
+    sets = [(some, which) for some, which in ((new, "kept back for `lines` and `bugs`"), (kept, "kept back before"), (opened, "open")) if has(some, f"turns 1 {runs}")]
     rows = [[name] + [str(among(some, form.format(runs), what)) for some, _ in sets for what in KINDS_OF_PLACE]
             for form, name in HEADED if all(has(some, form.format(runs)) for some, _ in sets)]
     rows.append(["five lines by chance"] + [by_lines_of_chance(some, what, 5) for some, _ in sets for what in KINDS_OF_PLACE])
@@ -189,9 +189,9 @@ def decided(new: Faults, kept: Faults, opened: Faults, runs: int) -> str:
     """What the faults that were kept back say of the ways that were added late, and of the one that is judged."""
     if not has(new, f"lines 1 {runs}"):
         return "The faults that are kept back aren't measured yet."
-    sets = [(some, which) for some, which in ((new, f"{len(new)} kept back for this"), (kept, f"{len(kept)} kept back before"), (opened, f"{len(opened)} open")) if has(some, f"lines 1 {runs}")]
+    sets = [(some, which) for some, which in ((new, f"{len(new)} kept back for `lines` and `bugs`"), (kept, f"{len(kept)} kept back before"), (opened, f"{len(opened)} open")) if has(some, f"lines 1 {runs}")]
     rows = [[name, other] + beside([some for some, _ in sets], f"{way} 1 {runs}", form.format(runs)) for way, name in LATE for form, other in BESIDE if has(new, form.format(runs))]
-    said = [f"Of the {len(new)} faults that were kept back for this {dict(LATE)[JUDGED]} have"]
+    said = [f"Of the {len(new)} faults that were kept back for them {dict(LATE)[JUDGED]} have"]
     for (form, other), joined in zip(BESIDE, ("", "; beside", "; beside")):
         ahead, behind = apart_by(new, f"{JUDGED} 1 {runs}", form.format(runs))
         sure = "more than chance makes of so few" if ahead > behind and by_chance(ahead, behind) <= SURE else "no more than chance makes of so few"
@@ -208,7 +208,7 @@ class Aim(NamedTuple):
 
 def aims(new: Faults, kept: Faults, opened: Faults, three: Sequence[Any], runs: int) -> str:
     """What `lines` and `bugs` were to reach, those aims first that were missed."""
-    found = [aim for some, which in ((new, "kept back for this"), (kept, "kept back before"), (opened, "open")) if has(some, f"lines 1 {runs}") for aim in aims_of(some, which, runs)]
+    found = [aim for some, which in ((new, "kept back for `lines` and `bugs`"), (kept, "kept back before"), (opened, "open")) if has(some, f"lines 1 {runs}") for aim in aims_of(some, which, runs)]
     every = [fault for one in three for fault in one["faults"] if "printed" in fault]
     if every:
         rows_own, rows_near = (sum(capped(fault[what]) <= 5 for fault in every) for what in ("own", "near"))
