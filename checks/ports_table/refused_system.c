@@ -35,7 +35,6 @@ int main(int argc, char **argv)
     signal(SIGINT, stop);
     return f(0) + (int)wcslen(L"x") + day.tm_year + of_names(2);
 }
-/* refused 16 longjmp */
 /* refused 24 `pipe` */
 /* refused 25 setjmp */
 /* refused 27 `fork` */
