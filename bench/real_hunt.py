@@ -14,6 +14,7 @@ from timing import Timed, timed
 
 TOOLS = os.path.join(os.path.dirname(HERE), "tools")
 sys.path.insert(0, TOOLS)
+import cbi_bugs  # noqa: E402
 import cbi_files  # noqa: E402
 import cbi_rows  # noqa: E402
 import cbi_where  # noqa: E402
@@ -83,7 +84,8 @@ def shown(bug: Bug, source: str, keep: str) -> Shown:
     where = cbi_where.ported(bug.program.texts()[0], kept("source.c.lines"), folder) if os.path.exists(kept("source.c.lines")) else \
         cbi_where.one_file(bug.program.texts()[0], cbi_files.read_source(kept("source.c")))
     program, told, ranking = cbi_files.read_program(kept("program")), read_hunted(kept("told.json")), cbi_files.read_ranking(kept("ranking"))
-    view = cbi_rows.view_of(ranking, cbi_rows.Given(where, cbi_files.read_source(kept("source.c")), program, {}, kept("runs"), None, told))
+    given = cbi_rows.Given(where, cbi_files.read_source(kept("source.c")), program, {}, kept("runs"), lambda _: cbi_bugs.read_listed(keep), None, told)
+    view = cbi_rows.view_of(ranking, given)
     answer = view.answer
     if answer is None:
         raise Missing("the hunt has no answer")
