@@ -236,7 +236,7 @@ echo "$(wc -l <"$said") ok, 0 not" >>"$said"
             folder = self.path(f"tmp{number}")
             os.mkdir(folder)
             begun = self.begin("demo", "page.html", tmp=folder, start_new_session=True, preexec_fn=heed_interrupts)
-            self.wait_for(lambda: any(name.startswith("cbi-hunt-") for name in os.listdir(folder)), 300)
+            self.wait_for(lambda: self.at_work_in(folder, b"lines"), 300)
             (os.killpg if number == signal.SIGINT else os.kill)(begun.pid, number)
             _, err = begun.communicate(timeout=300)
             self.assertEqual((begun.returncode, os.listdir(folder)), (130, []), err)
@@ -244,13 +244,14 @@ echo "$(wc -l <"$said") ok, 0 not" >>"$said"
             self.wait_for(lambda: not self.at_work_in(folder))
             self.assertEqual(self.at_work_in(folder), [])
 
-    def at_work_in(self, folder):
-        """The processes that have a file of a folder among their words."""
+    def at_work_in(self, folder, word=b""):
+        """The processes that have a file of a folder among their words, and this word."""
         found = []
         for number in filter(str.isdigit, os.listdir("/proc")):
             try:
                 with open(f"/proc/{number}/cmdline", "rb") as file:
-                    found += [number] if folder.encode() in file.read() else []
+                    words = file.read()
+                found += [number] if folder.encode() in words and (not word or word in words.split(b"\0")) else []
             except OSError:
                 pass
         return found
