@@ -36,7 +36,6 @@ int main(int argc, char **argv)
     return f(0) + (int)wcslen(L"x") + day.tm_year + of_names(2);
 }
 /* refused 24 `pipe` */
-/* refused 25 setjmp */
 /* refused 27 `fork` */
 /* refused 28 `execv` */
 /* refused 33 `mkdir` */
