@@ -10,10 +10,10 @@
 #include <time.h>
 #include <unistd.h>
 #include <wchar.h>
-static jmp_buf back;
+static int day_of_stop;
 static void stop(int n)
 {
-    longjmp(back, n);
+    day_of_stop = n;
 }
 static int of_names(int n) { return n == STDIN_FILENO && O_RDONLY == 0 && LC_ALL == 6; }
 int main(int argc, char **argv)
@@ -22,7 +22,7 @@ int main(int argc, char **argv)
     struct tm day = { 0 };
     char b[10];
     int (*f)(int *) = pipe;
-    if (setjmp(back))
+    if (day_of_stop)
         return 1;
     if (fork() == 0)
         execv(argv[0], argv);
