@@ -56,7 +56,7 @@ class Manual(Case):
         self.assertEqual(self.completed("cbi", "bugs", "--also", ""), set())
         self.assertEqual(self.completed("cbi", "runs", "--"), {"--inputs", "--expect", "--rate", "--seed", "--first", "--turns"})
         self.assertEqual(self.completed("cbi-show", "--format", "s"), {"sarif"})
-        self.assertEqual(self.completed("cbi-port", "--memory", ""), {"auto", "cells", "bytes"})
+        self.assertEqual(self.completed("cbi-port", "--memory", ""), {"auto", "cells", "bytes", "flat"})
         if shutil.which("zsh"):
             self.call("zsh", "-n", os.path.join(TOOLS, "completions", "_cbi"))
 
