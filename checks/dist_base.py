@@ -1,5 +1,6 @@
 """What the looks at releases share: a small repository with what a release touches, and what stands in for rt."""
 import os
+import re
 import shutil
 import subprocess
 import sys
@@ -63,6 +64,8 @@ class Case(unittest.TestCase):
             self.proved = file.read() + MARK
         self.write("proved", self.proved, 0o755)
         self.write("bin/rt", RT.format(kit=KIT, room=self.room), 0o755)
+        scripts = self.read("top/tools/cbi_files.py").decode()
+        self.write("top/tools/cbi_files.py", re.sub(r'(?m)^VERSION = ".*"$', 'VERSION = "0.5.0"', scripts))
         self.git("init", "-q", "-b", "main", ".")
         self.commit("first")
 
