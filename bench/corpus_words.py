@@ -133,7 +133,7 @@ def of_rankings(faults: Faults, runs: int) -> str:
              f"near in ten for {near(faults, f'importance 1 {runs}', 10)}, rows for {near(faults, f'rows 1 {runs}', 10)}."]
     if has(faults, f"narrow 1 {runs}"):
         pairs = sum(bool(fault["rows"]) and is_pair(fault["rows"][0][2]) for fault in faults)
-        lines.append(f"- **Pairs.** {pairs} of {len(faults)} first rows are pairs, by the most runs that there are. Without the scheme "
+        lines.append(f"- **Pairs.** {pairs} of {len(faults)} first rows are pairs, with the most runs measured. Without the scheme "
                      f"{near(faults, f'narrow 1 {runs}')} have a row near in five, and with it {near(faults, f'rows 1 {runs}')}.")
     lines.append(f"- **Few failing runs.** {len(few)} of {len(faults)} faults failed in fewer than {FEW} of {runs:,} runs; rows are near {near(few, f'rows 1 {runs}')} "
                  f"of them, `lines` {near(few, f'lines 1 {runs}')}, Ochiai {near(few, f'Ochiai {runs}')}.")

@@ -51,7 +51,7 @@ def port_files(files: Sequence[str], options: List[str], args: Any, stderr: bool
 
 
 def notes_of_memory(way: str, asked: str, first: Optional[Program], tokens: Sequence[Token]) -> List[str]:
-    """What is told of how memory is kept; `first` is the program that cells couldn't keep."""
+    """The sentence on how memory is kept; `first` is the program that cells couldn't keep."""
     unbounded = "bounds and ends of objects aren't looked at, since the text would be too large with that" if way == "flat" and asked != way else ""
     if first is None:
         return [unbounded] if unbounded else []
