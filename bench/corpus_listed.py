@@ -6,7 +6,7 @@ from corpus_runs import call
 from corpus_scores import Place
 from corpus_subject import Built, Known, program_of
 
-import cbi_bugs
+import cbi_show.bugs
 
 MOST_LINES = 1000  # of which all are judged; how far apart they stand, how many bugs there are and how many places each has is as the commands have it by themselves
 
@@ -25,17 +25,17 @@ def listed(cbi: str, built: Built, collection: str) -> Pointed:
     paths = {command: f"{collection}.{command}" for command in ("lines", "bugs")}
     call([cbi, "lines", f"--most={MOST_LINES}", "--", built.program, collection], paths["lines"])
     call([cbi, "bugs", "--", built.program, collection], paths["bugs"])
-    lines, bugs = cbi_bugs.read_lines(paths["lines"]), cbi_bugs.read_bugs(paths["bugs"])
+    lines, bugs = cbi_show.bugs.read_lines(paths["lines"]), cbi_show.bugs.read_bugs(paths["bugs"])
     for path in paths.values():
         os.remove(path)
     return Pointed([place_of(one, built) for one in lines.lines], [[place_of(bug.leader, built), *(also_of(one, built) for one in bug.also)] for bug in bugs.bugs])
 
 
-def place_of(found: cbi_bugs.Found, built: Built) -> Place:
+def place_of(found: cbi_show.bugs.Found, built: Built) -> Place:
     return Place(built.line(found.line, found.function), found.function, found.text, found.a, found.b, found.predicate, found.strength)
 
 
-def also_of(found: cbi_bugs.Also, built: Built) -> Place:
+def also_of(found: cbi_show.bugs.Also, built: Built) -> Place:
     """A further place, of whose predicate the number isn't printed."""
     return Place(built.line(found.line, found.function), found.function, found.text, found.a, found.b, -1, found.strength)
 
@@ -48,7 +48,7 @@ def pointed(cbi: str, known: Known, collection: str) -> Tuple[Pointed, Pointed]:
     if not added:
         return printed, printed
     rest = f"{collection}.own"
-    cbi_bugs.without_sites(collection, added, rest)
+    cbi_show.bugs.without_sites(collection, added, rest)
     own = listed(cbi, built, rest)
     os.remove(rest)
     return printed, own

@@ -13,7 +13,7 @@ import corpus_listed
 import corpus_results
 import corpus_scores as scores
 import corpus_words
-from cbi_bugs import Also, Found
+from cbi_show.bugs import Also, Found
 from corpus_collections import Tallies, Tally
 from corpus_scores import Place, Target
 from corpus_subject import Built

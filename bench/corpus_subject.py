@@ -15,9 +15,8 @@ from corpus_scores import Place
 
 sys.path.insert(0, os.path.join(os.path.dirname(os.path.abspath(__file__)), "..", "tools"))
 
-import cbi_files  # noqa: E402
-import cbi_rows  # noqa: E402
-import cbi_seen  # noqa: E402
+import cbi_show.rows  # noqa: E402
+from cbi_show import files, seen  # noqa: E402
 
 try:
     import cbi_port
@@ -126,7 +125,7 @@ def read(path: str) -> bytes:
 
 class Ranked(NamedTuple):
     """The rows of a ranking as `cbi` writes them, where they point, and how many seconds of a processor it took."""
-    rows: List[cbi_files.Row]
+    rows: List[files.Row]
     places: List[Place]
     seconds: float
 
@@ -135,7 +134,7 @@ def ranked(runs: Runs, built: Built, collection: str, policy: str = "all") -> Ra
     began = processor_seconds()
     text = text_of([runs.cbi, "rank", f"--policy={policy}", "--", built.program, collection])
     seconds = processor_seconds() - began
-    rows = [cbi_files.ranking_row("the ranking", number, line) for number, line in enumerate(text.split("\n")[1:], 2) if line]
+    rows = [files.ranking_row("the ranking", number, line) for number, line in enumerate(text.split("\n")[1:], 2) if line]
     places = [Place(built.line(row.line, row.function), row.function, row.text, row.f, row.s, row.predicate, row.importance) for row in rows]
     return Ranked(rows, places, seconds)
 
@@ -157,7 +156,7 @@ def known_of(built: Built) -> Known:
     for number, (site, text, several) in program_of(built).numbered().items():
         places[number] = Place(built.line(site.line, site.function), site.function, text, 0, 0, number)
         counters.setdefault(site.number, []).append((number, several))
-    return Known(built, places, counters, cbi_rows.bodies(cbi_files.read_source(built.text)))
+    return Known(built, places, counters, cbi_show.rows.bodies(files.read_source(built.text)))
 
 
 class Sections(NamedTuple):
@@ -171,8 +170,8 @@ def shown(known: Known, ranking: Ranked, tried: int) -> Sections:
     """The rows in the order in which `cbi-hunt` shows them, without what cards bring together; `tried` is how many predicates were looked at."""
     why = []
     for row, place in zip(ranking.rows, ranking.places):
-        weak = cbi_seen.expected_by_chance(row, tried) >= 1
-        unrelated = bool(row.importance) and cbi_rows.unrelated(row, known.parts)
+        weak = seen.expected_by_chance(row, tried) >= 1
+        unrelated = bool(row.importance) and cbi_show.rows.unrelated(row, known.parts)
         why.append("added" if place.line is None else "unrelated" if unrelated else "weak" if weak else "" if row.importance else "unimportant")
     if "" not in why and "weak" in why:
         why[why.index("weak")] = ""
@@ -181,12 +180,12 @@ def shown(known: Known, ranking: Ranked, tried: int) -> Sections:
 
 
 @lru_cache(maxsize=4)
-def read_at(program: str, made: float) -> cbi_files.Program:
+def read_at(program: str, made: float) -> files.Program:
     """A program file; `made` is its time, so that one that is made anew is read again."""
-    return cbi_files.read_program(program)
+    return files.read_program(program)
 
 
-def program_of(built: Built) -> cbi_files.Program:
+def program_of(built: Built) -> files.Program:
     return read_at(built.program, os.path.getmtime(built.program))
 
 

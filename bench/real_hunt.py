@@ -14,11 +14,10 @@ from timing import Timed, timed
 
 TOOLS = os.path.join(os.path.dirname(HERE), "tools")
 sys.path.insert(0, TOOLS)
-import cbi_bugs  # noqa: E402
-import cbi_files  # noqa: E402
-import cbi_rows  # noqa: E402
-import cbi_where  # noqa: E402
-from cbi_hunted import read_hunted  # noqa: E402
+import cbi_show.rows  # noqa: E402
+import cbi_show.where  # noqa: E402
+from cbi_show import bugs, files  # noqa: E402
+from cbi_show.hunted import read_hunted  # noqa: E402
 
 
 MOST_FAILING, MOST_OTHERS = 100, 200   # runs that gcov reads
@@ -70,7 +69,7 @@ def hunted(bug: Bug, source: str, made: Made, keep: str, executable: str, jobs: 
         done = timed(words, keep + ".screen")
     finally:
         os.chdir(here)
-    if done.status not in (cbi_files.FOUND, cbi_files.NOTHING):
+    if done.status not in (files.FOUND, files.NOTHING):
         raise Missing(f"cbi-hunt: {done.said.strip()[-300:]}")
     return done
 
@@ -81,11 +80,11 @@ def shown(bug: Bug, source: str, keep: str) -> Shown:
 
     def kept(name: str) -> str:
         return os.path.join(keep, name)
-    where = cbi_where.ported(bug.program.texts()[0], kept("source.c.lines"), folder) if os.path.exists(kept("source.c.lines")) else \
-        cbi_where.one_file(bug.program.texts()[0], cbi_files.read_source(kept("source.c")))
-    program, told, ranking = cbi_files.read_program(kept("program")), read_hunted(kept("told.json")), cbi_files.read_ranking(kept("ranking"))
-    given = cbi_rows.Given(where, cbi_files.read_source(kept("source.c")), program, {}, kept("runs"), lambda _: cbi_bugs.read_listed(keep), None, told)
-    view = cbi_rows.view_of(ranking, given)
+    where = cbi_show.where.ported(bug.program.texts()[0], kept("source.c.lines"), folder) if os.path.exists(kept("source.c.lines")) else \
+        cbi_show.where.one_file(bug.program.texts()[0], files.read_source(kept("source.c")))
+    program, told, ranking = files.read_program(kept("program")), read_hunted(kept("told.json")), files.read_ranking(kept("ranking"))
+    given = cbi_show.rows.Given(where, files.read_source(kept("source.c")), program, {}, kept("runs"), lambda _: bugs.read_listed(keep), None, told)
+    view = cbi_show.rows.view_of(ranking, given)
     answer = view.answer
     if answer is None:
         raise Missing("the hunt has no answer")
@@ -100,7 +99,7 @@ def shown(bug: Bug, source: str, keep: str) -> Shown:
 
 def tokens_of(path: str) -> int:
     """The tokens of a ported text, which has neither comments nor strings with blanks that matter."""
-    text = cbi_files.decoded(cbi_files.read_bytes(path))
+    text = files.decoded(files.read_bytes(path))
     return len(re.findall(r"\"(?:\\.|[^\"\\])*\"|'(?:\\.|[^'\\])+'|\w+|<<|>>|[<>=!]=|&&|\|\||\+\+|--|->|[-+*/%&|^]=|\S", text))
 
 

@@ -64,8 +64,8 @@ class Case(unittest.TestCase):
             self.proved = file.read() + MARK
         self.write("proved", self.proved, 0o755)
         self.write("bin/rt", RT.format(kit=KIT, room=self.room), 0o755)
-        scripts = self.read("top/tools/cbi_files.py").decode()
-        self.write("top/tools/cbi_files.py", re.sub(r'(?m)^VERSION = ".*"$', 'VERSION = "0.5.0"', scripts))
+        scripts = self.read("top/tools/cbi_show/files.py").decode()
+        self.write("top/tools/cbi_show/files.py", re.sub(r'(?m)^VERSION = ".*"$', 'VERSION = "0.5.0"', scripts))
         self.git("init", "-q", "-b", "main", ".")
         self.commit("first")
 

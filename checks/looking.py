@@ -19,7 +19,7 @@ TOOLS = os.path.join(TOP, "tools")
 HOUSE = os.path.join(TOP, "house")
 EXAMPLES = os.path.join(TOP, "examples")
 SCRIPTS = ("cbi-hunt", "cbi-show", "cbi-explain", "cbi-port")
-# The executable, which look_at_tools is called with.
+# The executable, which test_tools is called with.
 CBI = ""
 
 

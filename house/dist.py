@@ -7,7 +7,7 @@ Status 0: done. 1: dist/ is damaged, or nothing can be unpacked. 3: there is not
 
 dist/MANIFEST has a line for each of these words, in this order; lines that begin with # are comments:
 
-    version     the release, as tools/cbi_files.py and CHANGELOG.md have it
+    version     the release, as tools/cbi_show/files.py and CHANGELOG.md have it
     commit      the commit that the gate proved and built
     kit         the line of `rt version`
     target      the machine: x86_64-unknown-linux-gnu

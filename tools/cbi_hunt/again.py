@@ -5,11 +5,12 @@ import re
 import subprocess
 from typing import Dict, List, NamedTuple, Optional, Tuple
 
-import cbi_files
-from cbi_files import Fault, Program
+from cbi_show import files
 from cbi_hunt.kept import Kept
+from cbi_hunt.runs import Plan
 from cbi_hunt.signals import heed_now
-from cbi_runs import Plan, call_to
+from cbi_show.calls import call_to
+from cbi_show.files import Fault, Program
 
 
 class Again(NamedTuple):
@@ -52,7 +53,7 @@ class Repeater:
         said = done.stderr.decode(errors="replace")
         if done.returncode:
             raise Fault(f"cbi run: {said.strip() or done.returncode}")
-        run = cbi_files.parse_report(self.report, cbi_files.decoded(cbi_files.read_bytes(self.report))).run
+        run = files.parse_report(self.report, files.decoded(files.read_bytes(self.report))).run
         last = re.search(r"^last .*?(\d+)$", said, re.MULTILINE)
         return Again(run.outcome, self.output, run.sites, int(last[1]) if last else None)
 

@@ -8,11 +8,11 @@ import tempfile
 import time
 from typing import List, Sequence, Tuple
 
-import cbi_files
+from cbi_show import files
 import cbi_port
-from cbi_files import count_of
 from cbi_hunt.counts import Told
 from cbi_hunt.inputs import Inputs
+from cbi_show.files import count_of
 from cbi_port import check
 from cbi_port.builds import OWN, Builds, Files, Ran, build_flags
 
@@ -86,7 +86,7 @@ def compare(chosen: argparse.Namespace, cbi: str, ported: cbi_port.Ported, chanc
 
 def compared(chosen: argparse.Namespace, cbi: str, ported: cbi_port.Ported, inputs: Inputs) -> Tuple[str, List[str]]:
     """How the ported text does beside gcc's build of the files, on the inputs; and the differences that nothing explains."""
-    chances = [(name, cbi_files.read_bytes(path)) for name, path in list(zip(inputs.names, inputs.paths))[:MOST_CHECKED]]
+    chances = [(name, files.read_bytes(path)) for name, path in list(zip(inputs.names, inputs.paths))[:MOST_CHECKED]]
     told = Told()
     told.show(f"comparing {count_of(len(chances), 'output')} with gcc's")
     try:

@@ -6,19 +6,19 @@ import os
 import subprocess
 from typing import List, NamedTuple, Optional, Tuple
 
-import cbi_files
-from cbi_broke import HANG, OUTPUT, STATUS, TRAP, Access, Broke, Call, Wrong
-from cbi_files import Fault
+from cbi_show import files
 from cbi_hunt.again import Repeater, program_for
 from cbi_hunt.looks import Hunt
 from cbi_hunt.marks import TICK, Marked, State, state_at, ticks_before, without_marks
-from cbi_hunt.signals import heed_now
 from cbi_hunt.sanitized import Files, access_of, call_at
-from cbi_hunted import Example
-from cbi_runs import call_to
-from cbi_seen import ending_of
-from cbi_source import Source
-from cbi_where import Where
+from cbi_hunt.signals import heed_now
+from cbi_show.broke import HANG, OUTPUT, STATUS, TRAP, Access, Broke, Call, Wrong
+from cbi_show.calls import call_to
+from cbi_show.files import Fault
+from cbi_show.hunted import Example
+from cbi_show.seen import ending_of
+from cbi_show.source import Source
+from cbi_show.where import Where
 
 SECONDS = 60             # for a run with marks
 MOST_TURNS = 100000000   # of `cbi run`; a mark is a call, and takes one
@@ -84,7 +84,7 @@ class Tracer:
         if escape is None:
             raise Fault("its output has all bytes, so no mark can be told apart")
         try:
-            marked = Marked(cbi_files.read_source(self.source))
+            marked = Marked(files.read_source(self.source))
         except (ValueError, KeyError, IndexError) as error:
             raise Fault(f"its text can't be marked: {error}")
         try:
@@ -102,7 +102,7 @@ class Tracer:
         """What the run with a window wrote; it has to end as the run without marks did, with the same output."""
         heed_now()
         with open(self.text, "wb") as file:
-            file.write(encoded(marked.text(escape, start, end), cbi_files.read_bytes(self.source)))
+            file.write(encoded(marked.text(escape, start, end), files.read_bytes(self.source)))
         call_to(self.program, [self.hunt.plan.cbi, "transform", "--mode=plain", "--", self.text])
         hangs = self.ran.outcome == "cut turns"
         turns = min(MOST_TURNS, MARKS_A_TURN * self.hunt.plan.turns) if hangs else MOST_TURNS
@@ -114,8 +114,8 @@ class Tracer:
             raise Fault(f"the run with marks took more than {SECONDS} s")
         if done.returncode:
             raise Fault(f"cbi run: {done.stderr.decode(errors='replace').strip()}")
-        outcome = cbi_files.parse_report(self.report, cbi_files.decoded(cbi_files.read_bytes(self.report))).run.outcome
-        wrote = cbi_files.read_bytes(self.output)
+        outcome = files.parse_report(self.report, files.decoded(files.read_bytes(self.report))).run.outcome
+        wrote = files.read_bytes(self.output)
         left = without_marks(wrote, escape)
         if outcome != self.ran.outcome or not (left[:len(self.ran.wrote)] == self.ran.wrote[:len(left)] if hangs else left == self.ran.wrote):
             raise Fault(f"the run with marks went another way ({outcome})")
@@ -185,7 +185,7 @@ def last_site(hunt: Hunt, path: str, where: Where) -> List[Call]:
     full, repeater = program_for(hunt.chosen, hunt.plan.cbi, hunt.kept, "full"), Repeater(hunt.plan, hunt.kept.folder, "last")
     last = repeater.run(full, path).last
     repeater.close()
-    sites = cbi_files.read_program(full).sites
+    sites = files.read_program(full).sites
     if last is None or last >= len(sites):
         return []
     spot = where.spot(sites[last].line, sites[last].function)
@@ -203,14 +203,14 @@ def kind_of(ran: Ran) -> Optional[Tuple[str, Optional[Wrong]]]:
     wrong = first_wrong(ran.wrote, ran.due) if ran.due is not None else None
     if wrong:
         return OUTPUT, wrong
-    return (STATUS, None) if cbi_files.status_of(ran.outcome) else None
+    return (STATUS, None) if files.status_of(ran.outcome) else None
 
 
 def sanitized(hunt: Hunt, path: str, outcome: str, where: Where) -> Optional[Access]:
     """What the sanitizers say of the files of the hunt on an input, where a run of them ends as this one does."""
     from cbi_hunt.texts import words_of
     from cbi_port.check import words_of as arguments_of
-    words, data = arguments_of(words_of(hunt.chosen), cbi_files.read_bytes(path))
+    words, data = arguments_of(words_of(hunt.chosen), files.read_bytes(path))
     found = access_of(Files(hunt.chosen.texts, hunt.chosen.cpp, words), data, where)
     # A text of the dialect asks malloc for cells, which gcc takes for bytes: what it stops at there may be no fault of the text.
     same = found is not None and any(word in found.name for word in OF_MEMORY.get(outcome, ("",)))
@@ -221,7 +221,7 @@ def broken_at(hunt: Hunt, path: str, due: Optional[bytes], where: Where) -> Opti
     """Where the run on an input breaks; none where it doesn't, or where nothing says which of its bytes are wrong."""
     plain, repeater = program_for(hunt.chosen, hunt.plan.cbi, hunt.kept, "plain"), Repeater(hunt.plan, hunt.kept.folder, "broke")
     try:
-        ran = Ran(path, repeater.run(plain, path).outcome, cbi_files.read_bytes(repeater.output), due)
+        ran = Ran(path, repeater.run(plain, path).outcome, files.read_bytes(repeater.output), due)
     finally:
         repeater.close()
     found = kind_of(ran)
@@ -250,5 +250,5 @@ def broke_of(hunt: Hunt, example: Optional[Example], where: Where) -> Optional[B
     place = hunt.inputs.names.index(example.name)
     if example.made_from is not None:
         return broken_at(hunt, hunt.kept.path("smallest"), None, where)
-    due = cbi_files.read_bytes(hunt.inputs.expected[place]) if hunt.inputs.expected else None
+    due = files.read_bytes(hunt.inputs.expected[place]) if hunt.inputs.expected else None
     return broken_at(hunt, hunt.inputs.paths[place], due, where)

@@ -5,8 +5,9 @@ import tempfile
 from typing import List, NamedTuple, Optional, Set
 
 from cbi_hunt.kept import Kept
-from cbi_hunted import Sample
-from cbi_runs import Batch, Plan, call_to
+from cbi_hunt.runs import Batch, Plan
+from cbi_show.calls import call_to
+from cbi_show.hunted import Sample
 
 MOST_RUNS = 100000        # of a collection
 MOST_MARKS = 16777216     # site lines of a collection

@@ -4,10 +4,10 @@ import sys
 import time
 from typing import Callable, Dict, List, Optional, Set
 
-import cbi_files
+from cbi_show import files
 from cbi_hunt.collecting import Mark
 from cbi_hunt.kept import Kept
-from cbi_runs import Plan
+from cbi_hunt.runs import Plan
 
 # Seconds between two lines of progress in a file, unless the environment says others; 0 is none.
 MINUTE, OF_PROGRESS = 60, "CBI_PROGRESS"
@@ -33,12 +33,12 @@ class Count:
         self.near: Dict[str, int] = {"fail": 0, "pass": 0, "none": 0, "cut": 0}
 
     def add(self, collection: str) -> None:
-        for head in cbi_files.read_heads(collection):
+        for head in files.read_heads(collection):
             place = self.plan.input_of(head.number)
             run = head._replace(label=self.relabel(place, head.outcome, head.label)) if self.relabel else head
             if head.label == "fail" and run.label == "none":
                 self.aside.add(place)
-            if run.outcome.startswith("ended") and not (self.plan.status and cbi_files.status_of(run.outcome)):
+            if run.outcome.startswith("ended") and not (self.plan.status and files.status_of(run.outcome)):
                 self.labels.setdefault(place, set()).add(head.label)
             self.marks.append(Mark(run.number, run.sites, run.label == "fail"))
             self.cut += run.outcome.startswith("cut")
@@ -48,7 +48,7 @@ class Count:
             if self.plan.is_neighbour(self.plan.input_of(run.number)):
                 self.near[run.label] += 1
                 self.near["cut"] += run.outcome.startswith("cut")
-            self.other_status += run.label == "pass" and cbi_files.status_of(run.outcome) != 0
+            self.other_status += run.label == "pass" and files.status_of(run.outcome) != 0
             if run.label == "pass":
                 self.succeeded_inputs.add(place)
             if run.outcome == "cut turns":

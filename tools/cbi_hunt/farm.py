@@ -10,14 +10,14 @@ import tempfile
 import time
 from typing import Dict, List, Tuple, Union
 
-import cbi_files
-import cbi_runs
-from cbi_files import Fault, count_of
+from cbi_hunt import runs
+from cbi_show import files
 from cbi_hunt.counts import Progress
 from cbi_hunt.kept import Kept
+from cbi_hunt.runs import Batch, Plan
 from cbi_hunt.signals import heed_now, heeded
 from cbi_hunt.slurm import NAME, Slurm
-from cbi_runs import Batch, Plan
+from cbi_show.files import Fault, count_of
 
 
 # A host that has gone is noticed in half a minute, where ssh by itself may wait for hours.
@@ -29,7 +29,7 @@ MOST_TROUBLES = 5
 
 def hosts_of(path: str) -> int:
     """How many hosts a file for --sshloginfile names."""
-    return sum(1 for line in cbi_files.decoded(cbi_files.read_bytes(path)).split("\n") if line.strip() and not line.lstrip().startswith("#"))
+    return sum(1 for line in files.decoded(files.read_bytes(path)).split("\n") if line.strip() and not line.lstrip().startswith("#"))
 
 
 def parallel_words(chosen: argparse.Namespace) -> List[str]:
@@ -116,7 +116,7 @@ def make_on_farm(chosen: argparse.Namespace, plan: Plan, kept: Kept, batches: Li
     farm: Farm = Slurm(chosen) if chosen.farm == NAME else Parallel(chosen)
     with tempfile.TemporaryDirectory(prefix=".cbi-hunt-", dir=home_of_farm()) as folder:
         for batch in batches:
-            cbi_runs.pack(plan._replace(cbi=chosen.cbi), batch, os.path.join(folder, batch.name()))
+            runs.pack(plan._replace(cbi=chosen.cbi), batch, os.path.join(folder, batch.name()))
         left = batches
         while True:
             farm.begin(folder, left)
@@ -174,7 +174,7 @@ def take_over(folder: str, kept: Kept, progress: Progress) -> None:
     """Moves whole collections to the batches, which may be of another file system; one that is still coming has no end yet."""
     for name in [name for name in os.listdir(folder) if re.fullmatch(r"[0-9]+-[0-9]+\.runs", name)]:
         path = os.path.join(folder, name)
-        if not cbi_files.read_bytes(path).endswith(b"end\n"):
+        if not files.read_bytes(path).endswith(b"end\n"):
             continue
         target = os.path.join(kept.batches, name[:-5])
         shutil.copyfile(path, target + ".part")

@@ -2,10 +2,10 @@
 import time
 from typing import List, Optional
 
-from cbi_files import Fault, count_of
 from cbi_hunt.again import Repeater, program_for
 from cbi_hunt.looks import Hunt
-from cbi_runs import asked, oracle_name
+from cbi_hunt.runs import asked, oracle_name
+from cbi_show.files import Fault, count_of
 
 MOST_AGAIN, SECONDS = 40, 5.0   # inputs that are judged again, and how long that may take
 

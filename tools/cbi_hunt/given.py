@@ -5,7 +5,7 @@ import os
 import subprocess
 from typing import Optional, Sequence
 
-from cbi_files import Fault
+from cbi_show.files import Fault
 
 LOOKED = 4096                       # bytes of a text
 ELF = b"\x7fELF"

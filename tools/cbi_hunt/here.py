@@ -8,12 +8,12 @@ import threading
 import time
 from typing import Any, List, Optional
 
-from cbi_files import TROUBLE, Fault
 from cbi_hunt.counts import Progress
 from cbi_hunt.kept import Kept
+from cbi_hunt.lists import runner_of
+from cbi_hunt.runs import Batch, Plan, Runner
 from cbi_hunt.signals import SIGNALS, heed, heed_now, heeded, noted
-from cbi_lists import runner_of
-from cbi_runs import Batch, Plan, Runner
+from cbi_show.files import TROUBLE, Fault
 
 
 RUNNER: Optional[Runner] = None

@@ -5,9 +5,7 @@ import shlex
 import sys
 from typing import List, Optional, Tuple
 
-import cbi_files
-from cbi_bugs import check_lists
-from cbi_files import FOUND, INTERRUPTED, NOTHING, Fault
+from cbi_show import files
 from cbi_hunt.collecting import collect, sample_of
 from cbi_hunt.flaky import flaky_note
 from cbi_hunt.given import check_given
@@ -19,13 +17,16 @@ from cbi_hunt.mutants import add_mutants
 from cbi_hunt.near import add_neighbours, refuse
 from cbi_hunt.oracles import oracle_of
 from cbi_hunt.room import with_room
+from cbi_hunt.runs import Plan
 from cbi_hunt.showing import show
 from cbi_hunt.signals import heed, heed_now, interrupted
 from cbi_hunt.since import Before, make_old, old_words, set_aside
 from cbi_hunt.texts import text_of, transform
 from cbi_hunt.told import keep_failing, notes
 from cbi_hunt.words import arguments
-from cbi_runs import Plan, executable
+from cbi_show.bugs import check_lists
+from cbi_show.calls import executable
+from cbi_show.files import FOUND, INTERRUPTED, NOTHING, Fault
 
 # The rate at which each visit is looked at.
 EVERY = 1
@@ -50,9 +51,9 @@ def plan_of(chosen: argparse.Namespace, kept: Kept, inputs: Inputs, cbi: str) ->
     inputs.expected = outputs or inputs.expected
     plan = plan._replace(own=inputs.own, names=inputs.names, inputs=[os.path.abspath(path) for path in inputs.paths],
                          expected=inputs.expected and [os.path.abspath(path) for path in inputs.expected])
-    kept.settle({"program": cbi_files.read_program(program).identity, "rate": plan.rate, "seed": plan.seed, "turns": plan.turns, "parts": chosen.parts,
+    kept.settle({"program": files.read_program(program).identity, "rate": plan.rate, "seed": plan.seed, "turns": plan.turns, "parts": chosen.parts,
                  "oracle": chosen.oracle or chosen.oracle_shell, "inputs": inputs.digest(), "hangs": chosen.hangs, "status": chosen.status,
-                 "since": cbi_files.read_program(kept.path("since", "program")).identity if before else None})
+                 "since": files.read_program(kept.path("since", "program")).identity if before else None})
     return plan, told, before
 
 

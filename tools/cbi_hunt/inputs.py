@@ -5,8 +5,8 @@ import itertools
 import os
 from typing import Dict, List, Optional, Sequence, Tuple
 
-import cbi_files
-from cbi_files import Fault, count_of
+import cbi_show.files
+from cbi_show.files import Fault, count_of
 
 # What AFL++ leaves in a folder of its own: of the first three the files are inputs, and the rest are no inputs of anyone.
 OF_FUZZERS = ("queue", "crashes", "hangs", ".state", ".synced", ".cur_input")
@@ -50,12 +50,12 @@ class Inputs:
         for name, *paths in zip(self.names, self.paths, *([self.expected] if self.expected else [])):
             whole.update(os.fsencode(name) + b"\0")
             for path in paths:
-                whole.update(hashlib.sha256(cbi_files.read_bytes(path)).digest())
+                whole.update(hashlib.sha256(cbi_show.files.read_bytes(path)).digest())
         return whole.hexdigest()
 
     def has_carriage_returns(self) -> bool:
         """Whether the first expected output has lines that end as on Windows, which no program here writes."""
-        return self.expected is not None and b"\r\n" in cbi_files.read_bytes(self.expected[0])
+        return self.expected is not None and b"\r\n" in cbi_show.files.read_bytes(self.expected[0])
 
 
 def files_of(folder: str) -> Tuple[Dict[str, str], List[str]]:
@@ -119,7 +119,7 @@ def inputs_of_lines(path: str, expect: Optional[str], folder: str) -> Inputs:
 def lines_of(path: str) -> List[bytes]:
     if os.path.isdir(path):
         raise Fault(f"--expect {path} is a folder, and --inputs a file of lines")
-    lines = cbi_files.read_bytes(path).split(b"\n")
+    lines = cbi_show.files.read_bytes(path).split(b"\n")
     return [line + b"\n" for line in (lines[:-1] if lines[-1] == b"" else lines)]
 
 

@@ -9,9 +9,9 @@ import shutil
 import signal
 from typing import Dict, Iterator, List, Optional
 
-from cbi_files import Fault, folder_for_a_while
+from cbi_hunt.runs import Batch
 from cbi_hunt.signals import heed
-from cbi_runs import Batch
+from cbi_show.files import Fault, folder_for_a_while
 
 # How it is told that what a hunt was begun with isn't what it is to go on with, where the values themselves say nothing.
 OTHER = {"program": "another program, or with other schemes", "parts": "another number of parts", "inputs": "other inputs or expected outputs", "oracle": "another oracle, or none",

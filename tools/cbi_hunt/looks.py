@@ -10,21 +10,21 @@ from collections import Counter
 from typing import Counter as Counts
 from typing import List, Optional, Tuple
 
-import cbi_files
+from cbi_show import files
 import cbi_port
-from cbi_answer import Answer, BugShown
-from cbi_files import Program, count_of, status_of
 from cbi_hunt.again import Repeater, for_predicate, program_for
 from cbi_hunt.counts import Count, Told
 from cbi_hunt.inputs import Inputs
 from cbi_hunt.kept import Kept
+from cbi_hunt.runs import Plan, asked, oracle_name
 from cbi_hunt.since import Before
 from cbi_hunt.smaller import Smaller, Wanted
 from cbi_hunt.words import TURNS
-from cbi_hunted import Example, File, Hanging, Sample
-from cbi_runs import Plan, asked, oracle_name
-from cbi_seen import ending_of
-from cbi_wording import Wording
+from cbi_show.answer import Answer, BugShown
+from cbi_show.files import Program, count_of, status_of
+from cbi_show.hunted import Example, File, Hanging, Sample
+from cbi_show.seen import ending_of
+from cbi_show.wording import Wording
 
 TOOLS = os.path.dirname(os.path.dirname(os.path.realpath(__file__)))
 CONTROL = re.compile(r"[\x00-\x1f\x7f]")
@@ -157,7 +157,7 @@ def example_of(hunt: Hunt, runs: List[int], bug: Optional[BugShown], program: Pr
         return None
     place = min(places, key=lambda place: (plan.is_neighbour(place), os.path.getsize(inputs.paths[place]), inputs.names[place]))
     name, path, run = inputs.names[place], inputs.paths[place], places[place]
-    data = cbi_files.read_bytes(path)
+    data = files.read_bytes(path)
     plain, repeater = program_for(hunt.chosen, plan.cbi, hunt.kept, "plain"), Repeater(plan, hunt.kept.folder)
     ended = repeater.run(plain, path).outcome
     outcome, status = ending_of(ended), status_of(ended) if plan.status else 0
@@ -167,9 +167,9 @@ def example_of(hunt: Hunt, runs: List[int], bug: Optional[BugShown], program: Pr
         with open(path, "wb") as file:
             file.write(fewer)
         repeater.run(plain, path)
-    wrote = cbi_files.read_bytes(repeater.output)
+    wrote = files.read_bytes(repeater.output)
     repeater.close()
-    due = cbi_files.read_bytes(inputs.expected[place]) if inputs.expected and fewer is None else None
+    due = files.read_bytes(inputs.expected[place]) if inputs.expected and fewer is None else None
     line, ours, theirs = first_difference(wrote, due) if due is not None else (0, b"", b"")
     shown = data if fewer is None else fewer
     again = command_for(hunt, name, path, shown, fewer is not None)
@@ -204,7 +204,7 @@ def newline_note(hunt: Hunt) -> Optional[str]:
     plain, repeater, found = program_for(hunt.chosen, hunt.plan.cbi, hunt.kept, "plain"), Repeater(hunt.plan, hunt.kept.folder), []
     for place in places:
         repeater.run(plain, inputs.paths[place])
-        wrote, due = cbi_files.read_bytes(repeater.output), cbi_files.read_bytes(inputs.expected[place])
+        wrote, due = files.read_bytes(repeater.output), files.read_bytes(inputs.expected[place])
         if wrote != due and wrote.rstrip(b"\n") == due.rstrip(b"\n") and abs(len(wrote) - len(due)) == 1:
             found.append((inputs.names[place], len(wrote) > len(due)))
     repeater.close()

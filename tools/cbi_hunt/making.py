@@ -7,7 +7,7 @@ from cbi_hunt.counts import Count, Progress, Relabel, counted
 from cbi_hunt.farm import make_on_farm
 from cbi_hunt.here import make_here
 from cbi_hunt.kept import Kept, missing_batches
-from cbi_runs import Plan
+from cbi_hunt.runs import Plan
 
 LEAST_BATCH, MOST_BATCH = 25, 10000
 

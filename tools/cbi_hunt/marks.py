@@ -7,7 +7,7 @@ where it is wanted. What is written is told apart by a byte that the output hasn
 import re
 from typing import Iterator, List, NamedTuple, Optional, Tuple
 
-from cbi_source import Source
+from cbi_show.source import Source
 
 NAME = "cbi_broke"
 TYPES = ("void", "char", "int", "unsigned", "struct")

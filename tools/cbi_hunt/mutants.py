@@ -8,13 +8,13 @@ import random
 import shutil
 from typing import Any, Dict, FrozenSet, List, Optional, Set, Tuple
 
-import cbi_files
-from cbi_files import Fault, count_of
+from cbi_show import files
 from cbi_hunt.again import Repeater, program_for
 from cbi_hunt.counts import Told
 from cbi_hunt.inputs import Inputs
 from cbi_hunt.kept import Kept
-from cbi_runs import Plan
+from cbi_hunt.runs import Plan
+from cbi_show.files import Fault, count_of
 
 TRIES = 30     # for each input that is wanted, at most
 ROUND = 64     # candidates that are made from the same inputs, whatever the number of processors
@@ -143,11 +143,11 @@ def add_mutants(chosen: argparse.Namespace, plan: Plan, kept: Kept, inputs: Inpu
     if inputs.expected:
         raise Fault("--mutate asks for an oracle, or for runs that trap: nothing says what the program should write on an input that is made")
     program = program_for(chosen, plan.cbi, kept, "full")
-    source = hashlib.sha256(cbi_files.read_bytes(program)).hexdigest()
+    source = hashlib.sha256(files.read_bytes(program)).hexdigest()
     made = Made(kept, "made", {"given": inputs.digest(), "program": source, "seed": chosen.seed, "wanted": chosen.mutate, "turns": chosen.turns})
     names, how = made.there()[0], "as an earlier call made them"
     if not names:
-        given = [cbi_files.read_bytes(path) for path in inputs.paths]
+        given = [files.read_bytes(path) for path in inputs.paths]
         maker = Maker(plan, kept, program, jobs)
         pieces, tries = maker.make(given, chosen.mutate, random.Random(f"{chosen.seed} {chosen.mutate}"), Told())
         shutil.rmtree(maker.folder)

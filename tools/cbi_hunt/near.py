@@ -7,17 +7,17 @@ import random
 import shutil
 from typing import Any, Dict, Iterator, List, NamedTuple, Optional, Tuple
 
-import cbi_files
-from cbi_files import Fault, count_of, harmless, status_of
+from cbi_show import files
 from cbi_hunt.again import Again, Repeater, program_for
 from cbi_hunt.changes import digest_of, neighbours
 from cbi_hunt.counts import Told
 from cbi_hunt.inputs import Inputs
 from cbi_hunt.kept import Kept
 from cbi_hunt.mutants import Made
+from cbi_hunt.runs import Plan, judged
 from cbi_hunt.smaller import Smaller, Wanted
-from cbi_runs import Plan, judged
-from cbi_seen import ending_of
+from cbi_show.files import Fault, count_of, harmless, status_of
+from cbi_show.seen import ending_of
 
 TRIES = 10         # for each neighbour that is wanted, at most
 ROUND = 64         # runs that are made from the same numbers, whatever the number of processors
@@ -126,7 +126,7 @@ def add_neighbours(chosen: argparse.Namespace, plan: Plan, kept: Kept, inputs: I
     """Adds neighbours of the smallest failing input; answers what is told of it."""
     refuse(inputs)
     program = program_for(chosen, plan.cbi, kept, "plain")
-    made = Made(kept, "neighbours", {"given": inputs.digest(), "program": cbi_files.read_program(program).identity, "seed": chosen.seed, "wanted": chosen.neighbours, "turns": chosen.turns,
+    made = Made(kept, "neighbours", {"given": inputs.digest(), "program": files.read_program(program).identity, "seed": chosen.seed, "wanted": chosen.neighbours, "turns": chosen.turns,
                                      "oracle": plan.oracle, "hangs": plan.hangs, "status": plan.status})
     names, about = made.there()
     if not names:
@@ -142,9 +142,9 @@ def make_anew(chosen: argparse.Namespace, plan: Plan, kept: Kept, inputs: Inputs
         if found is None:
             return [], {}
         place, end = found
-        data, others = cbi_files.read_bytes(inputs.paths[place]), [cbi_files.read_bytes(path) for path in inputs.paths[:MOST_POOL]]
+        data, others = files.read_bytes(inputs.paths[place]), [files.read_bytes(path) for path in inputs.paths[:MOST_POOL]]
         small, steps = shortened(plan, kept, judge.program, data, end)
-        known = {digest_of(cbi_files.read_bytes(path)) for path in inputs.paths}
+        known = {digest_of(files.read_bytes(path)) for path in inputs.paths}
         tried = itertools.chain([] if digest_of(small) in known else [small], neighbours(small, others, known, random.Random(f"{chosen.seed} near {chosen.neighbours}")))
         near = around(judge, tried, chosen.neighbours, end, Told())
         about = {"of": inputs.names[place], "size": len(data), "smaller": len(small), "steps": steps, "wanted": chosen.neighbours, **near._replace(pieces=[])._asdict()}

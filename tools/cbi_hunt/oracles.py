@@ -4,8 +4,8 @@ import re
 import shlex
 from typing import List, Optional
 
-from cbi_files import Fault
-from cbi_runs import SHELL
+from cbi_hunt.runs import SHELL
+from cbi_show.files import Fault
 
 # What stands in single quotes, or behind a backslash, no shell would look at; in double quotes it looks at `$` and the backquote.
 QUIET = re.compile(r"'[^']*'|\\.")

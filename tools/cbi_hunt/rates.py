@@ -8,9 +8,9 @@ import math
 import statistics
 from typing import List, NamedTuple, Optional, Tuple
 
-import cbi_files
-from cbi_files import count_of
+from cbi_show import files
 from cbi_hunt.looks import Hunt
+from cbi_show.files import count_of
 
 MANY_VISITS = 10 ** 9       # of all runs, from which on a hunt is slow
 MANY_MARKS = 10 ** 6        # site lines of all runs, from which on its memory grows
@@ -42,7 +42,7 @@ class Visits(NamedTuple):
 
 def visits_in(collection: str) -> Optional[Visits]:
     """Of the first runs of a collection in which each visit was looked at."""
-    runs: List[List[int]] = [[sum(counters) for counters in run.sites.values()] for run in itertools.islice(cbi_files.read_collection(collection), LOOKED_AT)]
+    runs: List[List[int]] = [[sum(counters) for counters in run.sites.values()] for run in itertools.islice(files.read_collection(collection), LOOKED_AT)]
     every = [visits for run in runs for visits in run]
     return Visits(sum(every) / len(runs), len(every) / len(runs), statistics.median_low(every)) if every else None
 

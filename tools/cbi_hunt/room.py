@@ -4,8 +4,8 @@ import os
 import shutil
 from typing import Callable
 
-from cbi_files import Fault, count_of
-from cbi_runs import NO_ROOM, NO_SPACE
+from cbi_show.calls import NO_ROOM, NO_SPACE
+from cbi_show.files import Fault, count_of
 
 
 def with_room(chosen: argparse.Namespace, folder: str, hunt: Callable[[], int]) -> int:

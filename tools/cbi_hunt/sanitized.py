@@ -5,8 +5,8 @@ import subprocess
 import tempfile
 from typing import Dict, List, NamedTuple, Optional, Sequence, Tuple
 
-from cbi_broke import Access, Call
-from cbi_where import Where
+from cbi_show.broke import Access, Call
+from cbi_show.where import Where
 
 SECONDS = 10
 CHECKS = ["-O0", "-fsanitize=address,undefined", "-fno-sanitize-recover=all", "-fno-omit-frame-pointer"]

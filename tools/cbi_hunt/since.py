@@ -9,16 +9,16 @@ import difflib
 import os
 from typing import Dict, Iterator, List, NamedTuple, Optional, Tuple
 
-import cbi_files
-from cbi_files import Fault, status_of
+from cbi_show import files
 from cbi_hunt.again import Repeater, program_for
 from cbi_hunt.counts import Count, Told
 from cbi_hunt.inputs import Inputs
 from cbi_hunt.kept import Kept
 from cbi_hunt.making import make_runs
+from cbi_hunt.runs import Plan
 from cbi_hunt.texts import text_of
-from cbi_hunted import Since
-from cbi_runs import Plan
+from cbi_show.files import Fault, status_of
+from cbi_show.hunted import Since
 
 WITH_NAME = ("-I", "-include", "-iquote", "-isystem")
 
@@ -99,7 +99,7 @@ def make_old(chosen: argparse.Namespace, plan: Plan, folder: str, inputs: Inputs
     text_of(old, plan.cbi, kept, inputs)
     own = plan._replace(program=program_for(old, plan.cbi, kept, "plain"), rate=1, parts=(), names=inputs.names, inputs=[os.path.abspath(path) for path in inputs.paths],
                         expected=inputs.expected and [os.path.abspath(path) for path in inputs.expected])
-    kept.settle({"program": cbi_files.read_program(kept.path("program")).identity, "inputs": inputs.digest(), "oracle": chosen.oracle or chosen.oracle_shell, "turns": plan.turns,
+    kept.settle({"program": files.read_program(kept.path("program")).identity, "inputs": inputs.digest(), "oracle": chosen.oracle or chosen.oracle_shell, "turns": plan.turns,
                  "hangs": chosen.hangs, "status": chosen.status})
     count, whole = make_runs(old, own, kept, len(own.inputs))
     if not whole:
@@ -139,8 +139,8 @@ def changed_lines(old: List[str], new: List[str]) -> Dict[str, List[int]]:
     """The lines of the new version that the old one hasn't, file by file, and those before which some were taken out."""
     found: Dict[str, List[int]] = {}
     for before, now in zip(old, new):
-        lines = cbi_files.read_source(now)
-        matcher = difflib.SequenceMatcher(None, cbi_files.read_source(before), lines, autojunk=False)
+        lines = files.read_source(now)
+        matcher = difflib.SequenceMatcher(None, files.read_source(before), lines, autojunk=False)
         spans = [(start, max(end, start + 1)) for tag, _, _, start, end in matcher.get_opcodes() if tag != "equal"]
         found[now] = [line + 1 for start, end in spans for line in range(start, min(end, len(lines)))]
     return found

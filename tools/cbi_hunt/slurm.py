@@ -5,8 +5,8 @@ import shutil
 import subprocess
 from typing import List
 
-from cbi_files import Fault
-from cbi_runs import Batch
+from cbi_hunt.runs import Batch
+from cbi_show.files import Fault
 
 NAME = "slurm"
 MOST_TASKS = 1000  # of an array; a cluster takes 1,001, unless its MaxArraySize says otherwise

@@ -2,12 +2,12 @@
 import os
 from typing import Callable, Dict, List, NamedTuple, Optional, Sequence, Tuple
 
-import cbi_files
-from cbi_files import count_of, status_of
+from cbi_show import files
 from cbi_hunt.again import Again, Repeater
 from cbi_hunt.counts import Told
-from cbi_runs import Plan, judged
-from cbi_seen import ending_of
+from cbi_hunt.runs import Plan, judged
+from cbi_show.files import count_of, status_of
+from cbi_show.seen import ending_of
 
 MOST_STEPS = 3000
 
@@ -90,7 +90,7 @@ class Smaller:
         if old.outcome.startswith("trapped ") or self.plan.hangs and old.outcome == "cut turns" or self.plan.status and status_of(old.outcome):
             return False
         if self.wanted.changed and self.wanted.outcome == "ended":
-            return old.outcome.startswith("ended") and cbi_files.read_bytes(old.output) != cbi_files.read_bytes(run.output)
+            return old.outcome.startswith("ended") and files.read_bytes(old.output) != files.read_bytes(run.output)
         return not (self.plan.oracle and old.outcome.startswith("ended") and judged(self.plan, self.path, old.output, old.outcome) == "fail")
 
     def of(self, data: bytes) -> Optional[bytes]:

@@ -8,12 +8,12 @@ import subprocess
 import sys
 from typing import List, Optional, Union
 
-import cbi_files
-from cbi_files import Fault, Refused, count_of
+from cbi_show import files
 from cbi_hunt.given import gcc_says
 from cbi_hunt.inputs import Inputs
 from cbi_hunt.kept import Kept
-from cbi_runs import call_to
+from cbi_show.calls import call_to
+from cbi_show.files import Fault, Refused, count_of
 
 TOOLS = os.path.dirname(os.path.dirname(os.path.realpath(__file__)))
 DEEP = 20000           # how deep a text of C may nest for the porter
@@ -83,7 +83,7 @@ def lacking(chosen: argparse.Namespace, why: Optional[str], missing: Exception) 
 
 def takes_arguments(chosen: argparse.Namespace) -> bool:
     """Whether `main` has parameters and is given no arguments."""
-    texts = (PIECES.sub(lambda piece: " " if piece[0][0] == "/" else '""', cbi_files.decoded(cbi_files.read_bytes(path))) for path in chosen.texts)
+    texts = (PIECES.sub(lambda piece: " " if piece[0][0] == "/" else '""', files.decoded(files.read_bytes(path))) for path in chosen.texts)
     return chosen.args is None and any(WITH_ARGUMENTS.search(text) for text in texts)
 
 
@@ -94,10 +94,10 @@ def map_beside(text: str, kept: Kept) -> List[str]:
     if not os.path.exists(path):
         return []
     try:
-        lines, _ = cbi_port.read_map(cbi_files.decoded(cbi_files.read_bytes(path)))
+        lines, _ = cbi_port.read_map(files.decoded(files.read_bytes(path)))
     except (ValueError, IndexError):
         return [f"{path} is no map of lines, so lines are those of {text}"]
-    if len(lines) != len(cbi_files.read_bytes(text).splitlines()):
+    if len(lines) != len(files.read_bytes(text).splitlines()):
         return [f"{path} has {count_of(len(lines), 'line')} and the text hasn't, so lines are those of {text}"]
     shutil.copyfile(path, kept.path("source.c.lines"))
     return [f"lines are those that {path} names"]

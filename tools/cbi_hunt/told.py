@@ -4,15 +4,15 @@ import os
 import shutil
 from typing import Iterator, List, Optional
 
-from cbi_files import count_of, harmless
 from cbi_hunt.collecting import MOST_MARKS, MOST_RUNS
 from cbi_hunt.counts import Count
 from cbi_hunt.inputs import MOST_BYTES, Inputs
 from cbi_hunt.looks import Hunt, oracle_note
 from cbi_hunt.near import suggestion
 from cbi_hunt.rates import more_runs, rate_line
-from cbi_hunted import Sample
-from cbi_told import short_name
+from cbi_show.files import count_of, harmless
+from cbi_show.hunted import Sample
+from cbi_show.told import short_name
 
 NO_FAILURE = """\
 No run failed, so there is nothing to compare. What may help:

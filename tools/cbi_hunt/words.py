@@ -3,7 +3,7 @@ import argparse
 import re
 from typing import Callable, List
 
-import cbi_files
+from cbi_show import files
 from cbi_port import for_preprocessor
 
 MOST_NUMBER = 4294967295  # of a run
@@ -74,9 +74,9 @@ def arguments(words: List[str]) -> argparse.Namespace:
     own, cpp = (words[:words.index("--")], words[words.index("--") + 1:]) if "--" in words else (words, [])
     if cpp and not cpp[0].startswith("-"):
         own, cpp = words, []
-    parser = cbi_files.Words(
+    parser = files.Words(
         prog="cbi-hunt", usage="%(prog)s PROG.c [MORE.c ..] --inputs DIR [option ..] [-- option of the preprocessor ..]", description="Hunts bugs: runs a C text on many inputs, and shows where it goes wrong: the facts that go with the failures, bug by bug.",
-        epilog=EXAMPLES + cbi_files.NOT_PROVED, formatter_class=argparse.RawDescriptionHelpFormatter)
+        epilog=EXAMPLES + files.NOT_PROVED, formatter_class=argparse.RawDescriptionHelpFormatter)
     parser.add_argument("texts", metavar="PROG.c", nargs="+", help="the C text; what the dialect of cbi doesn't take, and several files, are ported (docs/PORTING.md)")
     parser.add_argument("-I", action="append", default=[], metavar="DIR", help="a folder of headers; the text is ported")
     parser.add_argument("-D", action="append", default=[], metavar="NAME[=V]", help="a name that is defined; the text is ported")

@@ -4,7 +4,7 @@ import shlex
 import sys
 from typing import List, Optional, Tuple
 
-from cbi_files import NOT_PROVED, TROUBLE, Words
+from cbi_show.files import NOT_PROVED, TROUBLE, Words
 from cbi_port import Missing, Refused, for_preprocessor, port, wraps
 
 ABOUT = """Writes one text of the dialect of cbi that does what the C files do, on their lines; docs/PORTING.md says what it takes.

@@ -1,0 +1,226 @@
+#!/usr/bin/env python3
+"""Looks at checks/wrong_bodies: what is no wrong body is told and fails, in a small repository that is made for it.
+
+    checks/test_wrong_bodies.py [CASE..]
+
+The cases of `Tried` prove two functions of `fractions` some times, and ask for the kit: without it they are skipped.
+"""
+import os
+import shutil
+import subprocess
+import sys
+import tempfile
+import unittest
+from typing import Dict, List, Tuple
+
+sys.dont_write_bytecode = True
+ROOT = os.path.dirname(os.path.dirname(os.path.realpath(__file__)))
+sys.path[:0] = [os.path.join(ROOT, "checks"), os.path.join(ROOT, "house")]
+from bodies_read import Bad, Body, Change, Function, body_of, calls, functions  # noqa: E402
+from bodies_table import differs, write  # noqa: E402
+from bodies_tried import Outcome, Refusal, Try, judge, tries  # noqa: E402
+
+SOURCE = """\
+//! Two functions and a type.
+
+pub struct Two {
+    one: u8,
+}
+
+impl Two {
+    /// The first.
+    #[inline(always)]
+    pub fn first(&self) -> u8
+        ensures { result ≡ self.now.one }
+    {
+        self.one
+    }
+}
+
+impl From<u8> for Two {
+    fn from(one: u8) -> Two {
+        Two { one }
+    }
+}
+
+/// Twice the first.
+pub fn twice(two: &Two) -> u8
+    ensures { result ≡ 2 * two.now.one }
+{
+    two.first() + two.first()
+}
+"""
+
+
+def body(name: str, *refused: str) -> Body:
+    return Body("low", name, (Change("low", "src/lib.rt", "self.one", "1"),), refused, "", False)
+
+
+class Reading(unittest.TestCase):
+    """What a file of a wrong body says."""
+
+    def read(self, text: str) -> Body:
+        with tempfile.TemporaryDirectory() as room:
+            file = os.path.join(room, "a_body.edit")
+            with open(file, "w", encoding="utf-8") as it:
+                it.write(text)
+            return body_of("low", file, False)
+
+    def test_a_body_has_its_changes_and_who_refuses_it(self) -> None:
+        found = self.read("file: src/lib.rt\nold:  a\nnew:  b\ncrate: deep\nfile: specs/D.antt\nold: c\nnew: d\nrefused: first, twice\n")
+        self.assertEqual(found.changes, (Change("low", "src/lib.rt", " a", " b"), Change("deep", "specs/D.antt", "c", "d")))
+        self.assertEqual((found.name, found.refused), ("a_body", ("first", "twice")))
+
+    def test_what_says_too_little_is_bad(self) -> None:
+        for text in ("file: src/lib.rt\nold: a\nnew: b\n", "file: src/lib.rt\nold: a\nnew: a\nrefused: f\n", "file: proofs/A.antt\nold: a\nnew: b\nrefused: f\n",
+                     "refused: f\n", "file: src/../src/lib.rt\nold: a\nnew: b\nrefused: f\n", "whatever\nfile: src/lib.rt\nold: a\nnew: b\nrefused: f\n"):
+            self.assertRaises(Bad, self.read, text)
+
+    def test_functions_have_the_prover_s_paths_and_all_their_lines(self) -> None:
+        found = functions("src/two.rt", SOURCE)
+        self.assertEqual([(it.path, it.first, it.last) for it in found], [("two::Two::first", 1, 14), ("two::TwoFrom::from", 15, 20), ("two::twice", 21, 28)])
+        self.assertEqual(calls(found)["two::twice"], {"two::Two::first"})
+
+
+class Judging(unittest.TestCase):
+    """What the prover's lines come to."""
+
+    def judge(self, said: str, *refused: str) -> Outcome:
+        return judge(Try("low", (body("a_body", *refused),)), functions("src/lib.rt", SOURCE), said, 1)[0]
+
+    def test_a_goal_of_the_function_that_is_false_refuses(self) -> None:
+        said = ("note: src/lib.rt:10:1: it is not proved that what the function ensures holds when it returns (`returns`); the facts known there allow values at which this goal is false\n"
+                "fn low::Two::first: not proved\nonly=1 proved=0\n")
+        self.assertEqual(self.judge(said, "Two::first").refusals[0][:3], ("Two::first", "returns", "values"))
+
+    def test_a_search_that_ends_refuses_and_is_said_to(self) -> None:
+        said = ("note: src/lib.rt:10:1: it is not proved that what the function ensures holds when it returns (`returns`); `search` gave up at one of its limits\n"
+                "fn low::Two::first: no proof: expected answers in ./proofs/Two/first/Answers.antt; `search` did not prove `returns`\nonly=1 proved=0\n")
+        self.assertEqual(self.judge(said, "Two::first").refusals[0].way, "search")
+
+    def test_a_call_of_what_is_not_proved_is_no_refusal(self) -> None:
+        said = "fn low::Two::first: proved\nfn low::twice: not proved: it calls `low::Two::first`, which is not proved\nonly=2 proved=1\n"
+        self.assertIn("no goal of its own", self.judge(said, "twice").fault)
+
+    def test_a_name_that_a_proof_file_misses_is_no_refusal(self) -> None:
+        said = "./proofs/Two/first/Answers.antt:3:9: error: `returns`: `c.one` is not in scope\nfn low::Two::first: not proved\nonly=1 proved=0\n"
+        self.assertIn("only because a proof file names", self.judge(said, "Two::first").fault)
+
+    def test_a_goal_of_a_ring_is_that_of_the_function_it_begins_with(self) -> None:
+        said = ("./proofs/+both/Answers.antt:9:7: error: `twice-returns-in-Some`: as printed, the two types differ only where one has `c.one`\n"
+                "fn low::Two::first: not proved\nfn low::twice: not proved\nonly=2 proved=0\n")
+        self.assertEqual(self.judge(said, "twice").refusals[0][:3], ("twice", "twice-returns-in-Some", "types"))
+        self.assertIn("no goal of its own", self.judge(said, "Two::first").fault)
+
+    def test_another_function_that_breaks_is_told(self) -> None:
+        said = ("note: src/lib.rt:10:1: it is not proved that what the function ensures holds when it returns (`returns`); `search` gave up at one of its limits\n"
+                "fn low::Two::first: not proved\nfn low::twice: proved\nonly=2 proved=1\n")
+        self.assertIn("it breaks Two::first", self.judge(said, "twice").fault)
+
+    def test_what_does_not_compile_is_told(self) -> None:
+        self.assertIn("does not compile", self.judge("error[E0609]: no field `two`\nrattle: stopped\n", "twice").fault)
+
+
+class Grouping(unittest.TestCase):
+    """Which bodies are tried together."""
+
+    def test_bodies_of_functions_that_call_one_another_are_tried_apart(self) -> None:
+        with tempfile.TemporaryDirectory() as room:
+            os.makedirs(os.path.join(room, "crates", "low", "src"))
+            with open(os.path.join(room, "crates", "low", "src", "lib.rt"), "w", encoding="utf-8") as it:
+                it.write(SOURCE)
+            change = {name: (Change("low", "src/lib.rt", old, "1"),) for name, old in (("one", "self.one"), ("two", "two.first() + two.first()"), ("three", "Two { one }"))}
+            every = [Body("low", name, made, (who,), "", False) for (name, made), who in zip(change.items(), ("Two::first", "twice", "TwoFrom::from"))]
+            self.assertEqual([[it.name for it in group.bodies] for group in tries(room, every)], [["one", "three"], ["two"]])
+
+
+class Page(unittest.TestCase):
+    """The page of wrong bodies."""
+
+    def test_what_the_page_has_otherwise_is_told(self) -> None:
+        found = {("low", name): Outcome(name, (Refusal("twice", "returns", "values", ""),), "") for name in ("a_body", "another")}
+        with tempfile.TemporaryDirectory() as room:
+            write(room, [body("a_body", "twice"), body("another", "twice")], found)
+            self.assertEqual(differs(room, [body("a_body", "twice"), body("another", "twice")], found), [])
+            self.assertIn("low/another, and there is no such body", differs(room, [body("a_body", "twice")], found)[0])
+            self.assertIn("low/a_third", differs(room, [body(name, "twice") for name in ("a_body", "another", "a_third")], found)[0])
+            found["low", "another"] = Outcome("another", (Refusal("twice", "overflow", "values", ""),), "")
+            self.assertIn("low/another", differs(room, [body("a_body", "twice"), body("another", "twice")], found)[0])
+
+    def test_what_is_not_tried_keeps_its_line(self) -> None:
+        every = [body("a_body", "twice"), body("another", "twice")]
+        first = {("low", name): Outcome(name, (Refusal("twice", "returns", "values", ""),), "") for name in ("a_body", "another")}
+        again = {("low", "another"): Outcome("another", (Refusal("twice", "overflow", "search", ""),), "")}
+        with tempfile.TemporaryDirectory() as room:
+            write(room, every, first)
+            write(room, every, again)
+            self.assertEqual(differs(room, every, {**first, **again}), [])
+            with open(os.path.join(room, "docs", "reference", "WRONG_BODIES.md"), encoding="utf-8") as it:
+                self.assertTrue(it.read().endswith("\n\n2 bodies: 1 by values, 1 by search.\n"))
+
+    def test_a_line_holds_for_each_open_goal(self) -> None:
+        first, second = Refusal("twice", "returns", "values", ""), Refusal("twice", "overflow", "search", "")
+        for line_of, refusals, others, well in ((second, (first,), (second,), True), (second, (first,), (), False), (first, (first._replace(way="search"),), (), False),
+                                                (second, (second._replace(way="limit"),), (), True), (second, (second._replace(way="values"),), (), True), (second, (first, second), (), False)):
+            with tempfile.TemporaryDirectory() as room:
+                write(room, [body("a_body", "twice")], {("low", "a_body"): Outcome("a_body", (line_of,), "")})
+                found = {("low", "a_body"): Outcome("a_body", refusals, "", others)}
+                self.assertEqual(differs(room, [body("a_body", "twice")], found) == [], well, (line_of, refusals, others))
+
+
+COMPARE = "(left.top * right.bottom).cmp(&(right.top * left.bottom))"
+BODIES: Dict[str, Tuple[str, str, str, str]] = {
+    "right": ("src/fraction.rt", COMPARE, "left.top.cmp(&right.top)", "fraction::compare"),
+    "the_same": ("src/fraction.rt", COMPARE, f"let order = {COMPARE}; order", "fraction::compare"),
+    "no_field": ("src/fraction.rt", COMPARE, "left.tops.cmp(&right.top)", "fraction::compare"),
+    "of_another": ("src/fraction.rt", COMPARE, "left.top.cmp(&right.top)", "logarithm::next_place"),
+    "gone": ("src/fraction.rt", "left.top.is_even()", "true", "fraction::compare"),
+}
+
+
+@unittest.skipUnless(shutil.which("rt"), "the kit isn't here")
+class Tried(unittest.TestCase):
+    """The script, on a crate that stands on no other."""
+
+    def made(self, room: str, names: List[str]) -> None:
+        for part in ("src", "specs", "proofs"):
+            shutil.copytree(os.path.join(ROOT, "crates", "fractions", part), os.path.join(room, "crates", "fractions", part))
+        for name in ("wrong_bodies", "bodies_read.py", "bodies_tried.py", "bodies_table.py"):
+            os.makedirs(os.path.join(room, "checks"), exist_ok=True)
+            shutil.copy2(os.path.join(ROOT, "checks", name), os.path.join(room, "checks", name))
+        os.makedirs(os.path.join(room, "house"))
+        shutil.copy2(os.path.join(ROOT, "house", "house_crates.py"), os.path.join(room, "house"))
+        with open(os.path.join(room, "crates.txt"), "w", encoding="utf-8") as it:
+            it.write("fractions:\n")
+        os.makedirs(os.path.join(room, "wrong_bodies", "fractions"))
+        for name in names:
+            file, old, new, refused = BODIES[name]
+            with open(os.path.join(room, "wrong_bodies", "fractions", name + ".edit"), "w", encoding="utf-8") as it:
+                it.write(f"file: {file}\nold: {old}\nnew: {new}\nrefused: {refused}\n")
+
+    def call(self, room: str, *words: str) -> Tuple[int, str]:
+        ran = subprocess.run([os.path.join(room, "checks", "wrong_bodies"), *words], stdout=subprocess.PIPE, stderr=subprocess.STDOUT, universal_newlines=True,
+                             env=dict(os.environ, XDG_CACHE_HOME=os.path.join(room, "cache")), check=False)
+        return ran.returncode, ran.stdout
+
+    def test_a_wrong_body_is_refused_and_kept(self) -> None:
+        with tempfile.TemporaryDirectory() as room:
+            self.made(room, ["right"])
+            status, said = self.call(room, "--table")
+            self.assertEqual((status, said.splitlines()[-1]), (0, "1 passed, 0 failed"), said)
+            status, said = self.call(room)
+            self.assertEqual((status, said.splitlines()), (0, ["fractions: 1 of 1 refused, as before", "1 passed, 0 failed"]), said)
+            os.remove(os.path.join(room, "wrong_bodies", "fractions", "right.edit"))
+            self.assertIn("there is no such body", self.call(room)[1])
+
+    def test_what_is_no_wrong_body_fails(self) -> None:
+        for name, told in (("the_same", "still proved"), ("no_field", "does not compile"), ("of_another", "still proved"), ("gone", "stands in src/fraction.rt 0 times")):
+            with self.subTest(name), tempfile.TemporaryDirectory() as room:
+                self.made(room, [name])
+                status, said = self.call(room, "fractions")
+                self.assertEqual(status, 1, said)
+                self.assertIn(told, said)
+
+
+if __name__ == "__main__":
+    unittest.main()

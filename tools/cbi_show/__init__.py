@@ -1,0 +1,1 @@
+"""What people are shown of runs, rankings and refusals: formats, lines, words, pages. Not proved."""

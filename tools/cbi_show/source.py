@@ -1,0 +1,262 @@
+"""The C text behind a site: its condition, its call or its assignment, as they stand there. Not proved.
+
+A site knows its token by its place among the tokens (docs/LANGUAGE.md has them). Where the text that is given
+isn't the one that was compiled, the tokens don't fit, and nothing is said of it.
+"""
+import re
+from typing import Dict, List, NamedTuple, Optional
+
+from cbi_show.files import Site, printable_character
+
+PIECE = re.compile(r"""(?P<blank>[\t-\r ]+ | /\*.*?\*/ | //[^\n]*) | (?P<directive>\#[^\n]*) |
+    (?P<token>[A-Za-z_]\w* | \d\w* | '(?:\\.|[^'\\\n])*' | "(?:\\.|[^"\\\n])*" | ->|\+\+|--|<<=|>>=|<<|>>|<=|>=|==|!=|&&|\|\||[-+*/%&^|]=|.)""",
+                   re.DOTALL | re.VERBOSE)
+OPENING, CLOSING = "([{", ")]}"
+ASSIGNMENTS = {"=", "*=", "/=", "%=", "+=", "-=", "<<=", ">>=", "&=", "^=", "|="}
+# Where an operand that is read backwards begins at the latest.
+BEFORE_OPERAND = {",", ";", "?", ":", "return", "else", "do"} | ASSIGNMENTS
+HEADS = {"if", "while", "for", "switch"}
+MOST_TEXT = 60
+# How names begin that the porter gives: to functions of the library, and to those that go through all functions that a pointer may stand for.
+OF_PORT, CALL = "cbi_", "cbi_call_"
+# An expression that may be called as it stands.
+POSTFIX = r"[\w.\[\]]+(->[\w.\[\]]+)*"
+
+
+class Token(NamedTuple):
+    text: str
+    line: int
+    start: int
+    end: int
+
+
+class Fact(NamedTuple):
+    """A predicate in words: `code` is from the text, and `says` what is true of it."""
+    code: str
+    says: str
+
+    def text(self) -> str:
+        return " ".join(part for part in (self.code, self.says) if part)
+
+    def past(self) -> str:
+        return re.sub(r"\bis (true|false)$", r"was \1", self.text())
+
+
+def clipped(text: str, most: int = MOST_TEXT) -> str:
+    return text if len(text) <= most else text[:most - 2] + ".."
+
+
+class Source:
+    """A C text as its tokens."""
+
+    def __init__(self, lines: List[str]):
+        self.text = "\n".join(lines)
+        self.tokens: List[Token] = []
+        line = 1
+        for piece in PIECE.finditer(self.text):
+            if piece["token"]:
+                self.tokens.append(Token(piece["token"], line, piece.start(), piece.end()))
+            line += piece[0].count("\n")
+        self.partner = self.brackets()
+
+    def brackets(self) -> Dict[int, int]:
+        """The other bracket of each one, both ways."""
+        found: Dict[int, int] = {}
+        opened: List[int] = []
+        for place, token in enumerate(self.tokens):
+            if token.text in OPENING:
+                opened.append(place)
+            elif token.text in CLOSING and opened:
+                found[place] = opened.pop()
+                found[found[place]] = place
+        return found
+
+    def word(self, place: int) -> str:
+        return self.tokens[place].text if 0 <= place < len(self.tokens) else ""
+
+    def between(self, first: int, last: int) -> str:
+        """The text from one token to another, on one line and without comments."""
+        if not 0 <= first <= last < len(self.tokens):
+            return ""
+        piece = self.text[self.tokens[first].start:self.tokens[last].end]
+        kept = (found[0] if found["token"] else "" if found["directive"] else " " for found in PIECE.finditer(piece))
+        return re.sub(r"\s+", " ", "".join(kept)).strip()
+
+    def place_of(self, site: Site) -> Optional[int]:
+        """The place of a site's token; none where this isn't the text."""
+        word = self.word(site.token)
+        if not word or self.tokens[site.token].line != site.line:
+            return None
+        if site.scheme == "pairs":
+            fits = word in ASSIGNMENTS or word in ("++", "--")
+        else:
+            fits = word == {"?:": "?"}.get(site.names[0], site.names[0])
+        return site.token if fits else None
+
+    # Pieces of the text
+
+    def inside(self, place: int) -> str:
+        """What stands in the brackets at a place."""
+        return self.between(place + 1, self.partner.get(place, 0) - 1)
+
+    def head(self, place: int) -> str:
+        """A condition with its word: `while (low < high)`, and of a `for` the middle part alone."""
+        word = self.word(place)
+        if word == "do":
+            after = self.end_of_statement(place + 1)
+            return f"do .. while ({self.inside(after + 1)})"
+        if word != "for":
+            return f"{word} ({self.inside(place + 1)})"
+        close, parts = self.partner.get(place + 1, 0), [place + 1]
+        at = place + 2
+        while at < close:
+            if self.word(at) == ";":
+                parts.append(at)
+            at = self.partner[at] + 1 if self.word(at) in OPENING and at in self.partner else at + 1
+        return f"for ({self.between(parts[1] + 1, parts[2] - 1)})" if len(parts) == 3 else ""
+
+    def end_of_statement(self, place: int) -> int:
+        """The place behind a statement."""
+        word = self.word(place)
+        if word == "{":
+            return self.partner.get(place, len(self.tokens)) + 1
+        if word in HEADS:
+            after = self.end_of_statement(self.partner.get(place + 1, len(self.tokens)) + 1)
+            return self.end_of_statement(after + 1) if word == "if" and self.word(after) == "else" else after
+        if word == "do":
+            after = self.end_of_statement(place + 1)
+            return self.partner.get(after + 1, len(self.tokens)) + 2
+        while place < len(self.tokens) and self.word(place) != ";":
+            place = self.partner[place] + 1 if self.word(place) in OPENING and place in self.partner else place + 1
+        return place + 1
+
+    def called_by_pointer(self, place: int) -> str:
+        """The call of a function of the port that stands for one by a pointer, as it was: `cbi_call_1(table[k], a)` is `table[k](a)`."""
+        close = self.partner.get(place + 1, place)
+        comma = place + 2
+        while comma < close and self.word(comma) != ",":
+            comma = self.partner[comma] + 1 if self.word(comma) in OPENING and comma in self.partner else comma + 1
+        function = self.between(place + 2, comma - 1)
+        return f"{function if re.fullmatch(POSTFIX, function) else f'({function})'}({self.between(comma + 1, close - 1)})"
+
+    def callee_of(self, place: int) -> str:
+        """The function that a branch of such a function calls: `if (..) return f(..);` or `if (..) { f(..); return; }`."""
+        at = self.partner.get(place + 1, place) + 1
+        return self.word(at + 1) if self.word(at) in ("return", "{") else ""
+
+    def calls_of(self, name: str) -> List[int]:
+        """The lines on which a function is called: within braces, where no function is declared."""
+        found, depth = [], 0
+        for place, token in enumerate(self.tokens):
+            depth += (token.text == "{") - (token.text == "}")
+            if depth and token.text == name and self.word(place + 1) == "(":
+                found.append(token.line)
+        return found
+
+    def left_of(self, place: int) -> str:
+        """The operand that stands left of `&&`, `||` or `?`."""
+        ends = BEFORE_OPERAND | ({"||"} if self.word(place) == "&&" else set())
+        at = place - 1
+        while at >= 0:
+            word = self.word(at)
+            if word in ends or word in "([{}" or word in HEADS:
+                break
+            if word in ")]":
+                opening = self.partner.get(at, -1)
+                if opening < 0 or self.word(opening - 1) in HEADS:
+                    break
+                at = opening
+            at -= 1
+        return self.between(at + 1, place - 1)
+
+    def assignment(self, place: int) -> str:
+        """The assignment at an operator: `c = getchar()`, `i++`, `--n`."""
+        if self.word(place) in ("++", "--"):
+            after = re.match(r"[A-Za-z_]", self.word(place + 1)) and not re.match(r"[A-Za-z_]", self.word(place - 1))
+            return self.between(place, place + 1) if after else self.between(place - 1, place)
+        at, asked = place + 1, 0
+        while at < len(self.tokens):
+            word = self.word(at)
+            asked += (word == "?") - (word == ":")
+            if word in (",", ";") or word in CLOSING or asked < 0:
+                break
+            at = self.partner[at] + 1 if word in OPENING and at in self.partner else at + 1
+        return self.between(place - 1, at - 1)
+
+    def gives_pointer(self, name: str) -> bool:
+        """Whether a function of the text, or of the library, gives a pointer."""
+        if name == "malloc":
+            return True
+        depth = 0
+        for place, token in enumerate(self.tokens):
+            depth += (token.text == "{") - (token.text == "}")
+            if depth == 0 and token.text == name and self.word(place + 1) == "(":
+                return self.word(place - 1) == "*"
+        return False
+
+    # Facts
+
+    def fact(self, site: Site, text: str) -> Fact:
+        """A predicate of a site in words; `text` is how a ranking has it."""
+        place = self.place_of(site)
+        return plain_fact(site.scheme, text) if place is None else self.fact_at(place, site, text, self)
+
+    def same_word(self, line: int, other: "Source", lines: List[int], place: int) -> Optional[int]:
+        """The place in this text of the word at a place of another one, whose lines were made of this line; none where these have other words of it."""
+        word = other.word(place)
+        ours = [at for at, token in enumerate(self.tokens) if token.line == line and token.text == word]
+        if not ours and word.startswith(OF_PORT):
+            ours = [at for at, token in enumerate(self.tokens) if token.line == line and token.text == word[len(OF_PORT):]]
+        theirs = [at for at, token in enumerate(other.tokens) if token.line in lines and token.text == word]
+        if len(ours) != len(theirs) and word in ASSIGNMENTS:
+            # A port may assign more on a line than the person did: only what is given to the same variable is compared.
+            ours, theirs = ([at for at in found if text.word(at - 1) == other.word(place - 1)] for text, found in ((self, ours), (other, theirs)))
+        return ours[theirs.index(place)] if len(ours) == len(theirs) and place in theirs else None
+
+    def case_on(self, line: int) -> Optional[str]:
+        """The one case of a `switch` that stands on a line."""
+        found = [at for at, token in enumerate(self.tokens) if token.line == line and token.text == "case"]
+        end = next((at for at in range(found[0], len(self.tokens)) if self.word(at) == ":"), None) if len(found) == 1 else None
+        return clipped(self.between(found[0], end - 1)) if end is not None else None
+
+    def fact_at(self, place: int, site: Site, text: str, compiled: "Source") -> Fact:
+        """A predicate in words, of the site that stands at a place; what a function gives is seen in the text that was compiled."""
+        if site.scheme == "branches":
+            return self.branch(place, site.names[0], text.split(" ")[-1])
+        if site.scheme == "returns":
+            call = self.called_by_pointer(place) if self.word(place).startswith(CALL) else self.between(place, self.partner.get(place + 1, place))
+            return Fact(clipped(call), returned(text.split(" ")[-2], compiled.gives_pointer(site.names[0]), site.names[0]))
+        return Fact(with_character("pairs", text), f"after {clipped(self.assignment(place))}")
+
+    def branch(self, place: int, word: str, truth: str) -> Fact:
+        if word in ("&&", "||", "?:"):
+            side = "before ?" if word == "?:" else f"left of {word}"
+            return Fact(clipped(self.left_of(place)), f"({side}) is {truth}")
+        return Fact(clipped(self.head(place) or word), f"is {truth}")
+
+
+def plain_fact(scheme: str, text: str) -> Fact:
+    """A predicate as a ranking has it, where there is no text to look at."""
+    if scheme == "branches":
+        word, truth = text.split(" is ", 1) if " is " in text else (text, "")
+        left = word in ("&&", "||")
+        return Fact(f"what is left of {word}" if left else word, f"is {truth}" if truth else "")
+    return Fact(with_character(scheme, text), "")
+
+
+def with_character(scheme: str, text: str) -> str:
+    """The text of a pair, with the character behind a printable constant: `c == 63 '?'`."""
+    words = text.split(" ")
+    if scheme == "pairs" and len(words) == 3 and words[2].isdigit() and 32 <= int(words[2]) <= 126:
+        return f"{text} {printable_character(int(words[2]))}"
+    return text
+
+
+NUMBERS = {"<": "less than 0", "<=": "0 or less", ">": "more than 0", ">=": "0 or more", "==": "0", "!=": "other than 0"}
+POINTERS = {"<": "less than NULL", "<=": "NULL", ">": "a pointer, not NULL", ">=": "NULL or a pointer", "==": "NULL", "!=": "a pointer, not NULL"}
+
+
+def returned(relation: str, pointer: bool, name: str) -> str:
+    if name == "getchar" and relation in ("<", ">="):
+        return "returned EOF" if relation == "<" else "returned a byte, not EOF"
+    return f"returned {(POINTERS if pointer else NUMBERS)[relation]}"

@@ -1,0 +1,64 @@
+"""Whose a line is: of the C text itself, or of the files that it was ported from. Not proved."""
+import os
+from typing import Dict, FrozenSet, List, NamedTuple, Optional, Tuple
+
+import cbi_show.files
+from cbi_show.files import Fault
+
+
+class Spot(NamedTuple):
+    """A place as a person knows it. Where `added`, the porter wrote it, and the line is one of the text that it made."""
+    file: str
+    line: int
+    added: bool = False
+
+
+class Where(NamedTuple):
+    """The files that are shown, by name, the first one first; of a ported text whose each of its lines is, and which functions the porter added."""
+    main: str
+    files: Dict[str, List[str]]
+    lines: Optional[List[Tuple[str, int, bool]]] = None
+    added: FrozenSet[str] = frozenset()
+
+    def spot(self, line: int, function: str) -> Spot:
+        if self.lines is None:
+            return Spot(self.main, line)
+        file, number, added = self.lines[line - 1] if line <= len(self.lines) else ("", 0, True)
+        return Spot(self.main, line, True) if added or function in self.added else Spot(file, number)
+
+    def text(self, spot: Spot) -> Optional[str]:
+        """The line at a spot; none where it isn't there, or is none of a person's."""
+        lines = self.files.get(spot.file, [])
+        return lines[spot.line - 1] if not spot.added and spot.line <= len(lines) else None
+
+    def named(self, spot: Spot) -> str:
+        """`line 41`, or where there are several files `bank.c:41`."""
+        if spot.added:
+            return "what the port added"
+        return f"line {spot.line}" if len(self.files) < 2 else f"{spot.file}:{spot.line}"
+
+    def at(self, line: int, function: str) -> str:
+        """`line 41, main`."""
+        return f"{self.named(self.spot(line, function))}, {function}"
+
+
+def one_file(name: str, lines: Optional[List[str]]) -> Where:
+    """A text that is shown as it was compiled."""
+    return Where(name, {name: lines} if lines else {})
+
+
+def ported(text: str, map_name: str, folder: str = "") -> Where:
+    """A ported text with the files that its map names, from a folder on; one that isn't there any more is shown without its lines."""
+    from cbi_port import read_map
+    try:
+        lines, added = read_map(cbi_show.files.decoded(cbi_show.files.read_bytes(map_name)))
+    except (ValueError, IndexError):
+        raise Fault(f"{map_name}: no map of lines, as cbi-port writes one")
+    names = list(dict.fromkeys(line.file for line in lines if not line.added))
+    files = {}
+    for name in names:
+        try:
+            files[name] = cbi_show.files.read_source(os.path.join(folder, name))
+        except Fault:
+            files[name] = []
+    return Where(names[0] if names else text, files, [(line.file, line.line, line.added) for line in lines], frozenset(added))
