@@ -157,7 +157,7 @@ class House(unittest.TestCase):
         self.write("crates/top/specs/Top.antt", TOP_SPEC)
         self.write("crates/top/specs/Lib.antt", "pub mod Top\n")
         self.write("docs/ARCHITECTURE.md", PICTURE)
-        for page in ("README.md", "CHANGELOG.md", "CONTRIBUTING.md", "docs/READING.md"):
+        for page in ("README.md", "CHANGELOG.md", "CONTRIBUTING.md", "docs/PROOF.md"):
             self.write(page, "nothing\n")
 
     def tearDown(self) -> None:
@@ -299,7 +299,7 @@ class House(unittest.TestCase):
 
     def test_a_word_of_this_house_is_told_in_a_document(self) -> None:
         for page, text, line in (
-                ("docs/MACHINE.md", "Nine minutes of the clock.\n", "docs/MACHINE.md:of the clock: 1, say wall clock"),
+                ("docs/reference/MACHINE.md", "Nine minutes of the clock.\n", "docs/reference/MACHINE.md:of the clock: 1, say wall clock"),
                 ("docs/reference/COST.md", "Seconds of a processor and\nminutes of\na Processor.\n", "docs/reference/COST.md:of a processor: 2, say CPU seconds, CPU minutes"),
                 ("README.md", "It is reckoned.\n", "README.md:reckoned: 1, say computed, counted"),
                 ("CONTRIBUTING.md", "As it was read\noff.\n", "CONTRIBUTING.md:read off: 1, say measured, taken from"),
@@ -313,7 +313,7 @@ class House(unittest.TestCase):
                 self.write(page, "nothing\n")
 
     def test_the_fields_words_and_longer_ones_are_no_word_of_this_house(self) -> None:
-        self.write("docs/MACHINE.md", "Wall clock; CPU minutes; a clockwork of the clocks; unreckoned; what is due process.\n".replace("what is due", "what isn't due"))
+        self.write("docs/reference/MACHINE.md", "Wall clock; CPU minutes; a clockwork of the clocks; unreckoned; what is due process.\n".replace("what is due", "what isn't due"))
         self.write("checks/more.py", "# reckoned, as the text of a script may say\n")
         self.assertEqual(self.call("checks/house").stdout, "house: 0 new, 0 in all\n")
 
