@@ -4,6 +4,8 @@ and at what editors read of it: tags by Universal Ctags, colours by Vim.
 
     checks/look_at_house.py [CASE..]
 """
+import importlib.machinery
+import importlib.util
 import os
 import shutil
 import subprocess
@@ -435,6 +437,20 @@ class House(unittest.TestCase):
     def test_reading_says_that_a_function_isnt_there(self) -> None:
         ran = self.call("house/reading", "top::nothing")
         self.assertEqual((ran.returncode, ran.stderr), (1, "house/reading: no function top::nothing\n"))
+
+    def test_reading_puts_its_table_into_a_page(self) -> None:
+        """Whatever stood between the two lines goes; a page without them is refused, and one with another table is named."""
+        loader = importlib.machinery.SourceFileLoader("reading", os.path.join(ROOT, "house", "reading"))
+        spec = importlib.util.spec_from_loader("reading", loader)
+        assert spec is not None
+        reading = importlib.util.module_from_spec(spec)
+        loader.exec_module(reading)
+        begin, end = "<!-- made by house/reading --table -->", "<!-- end -->"
+        self.assertEqual(reading.written(f"# A\n{begin}\n| 1 |\n| 2 |\n{end}\n{end}\n", "| 3 |"), f"# A\n{begin}\n| 3 |\n{end}\n{end}\n")
+        with self.assertRaisesRegex(SystemExit, "docs/PROOF.md has no line"):
+            reading.written(f"# A\n{end}\n{begin}\n", "| 3 |")
+        page = reading.read(reading.PAGE)
+        self.assertEqual(reading.written(page, reading.on_page(page)[1]), page)
 
     def test_tags_lead_to_definitions_and_functions(self) -> None:
         said = subprocess.run(["ctags", "--version"], stdout=subprocess.PIPE, text=True).stdout if shutil.which("ctags") else ""
