@@ -13,6 +13,7 @@ import sys
 import tempfile
 import unittest
 
+sys.dont_write_bytecode = True
 ROOT = os.path.dirname(os.path.dirname(os.path.realpath(__file__)))
 
 PICTURE = "# Architecture\n\n### Base\n\n`low`\n\n### Tops\n\n`top`\n"
