@@ -282,6 +282,16 @@ echo "$(wc -l <"$said") ok, 0 not" >>"$said"
         self.assertEqual([line.split("|")[1].strip() for line in table.split("\n")[2:]], ["a debugger, `rr`", "AFL++", "coverage-based ranking (Ochiai)", "sanitizers", "sampler-cc"])
         self.assertTrue(all(len(line.split("|")) == 5 and all(cell.strip() for cell in line.split("|")[1:4]) for line in table.split("\n")[2:]), table)
 
+    def test_the_page_of_a_hunt_is_short_and_names_options_that_are_there(self) -> None:
+        """Each option on it is one that cbi-hunt or cbi-show has."""
+        with open(os.path.join(looking.TOP, "docs", "HUNTING.md"), encoding="utf-8") as file:
+            page = file.read()
+        self.assertLessEqual(len(page.split()), 1500)
+        there = {option for script in ("cbi-hunt", "cbi-show") for option in re.findall(r"(?m)^  (?:-h, )?(--[a-z-]+)", self.call(script, "--help")[0])}
+        named = set(re.findall(r"(?<![\w-])--[a-z]+(?:-[a-z]+)*", page))
+        self.assertGreater(len(named), 20)
+        self.assertEqual(named - there, set())
+
     def test_the_evidence_of_readme_is_that_of_its_page(self) -> None:
         """Three rows, of the faults that were kept back last: the first three numbers of these rows in docs/EVIDENCE.md."""
         tables = []
