@@ -8,6 +8,7 @@ import json
 import os
 import tempfile
 import unittest
+from typing import Any, Dict, Optional
 
 import corpus_listed
 import corpus_results
@@ -91,6 +92,23 @@ class Lists(unittest.TestCase):
         self.assertEqual(ways["chi"], {5: 1.0})
         self.assertEqual(ways["truth"], {5: 1.0})
         self.assertAlmostEqual(ways["reach"][5], 4 / (4 * 7) ** 0.5)
+
+
+class Words(unittest.TestCase):
+    def test_readme_has_three_ways_of_the_faults_that_were_kept_back_last(self) -> None:
+        """Of two faults with ten lines of code each a way is right where its place is five at most. By chance five of ten lines have the one right line of a function in 1/2, each, and all near ones."""
+        def fault(program: str, rows: Optional[int], lines: int, ochiai: float) -> Dict[str, Any]:
+            ways = {"rows 1 10": rows, "card 1 10": 1, "lines 1 10": lines, "Ochiai 10": ochiai}
+            return {"program": program, "right": {"coded": 10, "function": 1, "line": 1, "near": 10}, "ways": {way: {"function": place, "line": place, "near": 5} for way, place in ways.items()}}
+
+        self.assertEqual(corpus_words.headline_in_short([fault("a", None, 5, 5.5), fault("b", 6, 1, 1.5)], 10), """\
+2 faults in 2 programs, 10 runs each, kept back until the tool was made. By chance: 1.0, 1.0, 2.0.
+
+| Among the first five | function | line | within five lines |
+|---|---|---|---|
+| rows of `rank` | 0 | 0 | 2 |
+| `lines` | 2 | 2 | 2 |
+| lines by Ochiai over gcov | 1 | 1 | 2 |""")
 
 
 class Kept(unittest.TestCase):

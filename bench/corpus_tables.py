@@ -391,6 +391,8 @@ def parts(results: Results) -> Dict[str, str]:
     made = {"three": three_at_once(results), "three summed": three_summed(results), "speeds": speeds(results, most), "corpus": corpus_table(),
             "headline": words.headline(opened, kept, new, three_of(results)[1], runs), "decided": words.decided(new, kept, opened, runs),
             "aims": words.aims(new, kept, opened, three_of(results)[1], runs), "new counted": counted(new)}
+    if words.has(new, f"lines 1 {runs}"):
+        made["headline in short"] = words.headline_in_short(new, runs)
     for some, prefix in ((opened, ""), (kept, "kept "), (new, "new ")):
         if some:
             made.update(of_faults(some, runs, most, prefix))

@@ -15,6 +15,7 @@ JUDGED = "lines"
 HEADED = (("rows 1 {}", "rows of `rank`"), ("card 1 {}", "the first card of `cards`"), ("lines 1 {}", "`lines`"),
           ("own-lines 1 {}", "the same as `cbi-hunt` asks for it, without what the port added"), ("bugs 1 {}", "`bugs`, its leaders"),
           ("also 1 {}", "`bugs`, its places as they are printed"), ("Ochiai {}", "lines by Ochiai over gcov"), ("thin-Ochiai {}", "the same, thinned"))
+SHORT = ("rows of `rank`", "`lines`", "lines by Ochiai over gcov")  # what README has of them
 KINDS_OF_PLACE = ("function", "line", "near")
 # What `lines` was to reach: of 24 faults that were kept back before, by a trial of the same definition apart from `cbi`.
 WANTED = (("near", 1, 19), ("near", 5, 19), ("near", 100, 15), ("function", 1, 21))
@@ -68,7 +69,7 @@ def measured(faults: Faults, runs: int) -> str:
 
 
 def headline(opened: Faults, kept: Faults, new: Faults, three: Sequence[Any], runs: int) -> str:
-    """The two made lines of README and a table: of how many faults the first five places are right."""
+    """What docs/EVIDENCE.md begins with: of how many faults the first five places are right, by each way and set."""
     sets = [(some, which) for some, which in ((new, "kept back for `lines` and `bugs`"), (kept, "kept back before"), (opened, "open")) if has(some, f"turns 1 {runs}")]
     rows = [[name] + [str(among(some, form.format(runs), what)) for some, _ in sets for what in KINDS_OF_PLACE]
             for form, name in HEADED if all(has(some, form.format(runs)) for some, _ in sets)]
@@ -82,6 +83,13 @@ def headline(opened: Faults, kept: Faults, new: Faults, three: Sequence[Any], ru
     listed = f", and {len(bugs)} a bug of their own" if all("printed" in fault for fault in every) else ""
     together = f"\n\nOf three faults in one program at once {own} of {len(every)} have a row of their own among the first five{listed}." if every else ""
     return f"{measured([*opened, *kept, *new], runs)}.\n\n{table(head, rows)}{together}"
+
+
+def headline_in_short(new: Faults, runs: int) -> str:
+    """The table of README, of the faults that were kept back last: of how many the first five places are right, by three ways."""
+    rows = [[name] + [str(among(new, form.format(runs), what)) for what in KINDS_OF_PLACE] for form, name in HEADED if name in SHORT and has(new, form.format(runs))]
+    by_lines = ", ".join(by_lines_of_chance(new, what, 5) for what in KINDS_OF_PLACE)
+    return f"{measured(new, runs)}, kept back until the tool was made. By chance: {by_lines}.\n\n{table(['Among the first five', 'function', 'line', 'within five lines'], rows)}"
 
 
 def compared(faults: Faults, way: str, name: str) -> Tuple[int, List[str]]:

@@ -4,6 +4,8 @@ and at what editors read of it: tags by Universal Ctags, colours by Vim.
 
     checks/test_house.py [CASE..]
 """
+import importlib.machinery
+import importlib.util
 import os
 import shutil
 import subprocess
@@ -11,6 +13,7 @@ import sys
 import tempfile
 import unittest
 
+sys.dont_write_bytecode = True
 ROOT = os.path.dirname(os.path.dirname(os.path.realpath(__file__)))
 
 PICTURE = "# Architecture\n\n### Base\n\n`low`\n\n### Tops\n\n`top`\n"
@@ -157,7 +160,7 @@ class House(unittest.TestCase):
         self.write("crates/top/specs/Top.antt", TOP_SPEC)
         self.write("crates/top/specs/Lib.antt", "pub mod Top\n")
         self.write("docs/ARCHITECTURE.md", PICTURE)
-        for page in ("README.md", "CHANGELOG.md", "CONTRIBUTING.md", "docs/READING.md"):
+        for page in ("README.md", "CHANGELOG.md", "CONTRIBUTING.md", "docs/PROOF.md"):
             self.write(page, "nothing\n")
 
     def tearDown(self) -> None:
@@ -299,7 +302,7 @@ class House(unittest.TestCase):
 
     def test_a_word_of_this_house_is_told_in_a_document(self) -> None:
         for page, text, line in (
-                ("docs/MACHINE.md", "Nine minutes of the clock.\n", "docs/MACHINE.md:of the clock: 1, say wall clock"),
+                ("docs/reference/MACHINE.md", "Nine minutes of the clock.\n", "docs/reference/MACHINE.md:of the clock: 1, say wall clock"),
                 ("docs/reference/COST.md", "Seconds of a processor and\nminutes of\na Processor.\n", "docs/reference/COST.md:of a processor: 2, say CPU seconds, CPU minutes"),
                 ("README.md", "It is reckoned.\n", "README.md:reckoned: 1, say computed, counted"),
                 ("CONTRIBUTING.md", "As it was read\noff.\n", "CONTRIBUTING.md:read off: 1, say measured, taken from"),
@@ -313,7 +316,7 @@ class House(unittest.TestCase):
                 self.write(page, "nothing\n")
 
     def test_the_fields_words_and_longer_ones_are_no_word_of_this_house(self) -> None:
-        self.write("docs/MACHINE.md", "Wall clock; CPU minutes; a clockwork of the clocks; unreckoned; what is due process.\n".replace("what is due", "what isn't due"))
+        self.write("docs/reference/MACHINE.md", "Wall clock; CPU minutes; a clockwork of the clocks; unreckoned; what is due process.\n".replace("what is due", "what isn't due"))
         self.write("checks/more.py", "# reckoned, as the text of a script may say\n")
         self.assertEqual(self.call("checks/house").stdout, "house: 0 new, 0 in all\n")
 
@@ -435,6 +438,20 @@ class House(unittest.TestCase):
     def test_reading_says_that_a_function_isnt_there(self) -> None:
         ran = self.call("house/reading", "top::nothing")
         self.assertEqual((ran.returncode, ran.stderr), (1, "house/reading: no function top::nothing\n"))
+
+    def test_reading_puts_its_table_into_a_page(self) -> None:
+        """Whatever stood between the two lines goes; a page without them is refused, and one with another table is named."""
+        loader = importlib.machinery.SourceFileLoader("reading", os.path.join(ROOT, "house", "reading"))
+        spec = importlib.util.spec_from_loader("reading", loader)
+        assert spec is not None
+        reading = importlib.util.module_from_spec(spec)
+        loader.exec_module(reading)
+        begin, end = "<!-- made by house/reading --table -->", "<!-- end -->"
+        self.assertEqual(reading.written(f"# A\n{begin}\n| 1 |\n| 2 |\n{end}\n{end}\n", "| 3 |"), f"# A\n{begin}\n| 3 |\n{end}\n{end}\n")
+        with self.assertRaisesRegex(SystemExit, "docs/PROOF.md has no line"):
+            reading.written(f"# A\n{end}\n{begin}\n", "| 3 |")
+        page = reading.read(reading.PAGE)
+        self.assertEqual(reading.written(page, reading.on_page(page)[1]), page)
 
     def test_tags_lead_to_definitions_and_functions(self) -> None:
         said = subprocess.run(["ctags", "--version"], stdout=subprocess.PIPE, text=True).stdout if shutil.which("ctags") else ""

@@ -29,7 +29,7 @@ class Rates(Hunting):
                 self.assertEqual(unseen * 100 <= (100 - per_cent) * every, enough, (rate, times, per_cent, runs))
 
     def test_the_table_of_the_page_has_these_numbers(self):
-        with open(os.path.join(looking.TOP, "docs", "HUNTING.md"), encoding="utf-8") as file:
+        with open(os.path.join(looking.TOP, "docs", "METHOD.md"), encoding="utf-8") as file:
             rows = [[cell.strip().replace(",", "") for cell in line.strip("|\n").split("|")] for line in file if line.startswith(("| 1 |", "| 100 |", "| 1,000 |"))]
         by_hand = {(rate, times, per_cent): due for rate, times, per_cent, due in RUNS}
         due = [[str(rate), f"{100 / rate:g} %", *(str(by_hand.get((rate, times, per_cent), 1)) for times, per_cent in ((1, 50), (1, 95), (1, 99), (10, 95), (100, 95)))] for rate in (1, 100, 1000)]

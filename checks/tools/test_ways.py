@@ -271,11 +271,37 @@ echo "$(wc -l <"$said") ok, 0 not" >>"$said"
 
     def test_the_first_screen_is_short_and_says_when_to_take_something_else(self):
         with open(os.path.join(looking.TOP, "README.md"), encoding="utf-8") as file:
-            first = file.read().split("\n## What is proved\n")[0]
-        self.assertLess(len(first.split()), 900)
+            whole = file.read()
+        first = whole.split("\n## What is proved\n")[0]
+        self.assertLessEqual(len(first.split()), 520)
+        self.assertLessEqual(len(whole.split()), 700)
         links = re.findall(r"\]\(([^)#]+)[^)]*\)", first)
         self.assertTrue({"docs/hunt.png", "docs/hunt-dark.png", "docs/hunt-phone.png", "docs/hunt-print.png", "docs/hunt.txt"} <= set(links), links)
         self.assertEqual([link for link in links if not os.path.exists(os.path.join(looking.TOP, link))], [])
         table = first.split("\n## When to take something else\n")[1].strip().split("\n\n")[0]
         self.assertEqual([line.split("|")[1].strip() for line in table.split("\n")[2:]], ["a debugger, `rr`", "AFL++", "coverage-based ranking (Ochiai)", "sanitizers", "sampler-cc"])
         self.assertTrue(all(len(line.split("|")) == 5 and all(cell.strip() for cell in line.split("|")[1:4]) for line in table.split("\n")[2:]), table)
+
+    def test_the_page_of_a_hunt_is_short_and_names_options_that_are_there(self) -> None:
+        """Each option on it is one that cbi-hunt or cbi-show has."""
+        with open(os.path.join(looking.TOP, "docs", "HUNTING.md"), encoding="utf-8") as file:
+            page = file.read()
+        self.assertLessEqual(len(page.split()), 1500)
+        there = {option for script in ("cbi-hunt", "cbi-show") for option in re.findall(r"(?m)^  (?:-h, )?(--[a-z-]+)", self.call(script, "--help")[0])}
+        named = set(re.findall(r"(?<![\w-])--[a-z]+(?:-[a-z]+)*", page))
+        self.assertGreater(len(named), 20)
+        self.assertEqual(named - there, set())
+
+    def test_the_evidence_of_readme_is_that_of_its_page(self) -> None:
+        """Three rows, of the faults that were kept back last: the first three numbers of these rows in docs/EVIDENCE.md."""
+        tables = []
+        for page, name in (("README.md", "headline in short"), (os.path.join("docs", "EVIDENCE.md"), "headline")):
+            with open(os.path.join(looking.TOP, page), encoding="utf-8") as file:
+                made = re.findall(rf"<!-- made: {name} -->\n(.*?)<!-- end -->", file.read(), flags=re.DOTALL)
+            self.assertEqual(len(made), 1, page)
+            tables.append({cells[0]: cells[1:4] for cells in ([cell.strip() for cell in line.strip("|").split("|")] for line in made[0].split("\n") if line.startswith("| "))})
+        short, whole = tables
+        self.assertEqual(list(short)[1:], ["rows of `rank`", "`lines`", "lines by Ochiai over gcov"])
+        self.assertEqual([short[name] for name in list(short)[1:]], [whole[name] for name in list(short)[1:]])
+        with open(os.path.join(looking.TOP, "README.md"), encoding="utf-8") as file:
+            self.assertIn(f" By chance: {', '.join(whole['five lines by chance'])}.\n", file.read())

@@ -10,7 +10,7 @@ from cbi_port.program import Program
 from cbi_port.reader import NO_HEADER, PreprocessorFailed, Unit, flags_of, pieces, read
 from cbi_port.system import Named
 
-# What a text of the dialect may have (docs/LANGUAGE.md).
+# What a text of the dialect may have (docs/reference/LANGUAGE.md).
 MOST_TOKENS, MOST_BYTES = 100000, 1048576
 
 

@@ -1,6 +1,6 @@
 """Suspicious lines, and bugs one after another, as `cbi lines` and `cbi bugs` print them: how the two are asked, and how their texts are read. Not proved.
 
-`cbi` counts what stands in them and puts it in order (docs/METHOD.md, 'Suspicious lines and bugs'; docs/FORMATS.md has both texts). Nothing of it is computed here.
+`cbi` counts what stands in them and puts it in order (docs/METHOD.md, 'Suspicious lines and bugs'; docs/reference/FORMATS.md has both texts). Nothing of it is computed here.
 """
 import contextlib
 import os

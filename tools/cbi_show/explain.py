@@ -1,6 +1,6 @@
 """Explains what cbi told: a refusal, with the line of the text and what to write in its place, or a report. Not proved.
 
-The rules are those of docs/LANGUAGE.md, docs/COMMANDS.md and docs/MACHINE.md in short. What a line is refused
+The rules are those of docs/reference/LANGUAGE.md, docs/COMMANDS.md and docs/reference/MACHINE.md in short. What a line is refused
 for is told by `cbi`; which of the things that the dialect leaves out it may be is looked for in the line here.
 """
 import argparse

@@ -1,7 +1,7 @@
 """What cbi-hunt, cbi-show, cbi-explain and cbi-port share: the files of `cbi`, and how a script ends.
 
 Not proved: no promise of `cbi` speaks of these scripts. They read the files that `cbi` writes by their
-forms (docs/FORMATS.md), and call `cbi` for everything that is promised.
+forms (docs/reference/FORMATS.md), and call `cbi` for everything that is promised.
 """
 import argparse
 import csv

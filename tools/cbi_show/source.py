@@ -1,6 +1,6 @@
 """The C text behind a site: its condition, its call or its assignment, as they stand there. Not proved.
 
-A site knows its token by its place among the tokens (docs/LANGUAGE.md has them). Where the text that is given
+A site knows its token by its place among the tokens (docs/reference/LANGUAGE.md has them). Where the text that is given
 isn't the one that was compiled, the tokens don't fit, and nothing is said of it.
 """
 import re
