@@ -276,7 +276,7 @@ echo "$(wc -l <"$said") ok, 0 not" >>"$said"
         self.assertLessEqual(len(first.split()), 520)
         self.assertLessEqual(len(whole.split()), 700)
         links = re.findall(r"\]\(([^)#]+)[^)]*\)", first)
-        self.assertTrue({"docs/hunt.png", "docs/hunt-dark.png", "docs/hunt-phone.png", "docs/hunt-print.png", "docs/hunt.txt"} <= set(links), links)
+        self.assertTrue({"docs/hunt.png", "docs/hunt.txt", "examples/bc/README.md"} <= set(links), links)
         self.assertEqual([link for link in links if not os.path.exists(os.path.join(looking.TOP, link))], [])
         table = first.split("\n## When to take something else\n")[1].strip().split("\n\n")[0]
         self.assertEqual([line.split("|")[1].strip() for line in table.split("\n")[2:]], ["a debugger, `rr`", "AFL++", "coverage-based ranking (Ochiai)", "sanitizers", "sampler-cc"])
@@ -287,6 +287,7 @@ echo "$(wc -l <"$said") ok, 0 not" >>"$said"
         with open(os.path.join(looking.TOP, "docs", "HUNTING.md"), encoding="utf-8") as file:
             page = file.read()
         self.assertLessEqual(len(page.split()), 1500)
+        self.assertTrue(all(f"({name}.png)" in page for name in ("hunt-dark", "hunt-phone", "hunt-print")))
         there = {option for script in ("cbi-hunt", "cbi-show") for option in re.findall(r"(?m)^  (?:-h, )?(--[a-z-]+)", self.call(script, "--help")[0])}
         named = set(re.findall(r"(?<![\w-])--[a-z]+(?:-[a-z]+)*", page))
         self.assertGreater(len(named), 20)
