@@ -1,7 +1,7 @@
 """The table of real bugs."""
 from typing import Any, Dict, List, Optional, Sequence
 
-HEAD = ("Bug", "Shows as", "Lines, tokens, sites", "Inputs that fail", "`bugs`", "`lines`", "`rank`", "Ochiai over gcov", "Sanitizers", "Seconds")
+HEAD = ("Bug", "Shows as", "Lines, tokens, sites", "Inputs that fail", "Hunted: runs, failing", "`bugs`", "`lines`", "`rank`", "Ochiai over gcov", "Sanitizers", "Seconds")
 
 
 def place(value: Optional[float]) -> str:
@@ -30,7 +30,7 @@ def sanitizer(said: Sequence[Any]) -> str:
 def row_of(result: Dict[str, Any]) -> List[str]:
     lists = result["places"]
     return [f"{result['name']} ({result['program']} {result['version']})", result["kind"], f"{result['lines']:,}, {result['tokens']:,}, {result['sites']:,}",
-            share(result["failing"], result["made"]), places(lists["bugs"]), places(lists["lines"]), places(lists["rank"]),
+            share(result["failing"], result["made"]), f"{result['runs']:,}, {result['failed']:,}", places(lists["bugs"]), places(lists["lines"]), places(lists["rank"]),
             places(lists["ochiai"]) if "ochiai" in lists else "not asked", sanitizer(result["sanitizer"]), f"{result['seconds']:.0f}"]
 
 
@@ -42,7 +42,13 @@ def table_of(results: Sequence[Dict[str, Any]]) -> str:
              "Equals of Ochiai stand in an order by chance, and have its mean place. Inputs fail where gcc's build of 32 bits does, with AddressSanitizer unless the bug is a wrong output. "
              "Seconds are CPU seconds of the hunt, from the C files to the screen.")
     notes = "\n".join(f"- **{result['name']}**: {result['what']}. Mended: {result['mended']}. {first_of(result)}" for result in results)
-    return f"{table}\n\n{meant}\n\n{notes}\n"
+    return f"{measured_by(results)}\n\n{table}\n\n{meant}\n\n{notes}\n"
+
+
+def measured_by(results: Sequence[Dict[str, Any]]) -> str:
+    """Which executables made the results."""
+    made = sorted({(result["cbi"], result["executable"][:8]) for result in results})
+    return f"Measured by {' and '.join(f'cbi {version} (executable {digest})' for version, digest in made)}."
 
 
 def first_of(result: Dict[str, Any]) -> str:

@@ -126,6 +126,12 @@ class RealRecords(Case):
             self.assertTrue(set(changed) <= hunted or any(name.endswith(".h") for name in changed), (bug.name, changed))
             self.assertTrue(bug.mended and bug.what and bug.function, bug.name)
 
+    def test_bugs_come_in_the_order_in_which_they_are_named(self):
+        self.assertEqual([bug.name for bug in real.chosen_bugs(["yajl-nul", "dc", "dc-string-end"])], ["yajl-nul", "dc-register-pop", "dc-string-end"])
+        self.assertEqual(real.chosen_bugs([]), real_bug.every_bug())
+        with self.assertRaisesRegex(SystemExit, "there is no bug and no program dcc, yajl-null "):
+            real.chosen_bugs(["yajl-null", "dc", "dcc"])
+
     def test_a_seed_says_which_inputs(self):
         for words in sorted({bug.inputs for bug in real_bug.every_bug() if ".." not in bug.inputs[0]}):
             made = []
@@ -229,9 +235,28 @@ class RealBench(Case):
         out, err = self.call(sys.executable, os.path.join(BENCH, "real.py"), "cjson-insert", "--work", "work", "--sources", "sources", "--executable", looking.CBI)
         self.assertEqual(out, f"cjson-insert: left out: {self.path('sources')} has neither cjson nor cjson_1.7.15-1+deb12u4.dsc\n")
 
+    def test_a_source_package_wants_all_its_files(self):
+        """A package as dpkg-source makes it; without one of its files it is none."""
+        if not shutil.which("dpkg-source"):
+            self.skipTest("there is no dpkg-source here")
+        self.write("made/parity-1/parity.c", PARITY)
+        self.write("made/parity-1/debian/control", "Source: parity\nMaintainer: Nobody <nobody@example.org>\nStandards-Version: 4.6.0\n\nPackage: parity\nArchitecture: any\nDescription: parity\n")
+        self.write("made/parity-1/debian/changelog", "parity (1-1) unstable; urgency=low\n\n  * First.\n\n -- Nobody <nobody@example.org>  Mon, 01 Jan 2024 00:00:00 +0000\n")
+        self.write("made/parity-1/debian/source/format", "3.0 (quilt)\n")
+        subprocess.run(["tar", "caf", "parity_1.orig.tar.gz", "--exclude=debian", "parity-1"], cwd=self.path("made"), check=True)
+        subprocess.run(["dpkg-source", "--build", "parity-1"], cwd=self.path("made"), stdout=subprocess.DEVNULL, stderr=subprocess.DEVNULL, check=True)
+        program = real_bug.Program(name="parity", package="parity", version="1-1", files=("parity.c",))
+        os.makedirs(self.path("work"))
+        sources = real_source.Sources(self.path("work"), self.path("made"))
+        self.assertEqual(self.read(os.path.join(sources.unpacked(program), "parity.c")).decode(), PARITY)
+        os.remove(self.path("made", "parity_1-1.debian.tar.xz"))
+        with self.assertRaisesRegex(real_source.Missing, "has neither parity nor parity_1-1.dsc"):
+            sources.fetched(program)
+
     def test_the_table(self):
         self.assertEqual([real_table.place(value) for value in (None, 3.0, 2.5)], ["-", "3", "2.5"])
         self.assertEqual([real_table.share(*counts) for counts in ((0, 600), (2, 2000), (48, 400), (12, 300))], ["0 of 600", "2 of 2,000 (0.1 %)", "48 of 400 (12 %)", "12 of 300 (4 %)"])
+        self.assertEqual(real_table.measured_by([{"cbi": "0.6.0", "executable": "ef82b664d9ec"}, {"cbi": "0.6.0", "executable": "ef82b664d9ec"}]), "Measured by cbi 0.6.0 (executable ef82b664).")
         self.assertEqual(real_table.sanitizer((0, 10, "", "", 0)), "nothing in 10 failing runs")
         self.assertEqual(real_table.sanitizer((9, 10, "heap-buffer-overflow", "storage.c:186 in more_arrays", 8)), "heap-buffer-overflow, storage.c:186 in more_arrays (8 of 10 failing runs)")
 
