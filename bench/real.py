@@ -1,7 +1,7 @@
 #!/usr/bin/env python3
 """Hunts real bugs of real programs, and makes a table of what came.
 
-    real.py [NAME..] --executable CBI --work FOLDER [--table FILE] [--sources FOLDER] [--jobs N] [--count N] [--others N] [--again] [--list]
+    real.py [NAME..] --executable CBI --work FOLDER [--table FILE] [--page FILE] [--sources FOLDER] [--jobs N] [--count N] [--others N] [--again] [--list]
 
 NAME is a bug or a program; without one all are taken. The sources are Debian's, by apt-get, or from the folder of --sources (PACKAGE/ or PACKAGE_VERSION.dsc). What was measured before is
 taken from the folder of work; --again measures anew. A source or tool that is missing is reported, and the bug left out. The table is written after each bug.
@@ -15,12 +15,13 @@ import time
 from dataclasses import replace
 from typing import Any, Dict, Iterator, List
 
+from pages import fill_in
 from real_bug import Bug, every_bug
 from real_hunt import chosen_runs, hunted, ochiai, places_of, shown
 from real_inputs import made
 from real_native import sanitizers
 from real_source import Missing, Sources
-from real_table import table_of
+from real_table import parts_of, table_of
 
 MOST_SANITIZED = 10   # failing inputs that sanitizers look at
 
@@ -107,6 +108,7 @@ def main() -> int:
     parser.add_argument("--executable", metavar="CBI", default="cbi", help="the executable cbi")
     parser.add_argument("--work", metavar="FOLDER", default="work", help="where all of it stands (work)")
     parser.add_argument("--table", metavar="FILE", help="where the table goes, or else to out")
+    parser.add_argument("--page", metavar="FILE", help="a page into which the table is written, such as docs/EVIDENCE.md")
     parser.add_argument("--sources", metavar="FOLDER", help="takes sources from there, and gets none")
     parser.add_argument("--jobs", metavar="N", type=int, default=1, help="how many runs go on at a time (1)")
     parser.add_argument("--count", metavar="N", type=int, help="makes so many inputs for each bug in place of its record's number")
@@ -125,7 +127,9 @@ def main() -> int:
         if chosen.table:
             with open(chosen.table, "w", encoding="utf-8") as file:
                 file.write(table_of(results))
-    if results and not chosen.table:
+        if chosen.page:
+            fill_in(chosen.page, parts_of(results))
+    if results and not (chosen.table or chosen.page):
         print(table_of(results), end="")
     return 0
 

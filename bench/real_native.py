@@ -80,18 +80,22 @@ class Said(NamedTuple):
     same: int
 
 
+def error_in(said: str) -> Optional[Tuple[str, str]]:
+    """What a sanitizer says, and at which line of which function of the program; none where it says nothing."""
+    error = ERROR.search(said)
+    if not error:
+        return None
+    own = [row for row in stacks_of(said).get("used", []) if not row[1].startswith("/usr/") and "libsanitizer" not in row[1] and "sysdeps" not in row[1]]
+    at = re.search(r"^(\S+?):(\d+):\d+: runtime error", said, re.MULTILINE)
+    place = f"{os.path.basename(own[0][1])}:{own[0][2]} in {own[0][0]}" if own else f"{os.path.basename(at[1])}:{at[2]}" if at else "nowhere"
+    return (error[1] or error[2]).strip(), place
+
+
 def sanitizers(program: Program, source: str, paths: Sequence[str]) -> Said:
     """What gcc's sanitizers say of runs on these inputs."""
     home = built(program, source, "checked", CHECKS)
-    found: Counts[Tuple[str, str]] = Counter()
-    for path in paths:
-        said = ran(home, program, path).stderr.decode("utf-8", "replace")
-        error = ERROR.search(said)
-        if error:
-            own = [row for row in stacks_of(said).get("used", []) if not row[1].startswith("/usr/") and "libsanitizer" not in row[1] and "sysdeps" not in row[1]]
-            at = re.search(r"^(\S+?):(\d+):\d+: runtime error", said, re.MULTILINE)
-            place = f"{os.path.basename(own[0][1])}:{own[0][2]} in {own[0][0]}" if own else f"{os.path.basename(at[1])}:{at[2]}" if at else "nowhere"
-            found[(error[1] or error[2]).strip(), place] += 1
+    errors = [error_in(ran(home, program, path).stderr.decode("utf-8", "replace")) for path in paths]
+    found: Counts[Tuple[str, str]] = Counter(error for error in errors if error)
     (message, place), same = found.most_common(1)[0] if found else (("", ""), 0)
     return Said(sum(found.values()), len(paths), re.sub(r"0x[0-9a-f]+", "..", message), place, same)
 

@@ -12,6 +12,8 @@ from looking import EXAMPLES, TOP, Case
 HERE = os.path.join(EXAMPLES, "bc")
 BENCH = os.path.join(TOP, "bench")
 sys.path.insert(0, BENCH)
+import bc_beside  # noqa: E402
+import pages  # noqa: E402
 import real  # noqa: E402
 import real_bug  # noqa: E402
 import real_hunt  # noqa: E402
@@ -107,6 +109,24 @@ PATCH = """\
 +newer
  six
 """
+
+
+class BesideTheHunt(Case):
+    """bench/bc_beside.py: how a stack of gdb is read, of a program that gcc builds."""
+
+    def test_a_stack_of_gdb(self):
+        if not shutil.which("gcc") or not shutil.which("gdb"):
+            self.skipTest("there is no gcc or no gdb here")
+        self.write("util.c", "#include <stdlib.h>\nvoid lookup(int n)\n{\n    if (n) abort();\n}\nint main(void)\n{\n    lookup(getenv(\"HOME\") != 0);\n    return 0;\n}\n")
+        subprocess.run(["gcc", "-g", "-O0", "-o", self.path("program"), self.path("util.c")], check=True)
+        stack = bc_beside.stack_of(self.path("program"), os.devnull)
+        self.assertEqual([name for name, _ in stack[-2:]], ["lookup", "main"])
+        self.assertTrue(bc_beside.own(stack).endswith(" from lookup (util.c:4) from main (util.c:8)"), stack)
+        self.assertEqual(bc_beside.own([("lookup", "/src/util.c:4"), ("main", "/src/main.c:8")]), "lookup (util.c:4) from main (main.c:8)")
+
+    def test_places_that_equals_share(self):
+        scores = {1: 0.5, 2: 0.5, 3: 0.9, 4: 0.0}
+        self.assertEqual([bc_beside.place_of(scores, line) for line in (3, 1, 2, 4, 5)], ["1", "2 to 3", "2 to 3", "4", "none"])
 
 
 class RealRecords(Case):
@@ -259,6 +279,17 @@ class RealBench(Case):
         self.assertEqual(real_table.measured_by([{"cbi": "0.6.0", "executable": "ef82b664d9ec"}, {"cbi": "0.6.0", "executable": "ef82b664d9ec"}]), "Measured by cbi 0.6.0 (executable ef82b664).")
         self.assertEqual(real_table.sanitizer((0, 10, "", "", 0)), "nothing in 10 failing runs")
         self.assertEqual(real_table.sanitizer((9, 10, "heap-buffer-overflow", "storage.c:186 in more_arrays", 8)), "heap-buffer-overflow, storage.c:186 in more_arrays (8 of 10 failing runs)")
+
+    def test_what_each_list_has_among_its_first_five(self):
+        first = {"places": {"bugs": (1, 1, None, 1), "lines": (5, 6, 9, 10), "rank": (None, None, None, 1), "ochiai": (2.5, 5, 5.5, 80)}}
+        second = {"places": {"bugs": (None, None, None, 0), "lines": (1, 1, 1, 10), "rank": (None, None, None, 0)}}
+        self.assertEqual(real_table.summary_of([first, second]).splitlines()[2:],
+                         ["| `bugs` | 1 of 2 | 1 of 2 | 0 of 2 |", "| `lines` | 2 of 2 | 1 of 2 | 1 of 2 |", "| rows of `rank` | 0 of 2 | 0 of 2 | 0 of 2 |", "| lines by Ochiai over gcov | 1 of 1 | 1 of 1 | 0 of 1 |"])
+
+    def test_a_page_has_its_own_words_and_what_is_made(self):
+        path = self.write("page.md", "Own.\n<!-- made: one -->\nold\n<!-- end -->\nMore.\n<!-- made: two -->\nkept\n<!-- end -->\n")
+        pages.fill_in(path, {"one": "new\nrows", "three": "nowhere"})
+        self.assertEqual(self.read("page.md").decode(), "Own.\n<!-- made: one -->\nnew\nrows\n<!-- end -->\nMore.\n<!-- made: two -->\nkept\n<!-- end -->\n")
 
     def test_places(self):
         bug = self.bug()

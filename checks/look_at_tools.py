@@ -29,7 +29,7 @@ from look_at_neighbours import Changes, Neighbours  # noqa: E402,F401
 from look_at_pages import Pages, Sarif, Style, sound  # noqa: E402,F401
 from look_at_rates import Rates  # noqa: E402,F401
 from look_at_reach import Flows, Reached, Reaches  # noqa: E402,F401
-from look_at_real import Beginnings, RandomPrograms, RealBench, RealRecords  # noqa: E402,F401
+from look_at_real import Beginnings, BesideTheHunt, RandomPrograms, RealBench, RealRecords  # noqa: E402,F401
 from look_at_screens import Screens  # noqa: E402,F401
 from look_at_signals import Signals  # noqa: E402,F401
 from look_at_since import Since  # noqa: E402,F401
