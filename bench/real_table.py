@@ -48,11 +48,21 @@ def parts_of(results: Sequence[Dict[str, Any]]) -> Dict[str, str]:
     meant = ("In the four lists: the place of the first row or line that is in the bug's function, of the first that is at most five lines from its line, and of the first at its line, of how many. "
              "Equals of Ochiai stand in an order by chance, and have its mean place. Inputs fail where gcc's build of 32 bits does, with AddressSanitizer unless the bug is a wrong output. "
              "Seconds are CPU seconds of the hunt, from the C files to the screen.")
-    return {"real bugs": f"{measured_by(results)}\n\n{markdown(HEAD, rows)}\n\n{meant}", "real counted": summary_of(results)}
+    return {"real bugs": f"{measured_by(results)}\n\n{markdown(HEAD, rows)}\n\n{meant}", "real counted": summary_of(results), "real sizes": sizes_of(results)}
 
 
 def markdown(head: Sequence[str], rows: Sequence[Sequence[str]]) -> str:
     return "\n".join("| " + " | ".join(cell.replace("|", "\\|") for cell in row) + " |" for row in [list(head), ["---"] * len(head), *rows])
+
+
+def sizes_of(results: Sequence[Dict[str, Any]]) -> str:
+    """What each program takes of the limits, and a thousand of its lines."""
+    rows = []
+    for result in {result["program"]: result for result in results}.values():
+        lines = result["lines"] / 1000
+        rows.append([f"{result['program']} {result['version']}", f"{result['lines']:,}", f"{result['tokens']:,}", f"{result['tokens'] / lines:,.0f}",
+                     f"{result['sites']:,}{'' if not result.get('schemes') else ' of ' + result['schemes']}", f"{result['sites'] / lines:,.0f}"])
+    return markdown(("Program", "Lines", "Tokens (of 100,000)", "a thousand lines", "Sites (of 65,536)", "a thousand lines"), rows)
 
 
 def summary_of(results: Sequence[Dict[str, Any]]) -> str:

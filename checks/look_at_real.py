@@ -286,6 +286,13 @@ class RealBench(Case):
         self.assertEqual(real_table.summary_of([first, second]).splitlines()[2:],
                          ["| `bugs` | 1 of 2 | 1 of 2 | 0 of 2 |", "| `lines` | 2 of 2 | 1 of 2 | 1 of 2 |", "| rows of `rank` | 0 of 2 | 0 of 2 | 0 of 2 |", "| lines by Ochiai over gcov | 1 of 1 | 1 of 1 | 0 of 1 |"])
 
+    def test_sizes_of_programs(self):
+        """Two bugs of a program have one row."""
+        dc = {"program": "dc", "version": "1", "lines": 2000, "tokens": 44842, "sites": 37125, "schemes": None}
+        lemon = {"program": "lemon", "version": "3", "lines": 4000, "tokens": 81010, "sites": 7702, "schemes": "branches,returns"}
+        self.assertEqual(real_table.sizes_of([{**dc, "lines": 2001}, dc, lemon]).splitlines()[2:],
+                         ["| dc 1 | 2,000 | 44,842 | 22,421 | 37,125 | 18,562 |", "| lemon 3 | 4,000 | 81,010 | 20,252 | 7,702 of branches,returns | 1,926 |"])
+
     def test_a_page_has_its_own_words_and_what_is_made(self):
         path = self.write("page.md", "Own.\n<!-- made: one -->\nold\n<!-- end -->\nMore.\n<!-- made: two -->\nkept\n<!-- end -->\n")
         pages.fill_in(path, {"one": "new\nrows", "three": "nowhere"})
