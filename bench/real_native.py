@@ -53,20 +53,31 @@ def ran(home: str, program: Program, path: str, more: Optional[Dict[str, str]] =
     folder, words = os.path.dirname(home), words_of(program)
     named = next((word for word in words if not word.startswith("-")), None)
     if named or program.driver:
-        folder = home + ".run"
-        shutil.rmtree(folder, ignore_errors=True)
-        os.makedirs(folder)
+        folder = emptied(home + ".run")
     if named:
         shutil.copyfile(path, os.path.join(folder, named))
-    with open(path, "rb") as given:
-        return subprocess.run(["timeout", str(SECONDS), home, *words], cwd=folder, stdin=given, stdout=subprocess.PIPE, stderr=subprocess.PIPE, check=False,
-                              env={**os.environ, **OPTIONS, **(more or {})})
+    with open(path, "rb") as given, subprocess.Popen([home, *words], cwd=folder, stdin=given, stdout=subprocess.PIPE, stderr=subprocess.PIPE,
+                                                     env={**os.environ, **OPTIONS, **(more or {})}) as child:
+        try:
+            out, err = child.communicate(timeout=SECONDS)
+        except subprocess.TimeoutExpired:
+            child.terminate()
+            out, err = child.communicate()
+    return subprocess.CompletedProcess(child.args, child.returncode, out, err)
+
+
+def emptied(folder: str) -> str:
+    """A folder with nothing in it."""
+    if not os.path.isdir(folder) or os.listdir(folder):
+        shutil.rmtree(folder, ignore_errors=True)
+        os.makedirs(folder)
+    return folder
 
 
 def output_of(home: str, program: Program, path: str) -> Output:
     """The status and the output of a run; the status is none where a signal, a sanitizer or the time ended it."""
     done = ran(home, program, path)
-    return (None if done.returncode < 0 or done.returncode in (STOPPED, 124) else done.returncode), done.stdout
+    return (None if done.returncode < 0 or done.returncode == STOPPED else done.returncode), done.stdout
 
 
 # Sanitizers

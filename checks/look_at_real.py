@@ -5,6 +5,7 @@ import re
 import shutil
 import subprocess
 import sys
+import unittest.mock
 
 import looking
 from looking import EXAMPLES, TOP, Case
@@ -17,6 +18,7 @@ import pages  # noqa: E402
 import real  # noqa: E402
 import real_bug  # noqa: E402
 import real_hunt  # noqa: E402
+import real_native  # noqa: E402
 import real_source  # noqa: E402
 import real_table  # noqa: E402
 
@@ -246,6 +248,17 @@ class RealBench(Case):
         self.assertEqual((made.total, made.failing), (40, [f"n{place:02}" for place in (6, 7, 16, 17, 26, 27, 36, 37)]))
         self.assertEqual(sorted(os.listdir(made.inputs)), [f"n{place:02}" for place in (0, 1, 2, 3, 4, 6, 7, 16, 17, 26, 27, 36, 37)])
         self.assertEqual(self.read(os.path.join(made.expected, "n06")), b"even\nodd\n")
+
+    def test_a_run_that_does_not_end_is_ended(self):
+        """By SIGTERM, with what it wrote until then; a run with a driver finds an empty folder."""
+        self.write("wait.c", '#include <stdio.h>\n#include <unistd.h>\nint main(void)\n{\n    printf("%d\\n", fopen("left", "r") != 0);\n    fflush(stdout);\n'
+                   '    fclose(fopen("left", "w"));\n    if (getchar() == \'w\') sleep(60);\n    return 3;\n}\n')
+        if not shutil.which("gcc"):
+            self.skipTest("there is no gcc here")
+        subprocess.run(["gcc", "-o", self.path("wait"), self.path("wait.c")], check=True)
+        program = real_bug.Program(name="wait", package="wait", version="1", files=("wait.c",), driver="wait.c")
+        with unittest.mock.patch.object(real_native, "SECONDS", 0.5):
+            self.assertEqual([real_native.output_of(self.path("wait"), program, self.write("given", text)) for text in ("x", "w", "x")], [(3, b"0\n"), (None, b"0\n"), (3, b"0\n")])
 
     def test_what_is_missing_is_told(self):
         self.write("sources/cjson/README", "")
