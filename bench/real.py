@@ -17,7 +17,7 @@ from typing import Any, Dict, Iterator, List
 
 from pages import fill_in
 from real_bug import Bug, every_bug
-from real_hunt import chosen_runs, hunted, ochiai, places_of, shown
+from real_hunt import chosen_runs, hunted, ochiai, places_of, report_of, shown
 from real_inputs import made
 from real_native import sanitizers
 from real_source import Missing, Sources
@@ -65,7 +65,7 @@ def measured(bug: Bug, sources: Sources, executable: str, jobs: int) -> Dict[str
     failing = [os.path.join(inputs.inputs, name) for name in names[:MOST_SANITIZED]]
     first = came.lists["bugs"][:1]
     return {"name": bug.name, "program": bug.program.name, "version": bug.program.version, "kind": bug.kind, "what": bug.what, "mended": bug.mended,
-            "lines": lines_of_files(os.path.join(broken, bug.program.folder), list(bug.program.files)), "tokens": came.tokens, "sites": came.sites, "schemes": bug.program.schemes, "made": inputs.total,
+            "lines": lines_of_files(os.path.join(broken, bug.program.folder), list(bug.program.files)), "tokens": came.tokens, "sites": came.sites, "schemes": bug.program.schemes, "report": report_of(os.path.join(keep, "runs")), "made": inputs.total,
             "failing": len(inputs.failing), "runs": came.runs, "failed": came.failing, "places": places, "sanitizer": sanitizers(bug.program, broken, failing), "seconds": done.seconds,
             "first": first[0] if first else None, "cbi": came.version, "executable": sum_of(executable)}
 

@@ -100,6 +100,14 @@ def shown(bug: Bug, source: str, keep: str) -> Shown:
                  told.version)
 
 
+def report_of(runs: str) -> Tuple[int, int]:
+    """The bytes and the site lines of a run's report in a collection, on average."""
+    with open(runs, "rb") as file:
+        lines = file.read().split(b"\n")
+    count = sum(line.startswith(b"run ") for line in lines)
+    return os.path.getsize(runs) // max(1, count), sum(line.startswith(b"site ") for line in lines) // max(1, count)
+
+
 def tokens_of(path: str) -> int:
     """The tokens of a ported text, which has neither comments nor strings with blanks that matter."""
     text = cbi_files.decoded(cbi_files.read_bytes(path))

@@ -4,6 +4,7 @@ from typing import Any, Dict, List, Optional, Sequence
 HEAD = ("Bug", "Shows as", "Lines, tokens, sites", "Inputs that fail", "Hunted: runs, failing", "`bugs`", "`lines`", "`rank`", "Ochiai over gcov", "Sanitizers", "Seconds")
 LISTS = (("bugs", "`bugs`"), ("lines", "`lines`"), ("rank", "rows of `rank`"), ("ochiai", "lines by Ochiai over gcov"))
 FIRST = 5   # of each list
+MOST_RUNS, MOST_LINES = 100000, 16777216   # that a collection holds (docs/FORMATS.md)
 
 
 def place(value: Optional[float]) -> str:
@@ -61,8 +62,9 @@ def sizes_of(results: Sequence[Dict[str, Any]]) -> str:
     for result in {result["program"]: result for result in results}.values():
         lines = result["lines"] / 1000
         rows.append([f"{result['program']} {result['version']}", f"{result['lines']:,}", f"{result['tokens']:,}", f"{result['tokens'] / lines:,.0f}",
-                     f"{result['sites']:,}{'' if not result.get('schemes') else ' of ' + result['schemes']}", f"{result['sites'] / lines:,.0f}"])
-    return markdown(("Program", "Lines", "Tokens (of 100,000)", "a thousand lines", "Sites (of 65,536)", "a thousand lines"), rows)
+                     f"{result['sites']:,}{'' if not result.get('schemes') else ' of ' + result['schemes']}", f"{result['sites'] / lines:,.0f}",
+                     f"{result['report'][0] / 1000:,.0f} KB", f"{result['report'][1]:,}", f"{min(MOST_RUNS, MOST_LINES // max(1, result['report'][1])):,}"])
+    return markdown(("Program", "Lines", "Tokens (of 100,000)", "a thousand lines", "Sites (of 65,536)", "a thousand lines", "A run's report at rate 1", "its site lines", "Runs that a collection holds"), rows)
 
 
 def summary_of(results: Sequence[Dict[str, Any]]) -> str:

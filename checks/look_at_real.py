@@ -301,15 +301,19 @@ class RealBench(Case):
 
     def test_sizes_of_programs(self):
         """Two bugs of a program have one row."""
-        dc = {"program": "dc", "version": "1", "lines": 2000, "tokens": 44842, "sites": 37125, "schemes": None}
-        lemon = {"program": "lemon", "version": "3", "lines": 4000, "tokens": 81010, "sites": 7702, "schemes": "branches,returns"}
+        dc = {"program": "dc", "version": "1", "lines": 2000, "tokens": 44842, "sites": 37125, "schemes": None, "report": (198000, 16777)}
+        lemon = {"program": "lemon", "version": "3", "lines": 4000, "tokens": 81010, "sites": 7702, "schemes": "branches,returns", "report": (900, 100)}
         self.assertEqual(real_table.sizes_of([{**dc, "lines": 2001}, dc, lemon]).splitlines()[2:],
-                         ["| dc 1 | 2,000 | 44,842 | 22,421 | 37,125 | 18,562 |", "| lemon 3 | 4,000 | 81,010 | 20,252 | 7,702 of branches,returns | 1,926 |"])
+                         ["| dc 1 | 2,000 | 44,842 | 22,421 | 37,125 | 18,562 | 198 KB | 16,777 | 1,000 |", "| lemon 3 | 4,000 | 81,010 | 20,252 | 7,702 of branches,returns | 1,926 | 1 KB | 100 | 100,000 |"])
 
     def test_a_page_has_its_own_words_and_what_is_made(self):
         path = self.write("page.md", "Own.\n<!-- made: one -->\nold\n<!-- end -->\nMore.\n<!-- made: two -->\nkept\n<!-- end -->\n")
         pages.fill_in(path, {"one": "new\nrows", "three": "nowhere"})
         self.assertEqual(self.read("page.md").decode(), "Own.\n<!-- made: one -->\nnew\nrows\n<!-- end -->\nMore.\n<!-- made: two -->\nkept\n<!-- end -->\n")
+
+    def test_a_report_on_average(self):
+        path = self.write("runs", "cbi-collection 2\nprogram 0\nrun 1 ended 0 label pass work 1 1 1\nsite 3 1 0 0\nsite 5 1 0 0\nrun 2 trapped 6 label fail work 1 1 1\nsite 9 7 0 0\nsite 10 7 0 0\nend\n")
+        self.assertEqual(real_hunt.report_of(path), (os.path.getsize(path) // 2, 2))
 
     def test_places(self):
         bug = self.bug()
