@@ -11,6 +11,7 @@ import corpus_plots
 import corpus_words as words
 from corpus_files import KINDS, NEW_KINDS, read_corpus
 from corpus_words import by_lines_of_chance, capped, percent, table
+from pages import fill_in
 
 Results = Dict[str, Any]
 WITHIN = (("function", 5), ("line", 5), ("near", 1), ("near", 3), ("near", 5), ("near", 10))
@@ -415,14 +416,8 @@ def write_documents(results: Results, paths: Sequence[str]) -> None:
     made, runs = parts(results), shown_count(results)
     opened = faults_of(results, lambda fault: not fault["kept"])
 
-    def fill(found: Any) -> str:
-        return f"<!-- made: {found[1]} -->\n{made.get(found[1], found[2].strip())}\n<!-- end -->"
-
     for path in paths:
-        with open(path, encoding="utf-8") as file:
-            text = file.read()
-        with open(path, "w", encoding="utf-8") as file:
-            file.write(re.sub(r"<!-- made: (.*?) -->\n(.*?)<!-- end -->", fill, text, flags=re.DOTALL))
+        text = fill_in(path, made)
         for name, svg in plots(opened, runs) if opened else []:
             if name in text:
                 with open(os.path.join(os.path.dirname(path), name), "w", encoding="utf-8") as file:

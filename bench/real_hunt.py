@@ -42,7 +42,7 @@ class Row(NamedTuple):
 
 
 class Shown(NamedTuple):
-    """What came of a hunt: runs, failing ones, sites, tokens, the rows of each list, and which runs failed, by the inputs' names."""
+    """What came of a hunt: runs, failing ones, sites, tokens, the rows of each list, which runs failed, by the inputs' names, and the version that hunted."""
     runs: int
     failing: int
     sites: int
@@ -50,6 +50,7 @@ class Shown(NamedTuple):
     lists: Dict[str, List[Row]]
     failed: FrozenSet[str]
     names: List[str]
+    version: str
 
 
 def hunted(bug: Bug, source: str, made: Made, keep: str, executable: str, jobs: int) -> Timed:
@@ -94,7 +95,16 @@ def shown(bug: Bug, source: str, keep: str) -> Shown:
         spot = where.spot(row.line, row.function)
         lists["rank"].append(Row("" if spot.added else spot.file, spot.line, row.function, row.text))
     failed = frozenset(told.names.values())
-    return Shown(answer.failing + answer.successful, answer.failing, len(program.sites), tokens_of(kept("source.c")), lists, failed, sorted(os.listdir(os.path.join(keep, "..", "inputs"))))
+    return Shown(answer.failing + answer.successful, answer.failing, len(program.sites), tokens_of(kept("source.c")), lists, failed, sorted(os.listdir(os.path.join(keep, "..", "inputs"))),
+                 told.version)
+
+
+def report_of(runs: str) -> Tuple[int, int]:
+    """The bytes and the site lines of a run's report in a collection, on average."""
+    with open(runs, "rb") as file:
+        lines = file.read().split(b"\n")
+    count = sum(line.startswith(b"run ") for line in lines)
+    return os.path.getsize(runs) // max(1, count), sum(line.startswith(b"site ") for line in lines) // max(1, count)
 
 
 def tokens_of(path: str) -> int:

@@ -53,20 +53,31 @@ def ran(home: str, program: Program, path: str, more: Optional[Dict[str, str]] =
     folder, words = os.path.dirname(home), words_of(program)
     named = next((word for word in words if not word.startswith("-")), None)
     if named or program.driver:
-        folder = home + ".run"
-        shutil.rmtree(folder, ignore_errors=True)
-        os.makedirs(folder)
+        folder = emptied(home + ".run")
     if named:
         shutil.copyfile(path, os.path.join(folder, named))
-    with open(path, "rb") as given:
-        return subprocess.run(["timeout", str(SECONDS), home, *words], cwd=folder, stdin=given, stdout=subprocess.PIPE, stderr=subprocess.PIPE, check=False,
-                              env={**os.environ, **OPTIONS, **(more or {})})
+    with open(path, "rb") as given, subprocess.Popen([home, *words], cwd=folder, stdin=given, stdout=subprocess.PIPE, stderr=subprocess.PIPE,
+                                                     env={**os.environ, **OPTIONS, **(more or {})}) as child:
+        try:
+            out, err = child.communicate(timeout=SECONDS)
+        except subprocess.TimeoutExpired:
+            child.terminate()
+            out, err = child.communicate()
+    return subprocess.CompletedProcess(child.args, child.returncode, out, err)
+
+
+def emptied(folder: str) -> str:
+    """A folder with nothing in it."""
+    if not os.path.isdir(folder) or os.listdir(folder):
+        shutil.rmtree(folder, ignore_errors=True)
+        os.makedirs(folder)
+    return folder
 
 
 def output_of(home: str, program: Program, path: str) -> Output:
     """The status and the output of a run; the status is none where a signal, a sanitizer or the time ended it."""
     done = ran(home, program, path)
-    return (None if done.returncode < 0 or done.returncode in (STOPPED, 124) else done.returncode), done.stdout
+    return (None if done.returncode < 0 or done.returncode == STOPPED else done.returncode), done.stdout
 
 
 # Sanitizers
@@ -80,18 +91,22 @@ class Said(NamedTuple):
     same: int
 
 
+def error_in(said: str) -> Optional[Tuple[str, str]]:
+    """What a sanitizer says, and at which line of which function of the program; none where it says nothing."""
+    error = ERROR.search(said)
+    if not error:
+        return None
+    own = [row for row in stacks_of(said).get("used", []) if not row[1].startswith("/usr/") and "libsanitizer" not in row[1] and "sysdeps" not in row[1]]
+    at = re.search(r"^(\S+?):(\d+):\d+: runtime error", said, re.MULTILINE)
+    place = f"{os.path.basename(own[0][1])}:{own[0][2]} in {own[0][0]}" if own else f"{os.path.basename(at[1])}:{at[2]}" if at else "nowhere"
+    return (error[1] or error[2]).strip(), place
+
+
 def sanitizers(program: Program, source: str, paths: Sequence[str]) -> Said:
     """What gcc's sanitizers say of runs on these inputs."""
     home = built(program, source, "checked", CHECKS)
-    found: Counts[Tuple[str, str]] = Counter()
-    for path in paths:
-        said = ran(home, program, path).stderr.decode("utf-8", "replace")
-        error = ERROR.search(said)
-        if error:
-            own = [row for row in stacks_of(said).get("used", []) if not row[1].startswith("/usr/") and "libsanitizer" not in row[1] and "sysdeps" not in row[1]]
-            at = re.search(r"^(\S+?):(\d+):\d+: runtime error", said, re.MULTILINE)
-            place = f"{os.path.basename(own[0][1])}:{own[0][2]} in {own[0][0]}" if own else f"{os.path.basename(at[1])}:{at[2]}" if at else "nowhere"
-            found[(error[1] or error[2]).strip(), place] += 1
+    errors = [error_in(ran(home, program, path).stderr.decode("utf-8", "replace")) for path in paths]
+    found: Counts[Tuple[str, str]] = Counter(error for error in errors if error)
     (message, place), same = found.most_common(1)[0] if found else (("", ""), 0)
     return Said(sum(found.values()), len(paths), re.sub(r"0x[0-9a-f]+", "..", message), place, same)
 

@@ -1,6 +1,7 @@
 """Gets the source of a program from Debian, builds it, and puts a bug back."""
 import glob
 import os
+import re
 import shutil
 import subprocess
 from typing import List, Optional, Sequence
@@ -29,6 +30,15 @@ def call(words: Sequence[str], folder: str, why: str) -> None:
         raise Missing(f"{why}: {last}")
 
 
+def is_whole(path: str) -> bool:
+    """Whether a .dsc is there with all files that it names: apt-get leaves one alone where the mirror has no more of a version."""
+    if not os.path.exists(path):
+        return False
+    with open(path, encoding="utf-8") as file:
+        names = re.findall(r"^ [0-9a-f]{64} \d+ (\S+)$", file.read(), re.MULTILINE)
+    return bool(names) and all(os.path.exists(os.path.join(os.path.dirname(path), name)) for name in names)
+
+
 class Sources:
     """The sources below a folder of work. Where `given` is a folder, they are taken from there: from PACKAGE below it, or from PACKAGE_VERSION.dsc."""
 
@@ -52,9 +62,9 @@ class Sources:
     def fetched(self, program: Program) -> str:
         """The .dsc of a package in its version; or its authors' archive, where there is no more of it."""
         named = f"{program.package}_{program.version.split(':')[-1]}.dsc"
-        for folder in [self.given] if self.given else [self.work]:
-            if os.path.exists(os.path.join(folder, named)):
-                return os.path.join(folder, named)
+        there = os.path.join(self.given or self.work, named)
+        if is_whole(there):
+            return there
         if self.given:
             raise Missing(f"{self.given} has neither {program.package} nor {named}")
         need("apt-get", "dpkg-source")
@@ -65,7 +75,7 @@ class Sources:
             if not archives:
                 raise
             return archives[0]
-        return os.path.join(self.work, named)
+        return there
 
     def unpacked(self, program: Program) -> str:
         """The program as the package has it, built, in a folder of its own."""

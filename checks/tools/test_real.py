@@ -5,6 +5,7 @@ import re
 import shutil
 import subprocess
 import sys
+import unittest.mock
 
 import looking
 from looking import EXAMPLES, TOP, Case
@@ -12,9 +13,12 @@ from looking import EXAMPLES, TOP, Case
 HERE = os.path.join(EXAMPLES, "bc")
 BENCH = os.path.join(TOP, "bench")
 sys.path.insert(0, BENCH)
+import bc_beside  # noqa: E402
+import pages  # noqa: E402
 import real  # noqa: E402
 import real_bug  # noqa: E402
 import real_hunt  # noqa: E402
+import real_native  # noqa: E402
 import real_source  # noqa: E402
 import real_table  # noqa: E402
 
@@ -109,6 +113,24 @@ PATCH = """\
 """
 
 
+class BesideTheHunt(Case):
+    """bench/bc_beside.py: how a stack of gdb is read, of a program that gcc builds."""
+
+    def test_a_stack_of_gdb(self):
+        if not shutil.which("gcc") or not shutil.which("gdb"):
+            self.skipTest("there is no gcc or no gdb here")
+        self.write("util.c", "#include <stdlib.h>\nvoid lookup(int n)\n{\n    if (n) abort();\n}\nint main(void)\n{\n    lookup(getenv(\"HOME\") != 0);\n    return 0;\n}\n")
+        subprocess.run(["gcc", "-g", "-O0", "-o", self.path("program"), self.path("util.c")], check=True)
+        stack = bc_beside.stack_of(self.path("program"), os.devnull)
+        self.assertEqual([name for name, _ in stack[-2:]], ["lookup", "main"])
+        self.assertTrue(bc_beside.own(stack).endswith(" from lookup (util.c:4) from main (util.c:8)"), stack)
+        self.assertEqual(bc_beside.own([("lookup", "/src/util.c:4"), ("main", "/src/main.c:8")]), "lookup (util.c:4) from main (main.c:8)")
+
+    def test_places_that_equals_share(self):
+        scores = {1: 0.5, 2: 0.5, 3: 0.9, 4: 0.0}
+        self.assertEqual([bc_beside.place_of(scores, line) for line in (3, 1, 2, 4, 5)], ["1", "2 to 3", "2 to 3", "4", "none"])
+
+
 class RealRecords(Case):
     """The records of bench/real_bugs_*.py, their patches and generators."""
 
@@ -125,6 +147,12 @@ class RealRecords(Case):
             hunted = {os.path.normpath(os.path.join(bug.program.folder, name)) for name in bug.program.files}
             self.assertTrue(set(changed) <= hunted or any(name.endswith(".h") for name in changed), (bug.name, changed))
             self.assertTrue(bug.mended and bug.what and bug.function, bug.name)
+
+    def test_bugs_come_in_the_order_in_which_they_are_named(self):
+        self.assertEqual([bug.name for bug in real.chosen_bugs(["yajl-nul", "dc", "dc-string-end"])], ["yajl-nul", "dc-register-pop", "dc-string-end"])
+        self.assertEqual(real.chosen_bugs([]), real_bug.every_bug())
+        with self.assertRaisesRegex(SystemExit, "there is no bug and no program dcc, yajl-null "):
+            real.chosen_bugs(["yajl-null", "dc", "dcc"])
 
     def test_a_seed_says_which_inputs(self):
         for words in sorted({bug.inputs for bug in real_bug.every_bug() if ".." not in bug.inputs[0]}):
@@ -221,6 +249,17 @@ class RealBench(Case):
         self.assertEqual(sorted(os.listdir(made.inputs)), [f"n{place:02}" for place in (0, 1, 2, 3, 4, 6, 7, 16, 17, 26, 27, 36, 37)])
         self.assertEqual(self.read(os.path.join(made.expected, "n06")), b"even\nodd\n")
 
+    def test_a_run_that_does_not_end_is_ended(self):
+        """By SIGTERM, with what it wrote until then; a run with a driver finds an empty folder."""
+        self.write("wait.c", '#include <stdio.h>\n#include <unistd.h>\nint main(void)\n{\n    printf("%d\\n", fopen("left", "r") != 0);\n    fflush(stdout);\n'
+                   '    fclose(fopen("left", "w"));\n    if (getchar() == \'w\') sleep(60);\n    return 3;\n}\n')
+        if not shutil.which("gcc"):
+            self.skipTest("there is no gcc here")
+        subprocess.run(["gcc", "-o", self.path("wait"), self.path("wait.c")], check=True)
+        program = real_bug.Program(name="wait", package="wait", version="1", files=("wait.c",), driver="wait.c")
+        with unittest.mock.patch.object(real_native, "SECONDS", 0.5):
+            self.assertEqual([real_native.output_of(self.path("wait"), program, self.write("given", text)) for text in ("x", "w", "x")], [(3, b"0\n"), (None, b"0\n"), (3, b"0\n")])
+
     def test_what_is_missing_is_told(self):
         self.write("sources/cjson/README", "")
         out, err = self.call(sys.executable, os.path.join(BENCH, "real.py"), "cjson-insert", "--work", "work", "--sources", "sources", "--executable", looking.CBI)
@@ -229,11 +268,52 @@ class RealBench(Case):
         out, err = self.call(sys.executable, os.path.join(BENCH, "real.py"), "cjson-insert", "--work", "work", "--sources", "sources", "--executable", looking.CBI)
         self.assertEqual(out, f"cjson-insert: left out: {self.path('sources')} has neither cjson nor cjson_1.7.15-1+deb12u4.dsc\n")
 
+    def test_a_source_package_wants_all_its_files(self):
+        """A package as dpkg-source makes it; without one of its files it is none."""
+        if not shutil.which("dpkg-source"):
+            self.skipTest("there is no dpkg-source here")
+        self.write("made/parity-1/parity.c", PARITY)
+        self.write("made/parity-1/debian/control", "Source: parity\nMaintainer: Nobody <nobody@example.org>\nStandards-Version: 4.6.0\n\nPackage: parity\nArchitecture: any\nDescription: parity\n")
+        self.write("made/parity-1/debian/changelog", "parity (1-1) unstable; urgency=low\n\n  * First.\n\n -- Nobody <nobody@example.org>  Mon, 01 Jan 2024 00:00:00 +0000\n")
+        self.write("made/parity-1/debian/source/format", "3.0 (quilt)\n")
+        subprocess.run(["tar", "caf", "parity_1.orig.tar.gz", "--exclude=debian", "parity-1"], cwd=self.path("made"), check=True)
+        subprocess.run(["dpkg-source", "--build", "parity-1"], cwd=self.path("made"), stdout=subprocess.DEVNULL, stderr=subprocess.DEVNULL, check=True)
+        program = real_bug.Program(name="parity", package="parity", version="1-1", files=("parity.c",))
+        os.makedirs(self.path("work"))
+        sources = real_source.Sources(self.path("work"), self.path("made"))
+        self.assertEqual(self.read(os.path.join(sources.unpacked(program), "parity.c")).decode(), PARITY)
+        os.remove(self.path("made", "parity_1-1.debian.tar.xz"))
+        with self.assertRaisesRegex(real_source.Missing, "has neither parity nor parity_1-1.dsc"):
+            sources.fetched(program)
+
     def test_the_table(self):
         self.assertEqual([real_table.place(value) for value in (None, 3.0, 2.5)], ["-", "3", "2.5"])
         self.assertEqual([real_table.share(*counts) for counts in ((0, 600), (2, 2000), (48, 400), (12, 300))], ["0 of 600", "2 of 2,000 (0.1 %)", "48 of 400 (12 %)", "12 of 300 (4 %)"])
+        self.assertEqual(real_table.measured_by([{"cbi": "0.6.0", "executable": "ef82b664d9ec"}, {"cbi": "0.6.0", "executable": "ef82b664d9ec"}]), "Measured by cbi 0.6.0 (executable ef82b664).")
         self.assertEqual(real_table.sanitizer((0, 10, "", "", 0)), "nothing in 10 failing runs")
         self.assertEqual(real_table.sanitizer((9, 10, "heap-buffer-overflow", "storage.c:186 in more_arrays", 8)), "heap-buffer-overflow, storage.c:186 in more_arrays (8 of 10 failing runs)")
+
+    def test_what_each_list_has_among_its_first_five(self):
+        first = {"places": {"bugs": (1, 1, None, 1), "lines": (5, 6, 9, 10), "rank": (None, None, None, 1), "ochiai": (2.5, 5, 5.5, 80)}}
+        second = {"places": {"bugs": (None, None, None, 0), "lines": (1, 1, 1, 10), "rank": (None, None, None, 0)}}
+        self.assertEqual(real_table.summary_of([first, second]).splitlines()[2:],
+                         ["| `bugs` | 1 of 2 | 1 of 2 | 0 of 2 |", "| `lines` | 2 of 2 | 1 of 2 | 1 of 2 |", "| rows of `rank` | 0 of 2 | 0 of 2 | 0 of 2 |", "| lines by Ochiai over gcov | 1 of 1 | 1 of 1 | 0 of 1 |"])
+
+    def test_sizes_of_programs(self):
+        """Two bugs of a program have one row."""
+        dc = {"program": "dc", "version": "1", "lines": 2000, "tokens": 44842, "sites": 37125, "schemes": None, "report": (198000, 16777)}
+        lemon = {"program": "lemon", "version": "3", "lines": 4000, "tokens": 81010, "sites": 7702, "schemes": "branches,returns", "report": (900, 100)}
+        self.assertEqual(real_table.sizes_of([{**dc, "lines": 2001}, dc, lemon]).splitlines()[2:],
+                         ["| dc 1 | 2,000 | 44,842 | 22,421 | 37,125 | 18,562 | 198 KB | 16,777 | 1,000 |", "| lemon 3 | 4,000 | 81,010 | 20,252 | 7,702 of branches,returns | 1,926 | 1 KB | 100 | 100,000 |"])
+
+    def test_a_page_has_its_own_words_and_what_is_made(self):
+        path = self.write("page.md", "Own.\n<!-- made: one -->\nold\n<!-- end -->\nMore.\n<!-- made: two -->\nkept\n<!-- end -->\n")
+        pages.fill_in(path, {"one": "new\nrows", "three": "nowhere"})
+        self.assertEqual(self.read("page.md").decode(), "Own.\n<!-- made: one -->\nnew\nrows\n<!-- end -->\nMore.\n<!-- made: two -->\nkept\n<!-- end -->\n")
+
+    def test_a_report_on_average(self):
+        path = self.write("runs", "cbi-collection 2\nprogram 0\nrun 1 ended 0 label pass work 1 1 1\nsite 3 1 0 0\nsite 5 1 0 0\nrun 2 trapped 6 label fail work 1 1 1\nsite 9 7 0 0\nsite 10 7 0 0\nend\n")
+        self.assertEqual(real_hunt.report_of(path), (os.path.getsize(path) // 2, 2))
 
     def test_places(self):
         bug = self.bug()

@@ -30,7 +30,7 @@ from test_neighbours import Changes, Neighbours  # noqa: E402,F401
 from test_pages import Pages, Sarif, Style, sound  # noqa: E402,F401
 from test_rates import Rates  # noqa: E402,F401
 from test_reach import Flows, Reached, Reaches  # noqa: E402,F401
-from test_real import Beginnings, RandomPrograms, RealBench, RealRecords  # noqa: E402,F401
+from test_real import Beginnings, BesideTheHunt, RandomPrograms, RealBench, RealRecords  # noqa: E402,F401
 from test_screens import Screens  # noqa: E402,F401
 from test_signals import Signals  # noqa: E402,F401
 from test_since import Since  # noqa: E402,F401
