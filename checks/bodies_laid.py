@@ -1,5 +1,6 @@
 """The copy of a crate in which wrong bodies are tried: its proofs are left out but for those of the functions that are looked at."""
 import os
+import re
 import shutil
 from typing import Dict, Iterable, List, Set, Tuple
 
@@ -67,5 +68,7 @@ def offer_nothing(place: str, crate: str, looked_at: Iterable[Function]) -> None
             with open(file, encoding="utf-8") as it:
                 text = it.read()
         goals = ".".join(["Rattle", crate, "proofs", *os.path.relpath(folder, os.path.join(place, "proofs")).split(os.sep), "Goals"])
+        named = re.search(rf"(?m)^use {re.escape(goals)} as (\S+)$", text)
+        name = named[1] if named else NO_GOAL + "s"
         with open(file, "w", encoding="utf-8") as it:
-            it.write(f"use {goals} as goals-that-are-asked\n{text}\n\npub {NO_GOAL} : goals-that-are-asked.{NO_GOAL}\n{NO_GOAL} c = c.{NO_GOAL}\n")
+            it.write(("" if named else f"use {goals} as {name}\n") + f"{text}\n\npub {NO_GOAL} : {name}.{NO_GOAL}\n{NO_GOAL} c = c.{NO_GOAL}\n")

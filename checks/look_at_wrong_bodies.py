@@ -106,6 +106,11 @@ class Judging(unittest.TestCase):
         said = "./proofs/Two/first/Answers.antt:3:9: error: `returns`: `c.one` is not in scope\nfn low::Two::first: not proved\nonly=1 proved=0\n"
         self.assertIn("only because a proof file names", self.judge(said, "Two::first").fault)
 
+    def test_what_is_said_of_an_import_is_no_refusal(self) -> None:
+        said = "./proofs/Two/first/Answers.antt:5:58: error: module `Rattle.low.proofs.Two.first.Goals` is already brought in as `goal`: one name per module in a file\nfn low::Two::first: not proved\nonly=1 proved=0\n"
+        self.assertIn("only because a proof file", self.judge(said, "Two::first").fault)
+        self.assertEqual(self.judge(said, "Two::first").refusals, ())
+
     def test_a_goal_of_a_ring_is_that_of_the_function_it_begins_with(self) -> None:
         said = ("./proofs/+both/Answers.antt:9:7: error: `twice-returns-in-Some`: as printed, the two types differ only where one has `c.one`\n"
                 "fn low::Two::first: not proved\nfn low::twice: not proved\nonly=2 proved=0\n")
@@ -180,7 +185,15 @@ class Laid(unittest.TestCase):
         self.assertEqual(sorted(found), ["Low.antt", "two/Two/first/Proof.antt", "two/TwoFrom/from/Proof.antt", "two/twice/Answers.antt"])
         self.assertNotIn("_spec", found["two/Two/first/Proof.antt"] + found["two/TwoFrom/from/Proof.antt"])
         self.assertIn("\nreturns c = c\n", found["two/twice/Answers.antt"])
-        self.assertEqual(found["two/twice/Answers.antt"].splitlines()[0], "use Rattle.low.proofs.two.twice.Goals as goals-that-are-asked")
+        self.assertIn(f"pub {NO_GOAL} : {NO_GOAL}s.{NO_GOAL}\n", found["two/twice/Answers.antt"])
+        self.assertIn(f"use Rattle.low.proofs.two.twice.Goals as {NO_GOAL}s\n", found["two/twice/Answers.antt"])
+
+    def test_a_file_brings_its_goals_in_once(self) -> None:
+        brought = "use Rattle.low.proofs.two.twice.Goals as goal\n"
+        found = self.laid(SOURCE, ["two::twice"], {"two/twice/Answers.antt": brought})["two/twice/Answers.antt"]
+        self.assertTrue(found.startswith(brought))
+        self.assertEqual(found.count("Goals as"), 1)
+        self.assertIn(f"pub {NO_GOAL} : goal.{NO_GOAL}\n", found)
 
     def test_the_proof_of_a_ring_is_there_or_left_out_as_a_whole(self) -> None:
         source = SOURCE.replace("    #[inline(always)]\n", "    #[cycle(both)]\n").replace("/// Twice", "#[cycle(both)]\n/// Twice")
