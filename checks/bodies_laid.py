@@ -37,13 +37,19 @@ def folder_of(place: str, each: Function) -> str:
     return os.path.join(place, "proofs", below)
 
 
+def is_declared_alone(each: Function) -> bool:
+    """Whether it is a function of a trait that has no body there, and so no proof."""
+    end = re.search(r"(?m)(?:;|\{\}?)$", each.text)
+    return not end or end[0] == ";"
+
+
 def leave_out(place: str, every: Iterable[Function], kept: Set[str]) -> None:
     """Leaves out the proofs of all functions but these. What calls a function rests on its contract alone, so each goal of those that are kept stays as it is."""
     every = list(every)
     rings = {it.ring for it in every if it.path in kept}
     for each in every:
         folder = folder_of(place, each)
-        if each.path in kept or each.ring and (each.ring in rings or not os.path.isdir(folder)):
+        if each.path in kept or is_declared_alone(each) or each.ring and (each.ring in rings or not os.path.isdir(folder)):
             continue
         os.makedirs(folder, exist_ok=True)
         for name in FILES:

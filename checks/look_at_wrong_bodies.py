@@ -188,6 +188,10 @@ class Laid(unittest.TestCase):
         self.assertIn(f"pub {NO_GOAL} : {NO_GOAL}s.{NO_GOAL}\n", found["two/twice/Answers.antt"])
         self.assertIn(f"use Rattle.low.proofs.two.twice.Goals as {NO_GOAL}s\n", found["two/twice/Answers.antt"])
 
+    def test_what_a_trait_declares_has_no_proof(self) -> None:
+        source = SOURCE + "\npub trait Three {\n    fn third(&self) -> u8\n        ensures { result ≡ 3 };\n    fn fourth(&self);\n}\n\npub fn law()\n    ensures { Law }\n{}\n"
+        self.assertEqual(sorted(self.laid(source, ["two::twice"], {})), ["two/Two/first/Proof.antt", "two/TwoFrom/from/Proof.antt", "two/law/Proof.antt", "two/twice/Answers.antt"])
+
     def test_a_file_brings_its_goals_in_once(self) -> None:
         brought = "use Rattle.low.proofs.two.twice.Goals as goal\n"
         found = self.laid(SOURCE, ["two::twice"], {"two/twice/Answers.antt": brought})["two/twice/Answers.antt"]
