@@ -1,4 +1,4 @@
-"""The copy of a crate in which wrong bodies are tried: its proofs are left out but for those of the functions that are looked at."""
+"""The copy of a crate in which wrong bodies are tried: code and proofs are left out but for those of the functions that are looked at."""
 import os
 import re
 import shutil
@@ -43,20 +43,46 @@ def is_declared_alone(each: Function) -> bool:
     return not end or end[0] == ";"
 
 
+def without_code(lines: List[str], each: Function) -> None:
+    """Takes the code out of a function, which keeps its lines, head and contract; one that may be called as the crate is compiled, or whose code says which type it gives, keeps its code."""
+    opened = re.search(r"(?m)\{$", each.text)
+    head = each.text[:opened.start()] if opened else ""
+    last = each.last - 1
+    if not opened or each.ring or "const fn " in head or "-> impl " in head or lines[last].strip() != "}":
+        return
+    first = last - each.text.count("\n") + head.count("\n") + 1
+    if first < last:
+        lines[first:last] = ["loop {}", *[""] * (last - first - 1)]
+
+
 def leave_out(place: str, every: Iterable[Function], kept: Set[str]) -> None:
-    """Leaves out the proofs of all functions but these. What calls a function rests on its contract alone, so each goal of those that are kept stays as it is."""
+    """Leaves out the code and the proofs of all functions but these. What calls a function rests on its contract alone, so each goal of those that are kept stays as it is."""
     every = list(every)
     rings = {it.ring for it in every if it.path in kept}
-    for each in every:
-        folder = folder_of(place, each)
-        if each.path in kept or is_declared_alone(each) or each.ring and (each.ring in rings or not os.path.isdir(folder)):
-            continue
-        os.makedirs(folder, exist_ok=True)
-        for name in FILES:
-            if os.path.isfile(os.path.join(folder, name)):
-                os.remove(os.path.join(folder, name))
-        with open(os.path.join(folder, FILES[0]), "w", encoding="utf-8") as it:
-            it.write("-- This function isn't looked at.\n")
+    left = [it for it in every if it.path not in kept and not is_declared_alone(it) and not (it.ring and it.ring in rings)]
+    for path in sorted({it.file for it in left}):
+        with open(os.path.join(place, path), encoding="utf-8") as it:
+            lines = it.read().split("\n")
+        for each in left:
+            if each.file == path:
+                without_code(lines, each)
+        with open(os.path.join(place, path), "w", encoding="utf-8") as it:
+            it.write("\n".join(lines))
+    for each in left:
+        without_proof(place, each)
+
+
+def without_proof(place: str, each: Function) -> None:
+    """Has a file without a proof stand for that of a function; a ring without a folder of its own keeps the proof that the prover makes."""
+    folder = folder_of(place, each)
+    if each.ring and not os.path.isdir(folder):
+        return
+    os.makedirs(folder, exist_ok=True)
+    for name in FILES:
+        if os.path.isfile(os.path.join(folder, name)):
+            os.remove(os.path.join(folder, name))
+    with open(os.path.join(folder, FILES[0]), "w", encoding="utf-8") as it:
+        it.write("-- This function isn't looked at.\n")
 
 
 def offer_nothing(place: str, crate: str, looked_at: Iterable[Function]) -> None:

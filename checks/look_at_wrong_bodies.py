@@ -160,6 +160,7 @@ class Grouping(unittest.TestCase):
 
 class Laid(unittest.TestCase):
     """The copy in which bodies are tried."""
+    code = ""
 
     def files(self, place: str) -> Dict[str, str]:
         found: Dict[str, str] = {}
@@ -175,10 +176,22 @@ class Laid(unittest.TestCase):
                 os.makedirs(os.path.dirname(os.path.join(room, "proofs", name)), exist_ok=True)
                 with open(os.path.join(room, "proofs", name), "w", encoding="utf-8") as it:
                     it.write(text)
+            os.makedirs(os.path.join(room, "src"))
+            with open(os.path.join(room, "src", "two.rt"), "w", encoding="utf-8") as it:
+                it.write(source)
             every = functions("src/two.rt", source)
             leave_out(room, every, set(kept))
             offer_nothing(room, "low", [it for it in every if it.path in kept])
+            self.code = self.files(os.path.join(room, "src"))["two.rt"]
             return self.files(os.path.join(room, "proofs"))
+
+    def test_the_code_of_what_is_looked_at_is_all_there_and_no_other(self) -> None:
+        source = SOURCE + "\nconst fn fixed() -> u8 {\n    4\n}\n\nfn over() -> impl Iterator<Item = u8> {\n    make()\n}\n\npub trait Three {\n    fn third(&self) -> u8\n        ensures { result ≡ 3 };\n}\n"
+        self.laid(source, ["two::twice"], {})
+        wanted = source.replace("        self.one\n", "loop {}\n").replace("        Two { one }\n", "loop {}\n")
+        self.assertEqual(self.code, wanted)
+        self.laid(SOURCE.replace("        self.one\n", "        let one = self.one;\n\n        one\n"), ["two::twice"], {})
+        self.assertIn("{\nloop {}\n\n\n    }\n", self.code)
 
     def test_the_proofs_of_what_is_looked_at_are_all_there_and_no_other(self) -> None:
         found = self.laid(SOURCE, ["two::twice"], {"two/twice/Answers.antt": "returns c = c\n", "two/Two/first/Answers.antt": "", "two/Two/first/Invariants.antt": "", "Low.antt": "law"})
