@@ -1,12 +1,13 @@
 """Wrong bodies as they stand in the repository: files of changes, each to be refused by the contract of a function that it names."""
 import os
 import re
-from typing import Dict, Iterable, List, NamedTuple, Optional, Set, Tuple
+from typing import Dict, List, NamedTuple, Optional, Set, Tuple
 
 PARTS = ("src", "specs", "proofs")
 # How `rt fmt` lays code out: items at the margin, methods one level in.
 FUNCTION = re.compile(r"(?P<margin> *)(?:pub(?:\([a-z]+\))? )?(?:const )?(?:unsafe )?(?:extern \"C\" )?fn (?P<name>\w+)")
 TYPE = re.compile(r"(?m)^(?:pub(?:\([a-z]+\))? )?(?:struct|enum) (\w+)")
+RING = re.compile(r"#\[cycle\((\w+)\)\]")
 BLOCK = re.compile(r"(?:unsafe )?(?:impl(?:<.*?>)? (?:(?:\w+::)*(?P<of>\w+)(?:<.*>)? for )?|(?:pub(?:\([a-z]+\))? )?trait )(?P<name>\w+)")
 
 
@@ -29,12 +30,13 @@ class Body(NamedTuple):
 
 
 class Function(NamedTuple):
-    """A function of a crate: its path below the crate as the prover writes it, its file, and its lines, from what stands behind the function before to its last."""
+    """A function of a crate: its path below the crate as the prover writes it, its file, and its lines, from what stands behind the function before to its last; and its ring, of functions that call one another."""
     path: str
     file: str
     first: int
     last: int
     text: str
+    ring: str = ""
 
 
 class Bad(Exception):
@@ -136,7 +138,9 @@ def functions(path: str, text: str) -> List[Function]:
     for (first, name, margin), (behind, _, _) in zip(starts, [*starts[1:], (len(lines) + 1, "", 0)]):
         ends = [at for at in range(first, behind) if lines[at - 1] == " " * margin + "}" or lines[at - 1].endswith(";") and at == first]
         last = ends[0] if ends else behind - 1
-        made.append(Function(name, path, made[-1].last + 1 if made else 1, last, "\n".join(lines[first - 1:last])))
+        start = made[-1].last + 1 if made else 1
+        ring = RING.search("\n".join(lines[start - 1:first - 1]))
+        made.append(Function(name, path, start, last, "\n".join(lines[first - 1:last]), ring[1] if ring else ""))
     return made
 
 
@@ -166,21 +170,3 @@ def is_named(path: str, name: str) -> bool:
     """Whether a function's path is this name, or ends with it."""
     return path == name or path.endswith("::" + name)
 
-
-def calls(every: Iterable[Function]) -> Dict[str, Set[str]]:
-    """For each function those of the crate that it can come to, by the names that stand in its text: rather too many than too few."""
-    every = list(every)
-    by_name: Dict[str, List[str]] = {}
-    for each in every:
-        by_name.setdefault(each.path.split("::")[-1], []).append(each.path)
-    near = {each.path: {path for word in set(re.findall(r"\b([a-z]\w*)(?:::<[^()]*>)?\(", re.sub(r"//.*", "", each.text))) for path in by_name.get(word, ()) if path != each.path}
-            for each in every}
-    reached = {}
-    for path in near:
-        found, left = set(), [path]  # type: Tuple[Set[str], List[str]]
-        while left:
-            new = near.get(left.pop(), set()) - found
-            found |= new
-            left += new
-        reached[path] = found
-    return reached

@@ -1,4 +1,4 @@
-"""Tries of wrong bodies: all bodies of a crate that stand in functions of which none calls another, in one copy and one check of these functions."""
+"""Tries of wrong bodies: all bodies of a crate that stand in functions whose proofs are apart, in one copy and one check of these functions."""
 import hashlib
 import json
 import os
@@ -8,12 +8,12 @@ import subprocess
 import tempfile
 from typing import Dict, List, NamedTuple, Optional, Set, Tuple
 
-from bodies_read import PARTS, Bad, Body, Function, apply, calls, crate_functions, is_named, read
+from bodies_laid import NO_GOAL, Texts, lay, leave_out, offer_nothing
+from bodies_read import PARTS, Bad, Body, Function, apply, crate_functions, is_named, read
 from house_crates import below, edges
 
-Texts = Dict[Tuple[str, str], str]
 # Rises with each change of how a try is made or judged: what was kept before is tried again.
-VERSION = 2
+VERSION = 3
 # How a goal was refused, by the prover's own words, the strongest first.
 WAYS = (("values", re.compile(r"allow values at which this goal is false|the goal fails, at|the goal does not follow from what it read")),
         ("types", re.compile(r"two types (?:first )?differ|differ only where")),
@@ -50,18 +50,29 @@ class Try(NamedTuple):
 
 
 def changed_in(root: str, body: Body) -> Set[str]:
-    """The functions of its own crate that a body changes or that have to refuse it; of a text outside of functions all of the file."""
+    """The functions of its own crate whose code a body changes; `*` where it changes anything else, as a definition, a constant or a contract, on which others may rest."""
     found: Set[str] = set()
     for each in body.changes:
         if each.crate != body.crate or not each.path.startswith("src/"):
             return {"*"}
         text = read(os.path.join(root, "crates", each.crate, each.path))
         line = text.count("\n", 0, max(text.find(each.old), 0)) + 1
-        inside = [it.path for it in crate_functions(root, each.crate, {}) if it.file == each.path and it.first <= line <= it.last and each.old in it.text]
+        inside = [it.path for it in crate_functions(root, each.crate, {}) if it.file == each.path and it.first <= line <= it.last and stands_in_code(it.text, each.old)]
         if not inside:
             return {"*"}
         found |= set(inside)
     return found
+
+
+def stands_in_code(text: str, part: str) -> bool:
+    """Whether a text stands in a function behind the head, which has the contract."""
+    opened = re.search(r"(?m)\{$", text)
+    return bool(opened) and text.find(part) >= (opened.start() if opened else 0)
+
+
+def looked_at(root: str, body: Body, every: List[Function]) -> Set[str]:
+    """The functions whose proofs a body needs: those that it changes and those that have to refuse it."""
+    return changed_in(root, body) | {it.path for it in every for name in body.refused if is_named(it.path, name)}
 
 
 def tries(root: str, bodies: List[Body]) -> List[Try]:
@@ -69,11 +80,11 @@ def tries(root: str, bodies: List[Body]) -> List[Try]:
     made: List[Try] = []
     for crate in sorted({it.crate for it in bodies}):
         every = crate_functions(root, crate, {})
-        reached = calls(every)
+        rings = {it.path: it.ring for it in every if it.ring}
         groups: List[Tuple[List[Body], Set[str]]] = []
         for body in (it for it in bodies if it.crate == crate):
-            own = changed_in(root, body) | {it.path for it in every for name in body.refused if is_named(it.path, name)}
-            room = next((it for it in groups if not meet(own, it[1], reached) and fits(root, [*it[0], body])), None)
+            own = {rings.get(it, it) for it in looked_at(root, body, every)}
+            room = next((it for it in groups if not meet(own, it[1]) and fits(root, [*it[0], body])), None)
             if room is None:
                 groups.append(([body], set(own)))
             else:
@@ -94,15 +105,9 @@ def fits(root: str, bodies: List[Body]) -> bool:
     return True
 
 
-def meet(one: Set[str], other: Set[str], reached: Dict[str, Set[str]]) -> bool:
-    """Whether a function of one stands in the other, or can come to one of it, or the other way round."""
-    if "*" in one or "*" in other:
-        return True
-
-    def around(names: Set[str]) -> Set[str]:
-        return names.union(*(reached.get(it, set()) for it in names))
-
-    return bool(around(one) & other or around(other) & one)
+def meet(one: Set[str], other: Set[str]) -> bool:
+    """Whether bodies that need these proofs have to be tried apart. Of two functions of which one calls the other each has a proof of its own, over the other's contract."""
+    return "*" in one or "*" in other or bool(one & other)
 
 
 class Kit(NamedTuple):
@@ -162,17 +167,6 @@ def command(root: str, libraries: str, each: Try, names: List[str], tools: Kit, 
     return words + [it for name in names for it in ("--only", name)]
 
 
-def lay(root: str, crate: str, texts: Texts, place: str) -> None:
-    """A copy of a crate with these texts in place of its own."""
-    for part in PARTS:
-        if os.path.isdir(os.path.join(root, "crates", crate, part)):
-            shutil.copytree(os.path.join(root, "crates", crate, part), os.path.join(place, part))
-    for (of, path), text in texts.items():
-        if of == crate:
-            with open(os.path.join(place, path), "w", encoding="utf-8") as it:
-                it.write(text)
-
-
 def between(crate: str, changed: Set[str]) -> Set[str]:
     """The crates below this one that are changed or stand on a changed one."""
     return {it for it in below(crate) if it in changed or changed.intersection(below(it))}
@@ -192,6 +186,10 @@ def look(root: str, libraries: str, each: Try, tools: Kit) -> Tuple[List[Outcome
             lay(root, crate, texts, os.path.join(room, crate))
         every = crate_functions(root, each.crate, texts)
         names = sorted({name for body in each.bodies for name in body.refused})
+        kept = set().union(*(looked_at(root, it, every) for it in each.bodies))
+        if "*" not in kept:
+            leave_out(os.path.join(room, each.crate), every, kept)
+        offer_nothing(os.path.join(room, each.crate), each.crate, [it for it in every if any(is_named(it.path, name) for name in names)])
         ran = subprocess.run(command(root, libraries, each, names, tools, sources), cwd=os.path.join(room, each.crate), stdin=subprocess.DEVNULL,
                              stdout=subprocess.PIPE, stderr=subprocess.STDOUT, universal_newlines=True, errors="replace", check=False)
     return judge(each, every, ran.stdout, ran.returncode), ran.stdout
@@ -207,10 +205,10 @@ def strength(name: str) -> int:
     return [it for it, _ in WAYS].index(name)
 
 
-def told(every: List[Function], said: str) -> Dict[str, List[Refusal]]:
+def told(every: List[Function], lines: List[str]) -> Dict[str, List[Refusal]]:
     """What the prover said of each function's own goals, by the function's path."""
     found: Dict[str, List[Refusal]] = {}
-    for line in said.splitlines():
+    for line in lines:
         note, proof = NOTE.match(line), PROOF.match(line)
         if note:
             file, number, what = (note[1], int(note[2]), note[3]) if note[1] else (note[4], int(note[5]), note[6])
@@ -225,26 +223,27 @@ def told(every: List[Function], said: str) -> Dict[str, List[Refusal]]:
                 # functions that call one another have one proof, whose goals begin with their names
                 of = "::".join([*of.split("::")[:-1], named[1].split("-")[0] if named else ""])
             for it in [it for it in every if it.path == of][:1]:
-                found.setdefault(it.path, []).append(Refusal(it.path, named[1] if named else "", way(proof[2]), proof[2]))
+                # what is said of no answer, as of an import, or notes, is no goal
+                found.setdefault(it.path, []).append(Refusal(it.path, named[1] if named else "", way(proof[2]) if named else "names", proof[2]))
     return found
 
 
 def judge(each: Try, every: List[Function], said: str, status: int) -> List[Outcome]:
     """What a check came to: a body is refused where each function that it names has a goal of its own that is not proved."""
-    lines = said.splitlines()
+    lines = [it for it in said.splitlines() if NO_GOAL not in it]
     front = next((it for it in lines if re.search(r"\berror\[[\w-]+\]", it)), "")
     unread = next((it for it in lines if re.match(r"(?:\./)?(?:src|specs)/\S+:\d+:\d+: error: ", it) and not NOTE.match(it)), "")
     last = lines[-1] if lines else ""
     if front or unread or not last.startswith("only="):
         why = front or unread or f"the check ended with status {status}: {last[:160]}"
         return [Outcome(it.name, (), f"it does not compile or read: {why[:300]}") for it in each.bodies]
-    own = told(every, said)
+    own = told(every, lines)
     for body in each.bodies:
         if any(it.path.startswith("specs/") for it in body.changes):
             add_lemmas(own, every, body, lines)
-    statuses = {found[1].partition("::")[2]: found[2] for found in map(STATUS.match, lines) if found}
+    statuses = {found[1].partition("::")[2]: (found[2], found[3]) for found in map(STATUS.match, lines) if found}
     named = {path for path in (it.path for it in every) for body in each.bodies for name in body.refused if is_named(path, name)}
-    strays = sorted(path for path, refusals in own.items() if path not in named and statuses.get(path) != "proved" and any(it.way != "names" for it in refusals))
+    strays = sorted(path for path, refusals in own.items() if path not in named and statuses.get(path, ("", ""))[0] != "proved" and any(it.way != "names" for it in refusals))
     return [judged(body, every, own, statuses, strays) for body in each.bodies]
 
 
@@ -257,7 +256,17 @@ def add_lemmas(own: Dict[str, List[Refusal]], every: List[Function], body: Body,
             own.setdefault(path, []).append(Refusal(path, f"{found[2]}.{named[1] if named else ''}".rstrip("."), way(what), what))
 
 
-def judged(body: Body, every: List[Function], own: Dict[str, List[Refusal]], statuses: Dict[str, str], strays: List[str]) -> Outcome:
+def unrefused(path: str, names: List[Refusal], status: Tuple[str, str], strays: List[str]) -> str:
+    """Why a function without an open goal refuses nothing. In a try no function has its whole proof: one of which nothing else is said is still proved, or what it calls isn't."""
+    if status[0] != "proved" and names:
+        return f"{path} is not proved, but only because a proof file names what the change took away: {names[0].said[:160]}"
+    others = f"; it breaks {', '.join(strays)}" if strays else ""
+    if status[0] == "proved" or status[0] == "not proved" and not status[1].strip(" ;:") and not strays:
+        return f"{path} is still proved{others}"
+    return f"{path} is still proved, or only what its proof rests on isn't: no goal of its own is left open ({''.join(status)}){others}"
+
+
+def judged(body: Body, every: List[Function], own: Dict[str, List[Refusal]], statuses: Dict[str, Tuple[str, str]], strays: List[str]) -> Outcome:
     """What the check says of one body."""
     refusals: List[Refusal] = []
     others: List[Refusal] = []
@@ -266,13 +275,10 @@ def judged(body: Body, every: List[Function], own: Dict[str, List[Refusal]], sta
         if len(paths) != 1:
             return Outcome(body.name, (), f"`refused: {name}` names {len(paths)} functions of {body.crate}")
         path = paths[0]
+        status = statuses.get(path, ("", "nothing is said of it"))
         goals = [it for it in own.get(path, ()) if it.way != "names"]
-        if statuses.get(path) == "proved":
-            return Outcome(body.name, (), f"{path} is still proved" + (f"; it breaks {', '.join(strays)}" if strays else ""))
-        if not goals:
-            only = own.get(path)
-            why = f"only because a proof file names what the change took away: {only[0].said[:160]}" if only else f"no goal of its own is left open ({statuses.get(path, 'nothing is said of it')})"
-            return Outcome(body.name, (), f"{path} is not proved, but {why}")
+        if not goals or status[0] == "proved":
+            return Outcome(body.name, (), unrefused(path, own.get(path, []), status, strays))
         goals.sort(key=lambda it: (strength(it.way), it.goal))
         refusals.append(goals[0])
         others += goals[1:]

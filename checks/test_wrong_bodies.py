@@ -16,7 +16,8 @@ from typing import Dict, List, Tuple
 sys.dont_write_bytecode = True
 ROOT = os.path.dirname(os.path.dirname(os.path.realpath(__file__)))
 sys.path[:0] = [os.path.join(ROOT, "checks"), os.path.join(ROOT, "house")]
-from bodies_read import Bad, Body, Change, Function, body_of, calls, functions  # noqa: E402
+from bodies_laid import NO_GOAL, leave_out, offer_nothing  # noqa: E402
+from bodies_read import Bad, Body, Change, Function, body_of, functions  # noqa: E402
 from bodies_table import differs, write  # noqa: E402
 from bodies_tried import Outcome, Refusal, Try, judge, tries  # noqa: E402
 
@@ -79,7 +80,6 @@ class Reading(unittest.TestCase):
     def test_functions_have_the_prover_s_paths_and_all_their_lines(self) -> None:
         found = functions("src/two.rt", SOURCE)
         self.assertEqual([(it.path, it.first, it.last) for it in found], [("two::Two::first", 1, 14), ("two::TwoFrom::from", 15, 20), ("two::twice", 21, 28)])
-        self.assertEqual(calls(found)["two::twice"], {"two::Two::first"})
 
 
 class Judging(unittest.TestCase):
@@ -106,11 +106,24 @@ class Judging(unittest.TestCase):
         said = "./proofs/Two/first/Answers.antt:3:9: error: `returns`: `c.one` is not in scope\nfn low::Two::first: not proved\nonly=1 proved=0\n"
         self.assertIn("only because a proof file names", self.judge(said, "Two::first").fault)
 
+    def test_what_is_said_of_an_import_is_no_refusal(self) -> None:
+        said = "./proofs/Two/first/Answers.antt:5:58: error: module `Rattle.low.proofs.Two.first.Goals` is already brought in as `goal`: one name per module in a file\nfn low::Two::first: not proved\nonly=1 proved=0\n"
+        self.assertIn("only because a proof file", self.judge(said, "Two::first").fault)
+        self.assertEqual(self.judge(said, "Two::first").refusals, ())
+
     def test_a_goal_of_a_ring_is_that_of_the_function_it_begins_with(self) -> None:
         said = ("./proofs/+both/Answers.antt:9:7: error: `twice-returns-in-Some`: as printed, the two types differ only where one has `c.one`\n"
                 "fn low::Two::first: not proved\nfn low::twice: not proved\nonly=2 proved=0\n")
         self.assertEqual(self.judge(said, "twice").refusals[0][:3], ("twice", "twice-returns-in-Some", "types"))
         self.assertIn("no goal of its own", self.judge(said, "Two::first").fault)
+
+    def test_a_goal_that_there_is_not_is_nothing_that_is_said(self) -> None:
+        said = (f"./proofs/twice/Answers.antt:3:9: error: `{NO_GOAL}`: module `Rattle.low.proofs.twice.Goals` has no `{NO_GOAL}` that can be named from here\n"
+                "fn low::twice: not proved%s\nonly=1 proved=0\n")
+        self.assertIn("twice is still proved", self.judge(said % "", "twice").fault)
+        self.assertIn("no goal of its own", self.judge(said % "; it calls `low::Two::first`, which is not proved", "twice").fault)
+        note = "note: src/lib.rt:26:1: it is not proved that what the function ensures holds when it returns (`returns`); `search` gave up at one of its limits\n"
+        self.assertEqual(self.judge(note + said % "", "twice").refusals[0][:3], ("twice", "returns", "search"))
 
     def test_another_function_that_breaks_is_told(self) -> None:
         said = ("note: src/lib.rt:10:1: it is not proved that what the function ensures holds when it returns (`returns`); `search` gave up at one of its limits\n"
@@ -124,14 +137,87 @@ class Judging(unittest.TestCase):
 class Grouping(unittest.TestCase):
     """Which bodies are tried together."""
 
-    def test_bodies_of_functions_that_call_one_another_are_tried_apart(self) -> None:
+    def grouped(self, source: str, *bodies: Tuple[str, str, str]) -> List[List[str]]:
         with tempfile.TemporaryDirectory() as room:
             os.makedirs(os.path.join(room, "crates", "low", "src"))
             with open(os.path.join(room, "crates", "low", "src", "lib.rt"), "w", encoding="utf-8") as it:
-                it.write(SOURCE)
-            change = {name: (Change("low", "src/lib.rt", old, "1"),) for name, old in (("one", "self.one"), ("two", "two.first() + two.first()"), ("three", "Two { one }"))}
-            every = [Body("low", name, made, (who,), "", False) for (name, made), who in zip(change.items(), ("Two::first", "twice", "TwoFrom::from"))]
-            self.assertEqual([[it.name for it in group.bodies] for group in tries(room, every)], [["one", "three"], ["two"]])
+                it.write(source)
+            every = [Body("low", name, (Change("low", "src/lib.rt", old, "1"),), (who,), "", False) for name, old, who in bodies]
+            return [[it.name for it in group.bodies] for group in tries(room, every)]
+
+    def test_bodies_of_one_function_are_tried_apart(self) -> None:
+        found = self.grouped(SOURCE, ("one", "self.one", "Two::first"), ("two", "two.first() +", "twice"), ("three", "Two { one }", "TwoFrom::from"), ("four", "+ two.first()", "twice"))
+        self.assertEqual(found, [["one", "two", "three"], ["four"]])
+
+    def test_bodies_of_a_ring_are_tried_apart(self) -> None:
+        source = SOURCE.replace("    #[inline(always)]\n", "    #[cycle(both)]\n").replace("/// Twice", "#[cycle(both)]\n/// Twice")
+        self.assertEqual(self.grouped(source, ("one", "self.one", "Two::first"), ("two", "two.first() +", "twice"), ("three", "Two { one }", "TwoFrom::from")), [["one", "three"], ["two"]])
+
+    def test_a_body_that_changes_more_than_code_is_tried_alone(self) -> None:
+        for old in ("self.now.one", "one: u8,"):
+            self.assertEqual(self.grouped(SOURCE, ("one", old, "Two::first"), ("two", "two.first() +", "twice")), [["one"], ["two"]])
+
+
+class Laid(unittest.TestCase):
+    """The copy in which bodies are tried."""
+    code = ""
+
+    def files(self, place: str) -> Dict[str, str]:
+        found: Dict[str, str] = {}
+        for folder, _, names in os.walk(place):
+            for name in names:
+                with open(os.path.join(folder, name), encoding="utf-8") as it:
+                    found[os.path.relpath(os.path.join(folder, name), place)] = it.read()
+        return found
+
+    def laid(self, source: str, kept: List[str], files: Dict[str, str]) -> Dict[str, str]:
+        with tempfile.TemporaryDirectory() as room:
+            for name, text in files.items():
+                os.makedirs(os.path.dirname(os.path.join(room, "proofs", name)), exist_ok=True)
+                with open(os.path.join(room, "proofs", name), "w", encoding="utf-8") as it:
+                    it.write(text)
+            os.makedirs(os.path.join(room, "src"))
+            with open(os.path.join(room, "src", "two.rt"), "w", encoding="utf-8") as it:
+                it.write(source)
+            every = functions("src/two.rt", source)
+            leave_out(room, every, set(kept))
+            offer_nothing(room, "low", [it for it in every if it.path in kept])
+            self.code = self.files(os.path.join(room, "src"))["two.rt"]
+            return self.files(os.path.join(room, "proofs"))
+
+    def test_the_code_of_what_is_looked_at_is_all_there_and_no_other(self) -> None:
+        source = SOURCE + "\nconst fn fixed() -> u8 {\n    4\n}\n\nfn over() -> impl Iterator<Item = u8> {\n    make()\n}\n\npub trait Three {\n    fn third(&self) -> u8\n        ensures { result ≡ 3 };\n}\n"
+        self.laid(source, ["two::twice"], {})
+        wanted = source.replace("        self.one\n", "loop {}\n").replace("        Two { one }\n", "loop {}\n")
+        self.assertEqual(self.code, wanted)
+        self.laid(SOURCE.replace("        self.one\n", "        let one = self.one;\n\n        one\n"), ["two::twice"], {})
+        self.assertIn("{\nloop {}\n\n\n    }\n", self.code)
+
+    def test_the_proofs_of_what_is_looked_at_are_all_there_and_no_other(self) -> None:
+        found = self.laid(SOURCE, ["two::twice"], {"two/twice/Answers.antt": "returns c = c\n", "two/Two/first/Answers.antt": "", "two/Two/first/Invariants.antt": "", "Low.antt": "law"})
+        self.assertEqual(sorted(found), ["Low.antt", "two/Two/first/Proof.antt", "two/TwoFrom/from/Proof.antt", "two/twice/Answers.antt"])
+        self.assertNotIn("_spec", found["two/Two/first/Proof.antt"] + found["two/TwoFrom/from/Proof.antt"])
+        self.assertIn("\nreturns c = c\n", found["two/twice/Answers.antt"])
+        self.assertIn(f"pub {NO_GOAL} : {NO_GOAL}s.{NO_GOAL}\n", found["two/twice/Answers.antt"])
+        self.assertIn(f"use Rattle.low.proofs.two.twice.Goals as {NO_GOAL}s\n", found["two/twice/Answers.antt"])
+
+    def test_what_a_trait_declares_has_no_proof(self) -> None:
+        source = SOURCE + "\npub trait Three {\n    fn third(&self) -> u8\n        ensures { result ≡ 3 };\n    fn fourth(&self);\n}\n\npub fn law()\n    ensures { Law }\n{}\n"
+        self.assertEqual(sorted(self.laid(source, ["two::twice"], {})), ["two/Two/first/Proof.antt", "two/TwoFrom/from/Proof.antt", "two/law/Proof.antt", "two/twice/Answers.antt"])
+
+    def test_a_file_brings_its_goals_in_once(self) -> None:
+        brought = "use Rattle.low.proofs.two.twice.Goals as goal\n"
+        found = self.laid(SOURCE, ["two::twice"], {"two/twice/Answers.antt": brought})["two/twice/Answers.antt"]
+        self.assertTrue(found.startswith(brought))
+        self.assertEqual(found.count("Goals as"), 1)
+        self.assertIn(f"pub {NO_GOAL} : goal.{NO_GOAL}\n", found)
+
+    def test_the_proof_of_a_ring_is_there_or_left_out_as_a_whole(self) -> None:
+        source = SOURCE.replace("    #[inline(always)]\n", "    #[cycle(both)]\n").replace("/// Twice", "#[cycle(both)]\n/// Twice")
+        for place in ("+both", "two/+both"):
+            files = {f"{place}/Answers.antt": "first-returns c = c\n"}
+            self.assertIn("first-returns", self.laid(source, ["two::twice"], files)[f"{place}/Answers.antt"])
+            self.assertEqual(sorted(self.laid(source, ["two::TwoFrom::from"], files)), [f"{place}/Proof.antt", "two/TwoFrom/from/Answers.antt"])
 
 
 class Page(unittest.TestCase):
@@ -174,6 +260,8 @@ BODIES: Dict[str, Tuple[str, str, str, str]] = {
     "the_same": ("src/fraction.rt", COMPARE, f"let order = {COMPARE}; order", "fraction::compare"),
     "no_field": ("src/fraction.rt", COMPARE, "left.tops.cmp(&right.top)", "fraction::compare"),
     "of_another": ("src/fraction.rt", COMPARE, "left.top.cmp(&right.top)", "logarithm::next_place"),
+    "callee": ("src/tally.rt", "from(other).pow(3)", "from(other).pow(2)", "tally::variance_part"),
+    "caller": ("src/tally.rt", "tally.d, tally.c);", "tally.d, tally.c); let failing = failing;", "tally::confident"),
     "gone": ("src/fraction.rt", "left.top.is_even()", "true", "fraction::compare"),
 }
 
@@ -185,7 +273,7 @@ class Tried(unittest.TestCase):
     def made(self, room: str, names: List[str]) -> None:
         for part in ("src", "specs", "proofs"):
             shutil.copytree(os.path.join(ROOT, "crates", "fractions", part), os.path.join(room, "crates", "fractions", part))
-        for name in ("wrong_bodies", "bodies_read.py", "bodies_tried.py", "bodies_table.py"):
+        for name in ("wrong_bodies", "bodies_laid.py", "bodies_read.py", "bodies_tried.py", "bodies_table.py"):
             os.makedirs(os.path.join(room, "checks"), exist_ok=True)
             shutil.copy2(os.path.join(ROOT, "checks", name), os.path.join(room, "checks", name))
         os.makedirs(os.path.join(room, "house"))
@@ -212,6 +300,14 @@ class Tried(unittest.TestCase):
             self.assertEqual((status, said.splitlines()), (0, ["fractions: 1 of 1 refused, as before", "1 passed, 0 failed"]), said)
             os.remove(os.path.join(room, "wrong_bodies", "fractions", "right.edit"))
             self.assertIn("there is no such body", self.call(room)[1])
+
+    def test_a_right_body_stays_proved_beside_the_wrong_one_that_it_calls(self) -> None:
+        with tempfile.TemporaryDirectory() as room:
+            self.made(room, ["callee", "caller"])
+            status, said = self.call(room)
+            self.assertEqual(status, 1, said)
+            self.assertIn("fractions/caller: NOT REFUSED: tally::confident is still proved", said)
+            self.assertIn("fractions: 1 of 2 refused", said)
 
     def test_what_is_no_wrong_body_fails(self) -> None:
         for name, told in (("the_same", "still proved"), ("no_field", "does not compile"), ("of_another", "still proved"), ("gone", "stands in src/fraction.rt 0 times")):
