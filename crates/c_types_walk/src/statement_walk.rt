@@ -1,4 +1,4 @@
-ghost use Rattle.std.specs.Prelude.{◌≡◌, ◌<◌, map, option_map, true, false, OnOk};
+ghost use Rattle.std.specs.Prelude.{◌≡◌, ◌<◌, map, option_map, true, false, not, OnOk};
 ghost use Rattle.c_syntax.specs.Words.{most_bytes, plain_declaration, plain_entries, plain_expr, plain_for_start, plain_start, plain_statement};
 ghost use Rattle.c_syntax.specs.StatementTree as s;
 ghost use Rattle.c_types_walk.specs.StatementWalk.{counted_cells, is_condition_part, is_struct_part, returned_value_checked, object_type_checked, walk_closed};
@@ -7,8 +7,9 @@ ghost use Rattle.c_types_walk.specs.StatementWalk.{walk_declaration, walk_entrie
 ghost use Rattle.c_types_walk.specs.StatementWalk.{walk_starts, walk_statement, walk_typed};
 ghost use Rattle.c_types_walk.specs.Room.{declaration_needs, declaration_text, entries_need, entries_text, for_start_needs, for_start_text, part_text};
 ghost use Rattle.c_types_walk.specs.Room.{start_needs, start_text, starts_need, starts_text, statement_needs, statement_text};
+ghost use Rattle.c_types_rules.specs.declared.fault.FaultKind.TheVariants as fault;
 ghost use Rattle.c_types_rules.specs.Operators.{is_scalar_value};
-ghost use Rattle.c_types_expressions.specs.Words.{walk_expr, walk_whole, HasRoomLeft, HasRoom, expr_text, IsWalked};
+ghost use Rattle.c_types_expressions.specs.Words.{walk_expr, walk_whole, HasRoomLeft, HasRoom, expr_text, fault_if_wrong, IsWalked};
 
 use crate::declarators::{declared_type, is_open};
 use crate::initialisers::walk_initial;
@@ -242,6 +243,14 @@ fn walk_return(
     }
 }
 
+/// Walks a `break` or a `continue`, which stands within a loop or not.
+fn walk_jump(walk: &mut Walk, looping: bool, token: u32) -> Result<(), Stop>
+    ensures walked { IsWalked (fault_if_wrong (not looping) fault.Jump token walk.old) result walk.new }
+    ensures left { OnOk result (HasRoomLeft 0 0 walk.old walk.new) }
+{
+    unless(walk, !looping, FaultKind::Jump, token)
+}
+
 /// An expression that may be left out.
 fn walk_optional(
     alloc: Global,
@@ -369,7 +378,7 @@ pub fn walk_statement(
         }
         Statement::Return { token, value } => walk_return(alloc, walk, gives, *token, value),
         Statement::Break { token } | Statement::Continue { token } => {
-            unless(walk, !looping, FaultKind::Jump, *token)
+            walk_jump(walk, looping, *token)
         }
     }
 }
