@@ -1,3 +1,4 @@
+pub mod Appending
 pub mod Placed
 pub mod Bodied
 pub mod Starred
