@@ -1,0 +1,7 @@
+pub mod Says
+pub mod Operators
+pub mod Lists
+pub mod Expressions
+pub mod Declarations
+pub mod Statements
+pub mod Trees
