@@ -21,19 +21,11 @@ sys.setrecursionlimit(20000)
 import cbi_port  # noqa: E402
 from cbi_port import builds, check  # noqa: E402
 from cbi_port.files import too_large  # noqa: E402
+from ports_trees import BUILDS_32, Trees  # noqa: E402, F401
 
 TABLE = os.path.join(TOP, "checks", "ports", "table")
 TURNS = 100000000
 STUMBLED = "what cbi-port doesn't take"  # a refusal that comes of an exception of Python's: a defect of the tool, and never what is expected
-
-
-def builds_32():
-    """Whether gcc builds for 32 bits here, as the porter's `long` and pointers are."""
-    done = subprocess.run(["gcc", "-m32", "-x", "c", "-o", os.devnull, "-"], input=b"#include <stdio.h>\nint main(void){return 0;}\n", stdout=subprocess.PIPE, stderr=subprocess.PIPE, check=False)
-    return done.returncode == 0
-
-
-BUILDS_32 = builds_32()
 
 
 class Due:

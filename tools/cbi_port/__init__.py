@@ -4,7 +4,7 @@
 kept is refused, all of it at once (`Refused`).
 """
 import argparse
-from typing import Dict, List, NamedTuple, Optional, Sequence, Tuple, Union
+from typing import Callable, Dict, Iterator, List, NamedTuple, Optional, Sequence, Tuple, Union
 
 WRAPPING = {"-fwrapv", "-fno-strict-overflow"}   # flags of gcc
 
@@ -40,12 +40,13 @@ class Missing(Exception):
 
 
 class Ported(NamedTuple):
-    """`lines` has one entry for each line of `text`; `added` are the names of functions that the tool added."""
+    """`lines` has one entry for each line of `text`; `added` are the names of functions that the tool added. `typed` has the rows of the typed tree."""
     text: bytes
     lines: List[Line]
     added: List[str]
     liberties: List[str]
     counts: Dict[str, int]
+    typed: Callable[[], Iterator[str]] = lambda: iter(())
 
     def map_text(self) -> str:
         """The map as the file `OUT.c.lines` has it (docs/PORTING.md)."""

@@ -2,12 +2,14 @@
 
 An access to any other byte is trap 6, and trap 7 where the object's life has ended: a freed block, or what a function kept that has returned.
 """
-from typing import Any, Dict, List, Tuple
+from typing import Any, Dict, List, Optional, Tuple
 
-from cbi_port.byte_objects import BASE
+from cbi_port.blocks import Evaluate, Statement
+from cbi_port.byte_objects import BASE, FRAME, moved
 from cbi_port.bytes import Bytes, table
-from cbi_port.lines import bare
-from cbi_port.values import POSTFIX
+from cbi_port.nodes import Assign, Binary, Call, Group, Index, Name, Node, Number, decimal
+from cbi_port.types import INT, UINT, VOID, Pointer
+from cbi_port.values import word
 
 GAP = 16            # bytes that are no object's, behind each one
 STRING_GAP = 4      # and behind a string
@@ -35,48 +37,47 @@ class BoundedBytes(Bytes):
 
     # What a function has.
 
-    def frame_room(self, size: int, align: int = 4) -> str:
+    def frame_room(self, size: int, align: int = 4) -> Node:
         body = self.program.function
-        text = super().frame_room(size, align)
+        at = super().frame_room(size, align)
         if body is not self.program.first:
-            body.objects.append((text, max(size, 1)))
+            body.objects.append((at, max(size, 1)))
             body.frame += GAP
-        return text
+        return at
 
-    def beside_room(self, size: int) -> str:
+    def beside_room(self, size: int) -> Node:
         """What statements keep beside lies together, without gaps."""
         body, size = self.program.function, -(-max(size, 1) // 4) * 4
         if body is self.program.first:
             return super().beside_room(size)
-        if not body.beside or body.objects[-1][0] != body.beside:
+        if body.beside is None or body.objects[-1][0] != body.beside:
             body.beside = self.frame_room(size)
             return body.beside
         begin = body.frame - GAP
         body.objects[-1] = (body.beside, body.objects[-1][1] + size)
         body.frame += size
-        return f"cbi_frame.value + {begin}u"
+        return moved(FRAME, begin)
 
-    def entry(self, body: Any) -> str:
+    def entry(self, body: Any) -> List[Statement]:
         """Says of the objects of a function that they live: of small ones by the words of their bits, of others by a call."""
         words: Dict[int, int] = {}
-        calls = []
-        for text, size in body.objects:
-            found = self.offset_of(text)
+        calls: List[Statement] = []
+        for at, size in body.objects:
+            found = self.offset_of(at)
             if found is None or size > SMALL:
-                calls.append(f"cbi_begin_life({text}, {size}u); ")
+                calls.append(Evaluate(Call(VOID, "cbi_begin_life", (at, word(size)))))
                 continue
             for byte in range(found, found + size):
                 words[byte // 32] = words.get(byte // 32, 0) | 1 << byte % 32
-        rows = [f"cbi_live[(cbi_frame.value >> 5) + {word}u] = {bits}u; " if word else f"cbi_live[cbi_frame.value >> 5] = {bits}u; " for word, bits in sorted(words.items())]
-        return super().entry(body) + "".join(rows + calls)
+        live, begin = Name(Pointer(UINT), "cbi_live"), Binary(UINT, ">>", FRAME, Number(INT, 5))
+        rows = [Assign(UINT, Index(UINT, live, Binary(UINT, "+", Group(UINT, begin), word(index)) if index else begin), word(bits)) for index, bits in sorted(words.items())]
+        return [*super().entry(body), *map(Evaluate, rows), *calls]
 
-    def offset_of(self, text: str) -> Any:
+    def offset_of(self, at: Node) -> Optional[int]:
         """Where in a function's room an object lies; none where that is only known as it runs."""
-        plain = bare(text)
-        if plain == "cbi_frame.value":
+        if at == FRAME:
             return 0
-        head, mark, number = plain.partition("cbi_frame.value + ")
-        return int(number[:-1]) if mark and not head and number[:-1].isdigit() else None
+        return decimal(at.right) if isinstance(at, Binary) and at.sign == "+" and at.left == FRAME else None
 
     # The whole.
 
@@ -95,7 +96,7 @@ class BoundedBytes(Bytes):
         helpers.heads.insert(0, f"unsigned cbi_live[{self.words // 8}];")
         if words:
             helpers.heads.insert(1, table("cbi_image_live", words))
-            self.start += f"cbi_begin_image(cbi_image_live, {len(words)}u); "
+            self.begin("cbi_begin_image", "cbi_image_live", len(words))
         if behind:
             helpers.heads.insert(1, table("cbi_objects", behind))
-            self.start += f"cbi_begin_objects(cbi_objects, {len(behind)}u); "
+            self.begin("cbi_begin_objects", "cbi_objects", len(behind))

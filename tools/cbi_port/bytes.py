@@ -1,10 +1,12 @@
 """Memory as bytes: the library's functions of it, and what it begins with."""
-from typing import Any, Dict, Sequence, Tuple
+from typing import Any, Dict, List, Sequence, Tuple
 
+from cbi_port.blocks import Evaluate, Statement, Template
 from cbi_port.byte_objects import BASE, STACK, ByteObjects
 from cbi_port.images import runs
+from cbi_port.nodes import Binary, Call, Name, Node, Number
 from cbi_port.types import CHAR, INT, UINT, VOID, Function, Pointer
-from cbi_port.values import ASSIGN, POSTFIX, Value
+from cbi_port.values import Value, word
 
 
 def table(name: str, numbers: Sequence[int]) -> str:
@@ -15,6 +17,10 @@ def table(name: str, numbers: Sequence[int]) -> str:
 
 class Bytes(ByteObjects):
     """The model of memory in which objects are laid out in bytes."""
+
+    def __init__(self, program: Any) -> None:
+        super().__init__(program)
+        self.start: List[Statement] = []     # what is done first of all
 
     # The library, and the whole.
 
@@ -27,43 +33,49 @@ class Bytes(ByteObjects):
                  "strcpy": [0, 0], "strcmp": [0, 0]}
         results = {"free": VOID, "memcmp": INT, "bcmp": INT, "strlen": UINT, "strcmp": INT, "strcpy": Pointer(CHAR)}
         table: Dict[str, Any] = {}
-        for name, (word, _) in names.items():
-            def call(node: Any, arguments: Any, used: bool, word: str = word, row: Any = kinds[name], result: Any = results.get(name, Pointer(VOID))) -> Value:
-                if word == "alloca" and not self.program.function.frame:
+        for name, (word_, _) in names.items():
+            def call(node: Any, arguments: Any, used: bool, name: str = word_, row: Any = kinds[name], result: Any = results.get(name, Pointer(VOID))) -> Value:
+                if name == "alloca" and not self.program.function.frame:
                     self.frame_room(4)
                 if len(arguments) < len(row):
                     raise self.program.refuse(node, "a call with too few arguments", "an argument for each parameter")
-                texts = [self.program.converted(self.program.value(it), Pointer(VOID) if type_ == 0 else type_, True, node).at(ASSIGN)
-                         for it, type_ in zip(arguments, row)]
-                return Value(result, f"cbi_{word}({', '.join(texts)})", POSTFIX, pure=False)
+                given = self.given(arguments, [Pointer(VOID) if type_ == 0 else type_ for type_ in row], node)
+                return Value(result, Call(result, f"cbi_{name}", given), pure=False)
             table[name] = call
         table["qsort"] = self.call_qsort
         table["qsort_r"] = self.call_qsort_r
         table["bsearch"] = self.call_bsearch
-        table["bzero"] = lambda node, arguments, used: Value(VOID, "cbi_fill({}, 0, {})".format(*(
-            self.program.converted(self.program.value(it), type_, True, node).at(ASSIGN) for it, type_ in zip(arguments, (Pointer(VOID), UINT)))), POSTFIX, pure=False)
-        table["bcopy"] = lambda node, arguments, used: Value(VOID, "cbi_move_turned({}, {}, {})".format(*(
-            self.program.converted(self.program.value(it), type_, True, node).at(ASSIGN) for it, type_ in zip(arguments, (Pointer(VOID), Pointer(VOID), UINT)))), POSTFIX, pure=False)
+        table["bzero"] = self.call_bzero
+        table["bcopy"] = lambda node, arguments, used: self.sized("cbi_move_turned", arguments, (Pointer(VOID), Pointer(VOID), UINT), node)
         return table
 
-    def texts(self, arguments: Any, row: Any, node: Any) -> str:
+    def given(self, arguments: Any, row: Any, node: Any) -> Tuple[Node, ...]:
+        """The arguments in the types that a function takes."""
         program = self.program
-        return ", ".join(program.converted(program.value(it), type_, True, node).at(ASSIGN) for it, type_ in zip(arguments, row))
+        return tuple(program.converted(program.value(it), type_, True, node).code for it, type_ in zip(arguments, row))
+
+    def sized(self, name: str, arguments: Any, row: Any, node: Any, result: Any = VOID) -> Value:
+        """A call of one of the functions of memory."""
+        return Value(result, Call(result, name, self.given(arguments, row, node)), pure=False)
+
+    def call_bzero(self, node: Any, arguments: Any, used: bool) -> Value:
+        at, count = self.given(arguments, (Pointer(VOID), UINT), node)
+        return Value(VOID, Call(VOID, "cbi_fill", (at, Number(INT, 0), count)), pure=False)
 
     def call_qsort(self, node: Any, arguments: Any, used: bool) -> Value:
         self.program.order_by(0)
         compare = Pointer(Function(INT, (Pointer(VOID), Pointer(VOID)), False, True))
-        return Value(VOID, f"cbi_sort({self.texts(arguments, (Pointer(VOID), UINT, UINT, compare), node)})", POSTFIX, pure=False)
+        return self.sized("cbi_sort", arguments, (Pointer(VOID), UINT, UINT, compare), node)
 
     def call_qsort_r(self, node: Any, arguments: Any, used: bool) -> Value:
         self.program.order_by(1)
         compare = Pointer(Function(INT, (Pointer(VOID), Pointer(VOID), Pointer(VOID)), False, True))
-        return Value(VOID, f"cbi_sort_with({self.texts(arguments, (Pointer(VOID), UINT, UINT, compare, Pointer(VOID)), node)})", POSTFIX, pure=False)
+        return self.sized("cbi_sort_with", arguments, (Pointer(VOID), UINT, UINT, compare, Pointer(VOID)), node)
 
     def call_bsearch(self, node: Any, arguments: Any, used: bool) -> Value:
         self.program.order_by(0)
         compare = Pointer(Function(INT, (Pointer(VOID), Pointer(VOID)), False, True))
-        return Value(Pointer(VOID), f"cbi_search({self.texts(arguments, (Pointer(VOID), Pointer(VOID), UINT, UINT, compare), node)})", POSTFIX, pure=False)
+        return self.sized("cbi_search", arguments, (Pointer(VOID), Pointer(VOID), UINT, UINT, compare), node, Pointer(VOID))
 
     def orders(self, helpers: Any) -> None:
         """How two elements are compared, also with what a sort hands on."""
@@ -75,10 +87,10 @@ class Bytes(ByteObjects):
             helpers.heads.append("struct cbi_handed { unsigned value; int is; }; struct cbi_handed cbi_with; void cbi_sort(unsigned at, unsigned count, unsigned size, unsigned order);")
             last = f"if (cbi_with.is) return {handed}(order, a, b, cbi_with.value); {last}"
             helpers.heads.append("void cbi_sort_with(unsigned at, unsigned count, unsigned size, unsigned order, unsigned with);")
-            helpers.tails.append("void cbi_sort_with(unsigned at, unsigned count, unsigned size, unsigned order, unsigned with) { unsigned before = cbi_with.value; int was = cbi_with.is; "
-                                 "cbi_with.value = with; cbi_with.is = 1; cbi_sort(at, count, size, order); cbi_with.value = before; cbi_with.is = was; }")
+            helpers.tails.append(Template("cbi_sort_with", "", "void cbi_sort_with(unsigned at, unsigned count, unsigned size, unsigned order, unsigned with) { unsigned before = cbi_with.value; int was = cbi_with.is; "
+                                 "cbi_with.value = with; cbi_with.is = 1; cbi_sort(at, count, size, order); cbi_with.value = before; cbi_with.is = was; }"))
         helpers.heads.append("int cbi_order(unsigned order, unsigned a, unsigned b);")
-        helpers.tails.append(f"int cbi_order(unsigned order, unsigned a, unsigned b) {{ {last} }}")
+        helpers.tails.append(Template("cbi_order", "", f"int cbi_order(unsigned order, unsigned a, unsigned b) {{ {last} }}"))
 
     def main_arguments(self, helpers: Any, count: int) -> Tuple[str, str]:
         if count == 0:
@@ -103,11 +115,12 @@ class Bytes(ByteObjects):
         self.words_at = self.words_at or self.static_room(4 * 70, 4)
         return self.words_at
 
-    def word_of_main(self, number: str) -> str:
-        return f"cbi_load_word({self.words_room()}u + 4u * {number})"
+    def word_of_main(self, number: Node) -> Node:
+        return Call(Pointer(CHAR), "cbi_load_word", (Binary(UINT, "+", word(self.words_room()), Binary(UINT, "*", word(4), number)),))
 
-    def finish(self, helpers: Any) -> None:
-        pass
+    def begin(self, name: str, table: str, count: int) -> None:
+        """Says of a table of what memory begins with that it is read first of all."""
+        self.start.append(Evaluate(Call(VOID, name, (Name(Pointer(UINT), table), word(count)))))
 
     def finish_memory(self, helpers: Any) -> None:
         """Declares the memory, with what it begins with."""
@@ -121,11 +134,9 @@ class Bytes(ByteObjects):
         helpers.heads.insert(0, f"unsigned cbi_m[{self.words}];")
         if words:
             helpers.heads.insert(1, table("cbi_image", words))
-            self.start = f"cbi_begin(cbi_image, {len(words)}u); "
-        else:
-            self.start = ""
+            self.begin("cbi_begin", "cbi_image", len(words))
         helpers.heads.append("unsigned cbi_stack_begin(void); unsigned cbi_heap_begin(void); unsigned cbi_heap_end(void);")
-        helpers.tails.append(f"unsigned cbi_stack_begin(void) {{ return {end}u; }}")
-        helpers.tails.append(f"unsigned cbi_heap_begin(void) {{ return {end + STACK}u; }}")
-        helpers.tails.append(f"unsigned cbi_heap_end(void) {{ return {4 * self.words}u; }}")
+        helpers.tails.append(Template("cbi_stack_begin", "", f"unsigned cbi_stack_begin(void) {{ return {end}u; }}"))
+        helpers.tails.append(Template("cbi_heap_begin", "", f"unsigned cbi_heap_begin(void) {{ return {end + STACK}u; }}"))
+        helpers.tails.append(Template("cbi_heap_end", "", f"unsigned cbi_heap_end(void) {{ return {4 * self.words}u; }}"))
         self.orders(helpers)

@@ -1,14 +1,15 @@
 """Calls (C99 6.5.2.2), also by pointers, and arguments of which no parameter tells the type (7.15)."""
 from typing import Any, List, Optional, Sequence, Tuple
 
-from cbi_port.lines import mark
+from cbi_port.blocks import Block, Declarator, Definition, Evaluate, Head, If, Return, Statement
+from cbi_port.conversions import number
+from cbi_port.nodes import Binary, Call, Name, Node, Number
 from cbi_port.operators import Operators
 from cbi_port.scopes import BUILTIN, Symbol, plain_name
 from cbi_port.trees import kind
-from cbi_port.types import (DOUBLE, FLOAT, INT, UCHAR, UINT, VOID, Array, CType, Function, Int, List_, Pointer, Quals, Struct, Void,
-                            exactly, is_float, is_long, is_pointer, is_whole, promoted, same, size_of, spelled)
-from cbi_port.conversions import number
-from cbi_port.values import ASSIGN, POSTFIX, Value
+from cbi_port.types import (DOUBLE, FLOAT, INT, UCHAR, UINT, VALIST, VOID, Array, CType, Function, Int, List_, Pointer, Quals, Struct, Void, exactly,
+                            is_float, is_long, is_pointer, is_whole, promoted, same, size_of, spelled)
+from cbi_port.values import Value, retyped, word
 
 
 class Calls(Operators):
@@ -51,7 +52,7 @@ class Calls(Operators):
         result = type_.result
         if isinstance(result, Int):
             return number(0, result)
-        return self.model.null(result) if is_pointer(result) else Value(VOID, "abort()", POSTFIX, pure=False)
+        return self.model.null(result) if is_pointer(result) else Value(VOID, Call(VOID, "abort", ()), pure=False)
 
     def by_use(self, node: Any, name: str) -> Symbol:
         """A function that its call declares (C90 6.3.2.2)."""
@@ -63,15 +64,12 @@ class Calls(Operators):
         symbol.at = self.place_of(node) if symbol.at < 0 else symbol.at
         return symbol
 
-    def called(self, name: str, symbol: Optional[Symbol], type_: Function, arguments: Sequence[Any], node: Any, used: bool,
-               first: Sequence[str] = ()) -> Value:
+    def called(self, name: str, symbol: Optional[Symbol], type_: Function, arguments: Sequence[Any], node: Any, used: bool) -> Value:
         """A call by name."""
         real = symbol.type if symbol is not None else type_
         type_ = real if symbol is not None and isinstance(real, Function) else type_
-        texts = list(first)
         result = type_.result
-        if is_whole(result):
-            texts.append(self.room(result))
+        given = [self.room(result)] if is_whole(result) else []
         values = [self.value(argument) for argument in arguments]
         if type_.known:
             if len(values) < len(type_.parameters) or len(values) > len(type_.parameters) and not type_.more:
@@ -87,14 +85,14 @@ class Calls(Operators):
                 raise self.refuse(node, f"{len(values)} arguments where {len(type_.parameters)} are wanted", "an argument for each parameter")
             values = values[:len(type_.parameters)]
         for value, parameter in zip(values, type_.parameters):
-            texts.append(self.passed(value, parameter, node).at(ASSIGN))
+            given.append(self.passed(value, parameter, node).code)
         if type_.more:
-            texts.append(self.more(values[len(type_.parameters):], node))
+            given.append(self.more(values[len(type_.parameters):], node))
         elif len(values) > len(type_.parameters):
             if symbol is not None and symbol.defined:
                 raise self.refuse(node, f"{len(values)} arguments where {len(type_.parameters)} are wanted", "an argument for each parameter")
-            texts.extend(self.passed(it, self.by_default(it), node).at(ASSIGN) for it in values[len(type_.parameters):])
-        return Value(result, f"{mark(self.place_of(node))}{name}({', '.join(texts)})", POSTFIX, pure=False)
+            given.extend(self.passed(it, self.by_default(it), node).code for it in values[len(type_.parameters):])
+        return Value(result, Call(result, name, tuple(given), symbol, self.place_of(node)), pure=False)
 
     def by_default(self, value: Value) -> CType:
         """6.5.2.2p6."""
@@ -105,16 +103,16 @@ class Calls(Operators):
         """An argument as a parameter of the type takes it."""
         value = self.converted(value, type_, True, node)
         if is_long(type_):
-            return value._replace(text=self.long_text(value), level=POSTFIX)
+            return value._replace(code=self.long_code(value))
         return value
 
-    def room(self, type_: CType) -> str:
+    def room(self, type_: CType) -> Node:
         """A place for what a call gives, as the call takes it."""
         if is_long(type_):
-            return "&" + self.temporary("long")
+            return self.long_room(type_)
         return self.model.spare(type_)
 
-    def more(self, values: Sequence[Value], node: Any) -> str:
+    def more(self, values: Sequence[Value], node: Any) -> Node:
         """The arguments behind the last parameter, stored one after another."""
         return self.model.more_arguments([self.converted(it, self.by_default(it), False, node) for it in values], node)
 
@@ -126,47 +124,48 @@ class Calls(Operators):
             raise self.refuse(node, f"{len(values)} arguments where {len(type_.parameters)} are wanted", "an argument for each parameter")
         kinds = list(type_.parameters) if type_.known else [self.by_default(it) for it in values]
         name = self.dispatcher(type_, kinds)
-        texts = [self.room(type_.result)] if is_whole(type_.result) else []
-        texts.append(value.at(ASSIGN))
+        given = [self.room(type_.result)] if is_whole(type_.result) else []
+        given.append(value.code)
         for it, parameter in zip(values, kinds):
-            texts.append(self.passed(it, parameter, node).at(ASSIGN))
+            given.append(self.passed(it, parameter, node).code)
         if type_.more:
-            texts.append(self.more(values[len(kinds):], node))
-        return Value(type_.result, f"{mark(self.place_of(node))}{name}({', '.join(texts)})", POSTFIX, pure=False)
+            given.append(self.more(values[len(kinds):], node))
+        return Value(type_.result, Call(type_.result, name, tuple(given), None, self.place_of(node)), pure=False)
 
     def dispatcher(self, type_: Function, kinds: Sequence[CType]) -> str:
         key = (self.head_of(type_.result), is_float(type_.result),
-               tuple(self.model.parameter(it, "") + "*" * is_whole(it) + "." * is_float(it) for it in kinds), type_.more)
+               tuple((self.model.base(it), is_whole(it), is_float(it)) for it in kinds), type_.more)
         if key not in self.dispatchers:
             self.dispatchers[key] = (f"cbi_call_{len(self.dispatchers) + 1}", type_, list(kinds))
             self.count("kinds of calls by pointers")
         return self.dispatchers[key][0]
 
-    def head_of(self, result: CType) -> str:
-        """How the result of a function is spelled."""
-        if isinstance(result, Void):
-            return "void "
+    def head_of(self, result: CType) -> Tuple[str, int]:
+        """How the result of a function is spelled, and its stars."""
         if is_whole(result):
-            return self.model.whole_word(result)
+            return self.model.whole(result)
         if result == UCHAR:
-            return "int "  # a char of the text has a sign
-        return self.model.declare(result, "")
+            return "int", 0  # a char of the text has a sign
+        return self.model.base(result)
 
-    def signature(self, name: str, type_: Function, kinds: Sequence[CType], names: Sequence[str], lead: Sequence[str] = ()) -> str:
+    def parameter(self, type_: CType, name: str) -> Declarator:
+        base, stars = self.model.whole(type_) if is_whole(type_) else self.model.base(type_)
+        return Declarator(type_, base, stars, name)
+
+    def signature(self, name: str, type_: Function, kinds: Sequence[CType], names: Sequence[str], lead: Sequence[Declarator] = ()) -> Head:
         """A function's head. What is handed on by its place is a pointer."""
-        texts = [f"{self.model.whole_word(type_.result)}cbi_result"] if is_whole(type_.result) else []
-        texts += list(lead)
-        for it, word in zip(kinds, names):
-            texts.append(f"{self.model.whole_word(it)}{word}" if is_whole(it) else self.model.parameter(it, word))
+        rows = [self.parameter(type_.result, "cbi_result")] if is_whole(type_.result) else []
+        rows += [*lead, *(self.parameter(it, word) for it, word in zip(kinds, names))]
         if type_.more:
-            texts.append(f"{self.model.more_word}cbi_more")
-        return f"{self.head_of(type_.result)}{name}({', '.join(texts) or 'void'})"
+            rows.append(self.parameter(VALIST, "cbi_more"))
+        return Head(name, *self.head_of(type_.result), tuple(rows))
 
-    def dispatch_text(self, name: str, type_: Function, kinds: Sequence[CType]) -> Tuple[str, str]:
-        """The declaration of a dispatcher, and its definition."""
+    def dispatched(self, name: str, type_: Function, kinds: Sequence[CType]) -> Definition:
+        """The function that goes through all that a call by a pointer may be."""
         names = [f"cbi_{place}" for place in range(len(kinds))]
-        head = self.signature(name, type_, kinds, names, ["int cbi_function" if not self.model.in_bytes else "unsigned cbi_function"])
-        rows = []
+        function = Name(UINT if self.model.in_bytes else INT, "cbi_function")
+        head = self.signature(name, type_, kinds, names, [self.parameter(function.type, function.name)])
+        rows: List[Statement] = []
         for symbol, index in self.function_numbers.items():
             other = symbol.type
             if not isinstance(other, Function) or other.more != type_.more or not self.takes_so_many(other, type_, kinds):
@@ -175,21 +174,19 @@ class Calls(Operators):
                     self.head_of(other.result) != self.head_of(type_.result) or is_float(other.result) != is_float(type_.result)):
                 continue
             if any(is_whole(left) != is_whole(right) or is_whole(left) and not same(left, right) and not (is_long(left) and is_long(right) and is_float(left) == is_float(right))
-                   or not self.model.in_bytes and is_pointer(left) != is_pointer(right) or self.model.parameter(left, "") != self.model.parameter(right, "") and not (
+                   or not self.model.in_bytes and is_pointer(left) != is_pointer(right) or self.model.base(left) != self.model.base(right) and not (
                        self.may_pass(right, left)) for left, right in zip(other.parameters, kinds)):
                 continue
             if isinstance(type_.result, Void) and is_whole(other.result):
                 continue
-            given = names[:len(other.parameters)]
-            call = f"{symbol.text}({', '.join((['cbi_result'] if is_whole(type_.result) else []) + given + (['cbi_more'] if type_.more else []))})"
+            given = [Name(it, word) for it, word in zip(kinds, names[:len(other.parameters)])]
+            more = [Name(VALIST, "cbi_more")] * type_.more
+            call = Call(type_.result, symbol.text, (*[Name(type_.result, "cbi_result")] * is_whole(type_.result), *given, *more), symbol)
             symbol.used = True
-            suffix = "u" if self.model.in_bytes else ""
-            if isinstance(type_.result, Void):
-                rows.append(f"if (cbi_function == {index}{suffix}) {{ {call}; return; }}")
-            else:
-                rows.append(f"if (cbi_function == {index}{suffix}) return {call};")
-        rows.append("cbi_no_function(cbi_function);")
-        return head + ";", f"{head} {{ {' '.join(rows)} }}"
+            test = Binary(INT, "==", function, Number(INT, index, self.model.in_bytes))
+            rows.append(If(test, Block((Evaluate(call), Return())) if isinstance(type_.result, Void) else Return(call)))
+        rows.append(Evaluate(Call(VOID, "cbi_no_function", (function,))))
+        return Definition(head, (), tuple(rows))
 
     def takes_so_many(self, other: Function, type_: Function, kinds: Sequence[CType]) -> bool:
         """Whether a function is called by so many arguments; one that isn't declared with its parameters leaves the last ones."""
@@ -252,7 +249,7 @@ class Calls(Operators):
             label = arguments[0].name
             self.label_owner.wanted_labels.setdefault(label, self.place_of(node))
             at = self.label_segment(label)
-            return Value(Pointer(VOID), f"{at}u", POSTFIX, at)
+            return Value(Pointer(VOID), retyped(Pointer(VOID), word(at)), at)
         raise self.refuse(node, "a jump to a label that is reckoned, within an expression", "a `switch`", True)
 
     def offset(self, node: Any, arguments: Sequence[Any]) -> Value:

@@ -5,7 +5,7 @@ import sys
 from typing import List, Optional, Tuple
 
 from cbi_show.files import NOT_PROVED, TROUBLE, Words
-from cbi_port import Missing, Refused, for_preprocessor, port, wraps
+from cbi_port import Missing, Ported, Refused, for_preprocessor, port, wraps
 
 ABOUT = """Writes one text of the dialect of cbi that does what the C files do, on their lines; docs/PORTING.md says what it takes.
 What can't be kept is refused: a line for each on err, with file, line, the construct, and what to write in its place."""
@@ -25,6 +25,7 @@ def words(arguments: List[str]) -> argparse.Namespace:
     parser.add_argument("--memory", choices=["auto", "cells", "bytes", "flat"], default="auto", help="how memory is kept (docs/PORTING.md)")
     parser.add_argument("--wrap", action="store_true", help="signed integers wrap where they overflow, as with gcc's -fwrapv")
     parser.add_argument("--quiet", action="store_true", help="nothing on err but refusals")
+    parser.add_argument("--dump-typed", action="store_true", help="write the typed tree in place of the text: a node a line, with its type and place")
     parser.add_argument("--check", action="store_true", help="compare the text with the files as gcc builds them")
     parser.add_argument("--cflags", default="", metavar="FLAGS", help="the flags of your own build, for --check")
     parser.add_argument("--inputs", metavar="FOLDER", help="the inputs of --check")
@@ -48,6 +49,25 @@ def files_of(rows: List[str]) -> List[Tuple[str, Optional[bytes]]]:
     return found
 
 
+def put(said: argparse.Namespace, ported: Ported) -> None:
+    """Writes what was ported, and what is told of it."""
+    if said.o:
+        with open(said.o, "wb") as out:
+            out.write(ported.text)
+        with open(said.o + ".lines", "w") as out_map:
+            out_map.write(ported.map_text())
+    if said.dump_typed:
+        for row in ported.typed():
+            print(row)
+    elif not said.o and not said.check:
+        sys.stdout.flush()
+        sys.stdout.buffer.write(ported.text)
+    if not said.quiet:
+        for liberty in ported.liberties:
+            print(f"cbi-port: {liberty}", file=sys.stderr)
+        print(f"ported: {ported.summary()}", file=sys.stderr)
+
+
 def main() -> int:
     said = words(sys.argv[1:])
     options = for_preprocessor(said)
@@ -69,18 +89,7 @@ def main() -> int:
     except Missing as missing:
         print(f"cbi-port: {missing}", file=sys.stderr)
         return TROUBLE
-    if said.o:
-        with open(said.o, "wb") as out:
-            out.write(ported.text)
-        with open(said.o + ".lines", "w") as out_map:
-            out_map.write(ported.map_text())
-    elif not said.check:
-        sys.stdout.flush()
-        sys.stdout.buffer.write(ported.text)
-    if not said.quiet:
-        for liberty in ported.liberties:
-            print(f"cbi-port: {liberty}", file=sys.stderr)
-        print(f"ported: {ported.summary()}", file=sys.stderr)
+    put(said, ported)
     if said.check:
         from cbi_port.builds import Files, build_flags
         from cbi_port.check import check

@@ -1,13 +1,15 @@
 """Declarations (C99 6.7): what type a declarator gives, and what a struct, a union and an enumeration have."""
 from typing import TYPE_CHECKING, Any, Dict, List, Optional, Sequence, Set, Tuple
 
+from cbi_port.blocks import Statement
 from cbi_port.lines import Refusal, Sheet, Token
+from cbi_port.nodes import Assign, Name, Node, Part, product
 from cbi_port.reader import HEADERS
 from cbi_port.scopes import Names, Scope, Symbol
 from cbi_port.trees import kind
-from cbi_port.types import (INT, LDOUBLE, LLONG, UINT, ULLONG, VALIST, VOID, Array, Asked, CType, Function, Int, Length, Pointer, Quals, Struct,
-                            base_type, is_float, is_long, is_open, lay_out, size_of, spread)
-from cbi_port.values import TIMES, Place, Value
+from cbi_port.types import (INT, LDOUBLE, LLONG, UINT, ULLONG, VALIST, VOID, Array, Asked, CType, Function, Int, Length, Pointer, Quals, Struct, base_type,
+                            is_float, is_long, is_open, lay_out, size_of, spread)
+from cbi_port.values import Place, Value, word
 
 if TYPE_CHECKING:
     from cbi_port.body import Body
@@ -98,13 +100,16 @@ class Context:
     def constant(self, node: Any) -> int:
         raise NotImplementedError
 
-    def put(self, text: str, node: Any = None) -> None:
+    def add(self, row: Statement) -> None:
+        raise NotImplementedError
+
+    def do(self, code: Node, node: Any = None) -> None:
         raise NotImplementedError
 
     def converted(self, value: Value, type_: CType, implicit: bool = False, node: Any = None) -> Value:
         raise NotImplementedError
 
-    def operated(self, sign: str, left: Value, right: Value, node: Any, at: str = "") -> Value:
+    def operated(self, sign: str, left: Value, right: Value, node: Any, at: int = -1) -> Value:
         raise NotImplementedError
 
     def use(self, symbol: Symbol) -> None:
@@ -259,7 +264,7 @@ class Declarations(Context):
     def length(self, node: Any) -> Length:
         """The count of an array that isn't constant (6.7.5.2p5): it is kept where it is declared."""
         if self.prototype or kind(node.dim) == "ID" and node.dim.name == "*":
-            return Length("")
+            return Length(None)
         if self.function.name == "cbi_init":
             raise self.refuse(node, "an array of unknown length outside functions", "a constant length")
         known = self.lengths.get(id(node))
@@ -269,16 +274,16 @@ class Declarations(Context):
         if isinstance(value.type, Int):
             value = self.converted(value, UINT, True, node)
         if self.function.quiet:
-            return Length(value.at(TIMES))
-        name = self.function.lasting("unsigned") + ".value"
-        self.put(f"{name} = {value.text};", node)
+            return Length(value.code)
+        name = Part(UINT, Name(UINT, self.function.lasting("unsigned")), "value")
+        self.do(Assign(UINT, name, value.code), node)
         self.lengths[id(node)] = Length(name)
         return self.lengths[id(node)]
 
     def size_value(self, type_: CType) -> Value:
         """How many bytes an array has whose length is found out as the program runs."""
-        inner, count, texts = spread(type_)
-        return Value(UINT, " * ".join([*texts, f"{count * size_of(inner)}u"]), TIMES)
+        inner, count, lengths = spread(type_)
+        return Value(UINT, product(UINT, [*lengths, word(count * size_of(inner))]))
 
     def known(self, node: Any) -> Optional[int]:
         """The value of a constant expression; None where it is none."""

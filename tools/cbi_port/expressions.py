@@ -2,20 +2,20 @@
 from typing import Any, Optional, Tuple
 
 from cbi_port.conversions import number
-from cbi_port.lines import mark
+from cbi_port.nodes import Assign, Behind, Binary, Call, Cast, Choice, Comma, Group, Name, Node, Number, Part, Unary, Wide, bare, sequence
 from cbi_port.places import Places
 from cbi_port.scopes import BUILTIN, Symbol, plain_name
 from cbi_port.trees import kind, leading
-from cbi_port.types import (BOOL, INT, UCHAR, UINT, VOID, Array, CType, Function, Int, Pointer, Struct, Void,
-                            common, is_complete, is_float, is_long, is_open, is_pointer, promoted, same, size_of, spelled)
+from cbi_port.types import (BOOL, INT, UCHAR, UINT, VOID, Array, CType, Function, Int, Pointer, Struct, Void, common, is_complete, is_float, is_long,
+                            is_open, is_pointer, promoted, same, size_of, spelled)
 from cbi_port.unions import CHANGED
-from cbi_port.values import ASSIGN, BITAND, COMMA, COND, POSTFIX, UNARY, Leaf, Place, Value, prefixed
+from cbi_port.values import Leaf, Place, Value, retyped
 
 LONG_NAMES = {"+": "add", "-": "sub", "*": "mul", "/": "div", "%": "rem", "&": "and", "|": "or", "^": "xor", "<<": "shl", ">>": "shr"}
 
 
 class Expressions(Places):
-    """The values of expressions, as texts of the dialect."""
+    """The values of expressions."""
 
     def value(self, node: Any, used: bool = True) -> Value:
         outer = self.last_place
@@ -46,13 +46,10 @@ class Expressions(Places):
         finally:
             self.function.quiet = quiet
 
-    def pieces_between(self, node: Any, word: str) -> str:
-        """The mark of the operator that stands before a node."""
+    def sign_before(self, node: Any, sign: str) -> int:
+        """Where the operator is that stands before a node; -1 where none is found."""
         at = self.place_of(node)
-        for index in range(at - 1, max(at - 40, 0), -1):
-            if self.tokens[index].text == word:
-                return mark(index)
-        return ""
+        return next((index for index in range(at - 1, max(at - 40, 0), -1) if self.tokens[index].text == sign), -1)
 
     # 6.5.1
 
@@ -110,15 +107,15 @@ class Expressions(Places):
         if sign == "*":
             place = self.place(node)
             if isinstance(place.type, Function):
-                return Value(Pointer(place.type), place.text, place.level, pure=place.pure)
+                return Value(Pointer(place.type), retyped(Pointer(place.type), place.code), pure=place.pure)
             if isinstance(place.type, Void):
-                return Value(VOID, place.text, place.level)
+                return Value(VOID, retyped(VOID, place.code))
             return self.model.load(place, node)
         value = self.value(node.expr)
         if sign == "!":
             truth = self.truth(value)
             constant = None if truth.constant is None else int(not truth.constant)
-            return Value(INT, prefixed("!", truth.text, truth.level), UNARY, constant, value.pure)
+            return Value(INT, Unary(INT, "!", truth.code), constant, value.pure)
         if not isinstance(value.type, Int):
             raise self.refuse(node, f"`{sign}` of a `{spelled(value.type)}`", "a number as the operand: a member, an element, or a cast to a type of numbers")
         value = self.promoted(value)
@@ -136,11 +133,11 @@ class Expressions(Places):
             return number(type_.wrap(-value.constant if sign == "-" else ~value.constant), type_)
         if is_long(type_):
             name = ("cbi_long_neg" if type_.signed and not self.wraps(type_) else "cbi_long_minus") if sign == "-" else "cbi_long_not"
-            found = Value(type_, f"{name}(&{self.temporary('long')}, {value.at(ASSIGN)})", POSTFIX, pure=value.pure)
+            found = Value(type_, Call(type_, name, (self.long_room(type_), value.code)), pure=value.pure)
             return found if value.wide is None else self.cut_long(found, value.wide)
         if sign == "-" and self.wraps(type_):
             return self.wrapped_around(self.negated(self.converted(value, UINT), sign, node))
-        return Value(type_, prefixed(sign, value.text, value.level), UNARY, pure=value.pure)
+        return Value(type_, Unary(type_, sign, value.code), pure=value.pure)
 
     def wraps(self, type_: CType) -> bool:
         """Whether what overflows in a type of signed numbers wraps, as gcc's -fwrapv has it."""
@@ -148,7 +145,7 @@ class Expressions(Places):
 
     def wrapped_around(self, value: Value) -> Value:
         """A number that was computed without a sign, as an int."""
-        return Value(INT, prefixed("(int)", value.text, value.level), UNARY, value.constant, value.pure)
+        return Value(INT, Cast(INT, "int", value.code), value.constant, value.pure)
 
     def address_of(self, node: Any) -> Value:
         inner = node.expr
@@ -157,7 +154,7 @@ class Expressions(Places):
             if symbol is not None and symbol.kind == "function":
                 return self.value(inner)
             if symbol is not None and symbol.open is not None:
-                return self.value(inner)._replace(type=Pointer(symbol.open))
+                return self.value(inner).as_type(Pointer(symbol.open))
         if kind(inner) == "UnaryOp" and inner.op == "*":
             value = self.value(inner.expr)
             if is_pointer(value.type):
@@ -210,11 +207,10 @@ class Expressions(Places):
             place = self.model.within(place, CHANGED)
             if is_pointer(type_) and not is_complete(type_.to):
                 raise self.refuse(node, f"a moved `{spelled(type_)}`", "a pointer to a complete type", True)
-            text = f"{place.at(POSTFIX)}{sign}{sign}" if behind else prefixed(sign + sign, place.text, place.level)
-            level = POSTFIX if behind else UNARY
+            code: Node = Behind(type_, sign + sign, place.code) if behind else Unary(type_, sign + sign, place.code)
             if type_ == UCHAR and used:
-                return Value(type_, f"{text if level > BITAND else text} & 255", BITAND, pure=False, raw=f"({text})")
-            return Value(type_, text, level, pure=False)
+                return Value(type_, self.byte_of(code), pure=False, raw=Group(type_, code))
+            return Value(type_, code, pure=False)
         before, place = self.model.pin(place)
         one = number(1)
         old = self.model.load(place, node)
@@ -223,30 +219,39 @@ class Expressions(Places):
         new = self.operated("+" if sign == "+" else "-", old, one, node)
         return self.after(before, self.assigned(place, new, used, node))
 
-    def old_value(self, before: str, place: Place, old: Value, sign: str, node: Any) -> Value:
+    def old_value(self, before: Optional[Node], place: Place, old: Value, sign: str, node: Any) -> Value:
         """The old value of a place that is stepped."""
         spare, kept = self.keep(old)
         new = self.operated(sign, kept, number(1), node)
         stored = self.assigned(place, new, False, node)
-        return Value(kept.type, f"({before}{spare}, {stored.text}, {kept.text})", POSTFIX, pure=False, bits=old.bits)
+        return Value(kept.type, sequence(kept.type, before, spare, stored.code, kept.code), pure=False, bits=old.bits)
 
-    def keep(self, value: Value) -> Tuple[str, Value]:
-        """Stores a value beside; the text that does it, and the value from there."""
-        if is_long(value.type):
-            name = self.temporary("long")
-            return f"cbi_long_copy(&{name}, {self.long_text(value)})", Value(value.type, f"&{name}", UNARY)
-        if is_pointer(value.type) and not self.model.in_bytes and not isinstance(value.type.to, Function):
-            name = self.temporary(self.model.spell(value.type))
-            return f"{name} = {value.at(ASSIGN)}", value._replace(text=name, level=POSTFIX, pure=True, raw=None)
-        word = "unsigned" if isinstance(value.type, Int) and not value.type.signed and value.type.rank >= 3 and value.bits is None or (
-            is_pointer(value.type) and self.model.in_bytes) else "int"
-        name = self.temporary(word) + ".value"
-        return f"{name} = {value.at(ASSIGN)}", value._replace(text=name, level=POSTFIX, pure=True, raw=None)
+    def byte_of(self, code: Node) -> Node:
+        """A char of the text, which has a sign, as one without."""
+        return Binary(UCHAR, "&", code, Number(INT, 255))
 
-    def after(self, before: str, value: Value) -> Value:
-        if not before:
+    def keep(self, value: Value) -> Tuple[Node, Value]:
+        """Stores a value beside; what does it, and the value from there."""
+        type_ = value.type
+        if is_long(type_):
+            name = self.long_room(type_)
+            return Call(type_, "cbi_long_copy", (name, self.long_code(value))), Value(type_, name)
+        if is_pointer(type_) and not self.model.in_bytes and not isinstance(type_.to, Function):
+            kept: Node = Name(type_, self.temporary(self.model.base(type_)))
+            return Assign(type_, kept, value.code), value._replace(code=kept, pure=True, raw=None)
+        word = "unsigned" if isinstance(type_, Int) and not type_.signed and type_.rank >= 3 and value.bits is None or (
+            is_pointer(type_) and self.model.in_bytes) else "int"
+        kept = self.scalar_room(type_, word)
+        return Assign(type_, kept, value.code), value._replace(code=kept, pure=True, raw=None)
+
+    def scalar_room(self, type_: CType, word: str) -> Node:
+        """Room for a number within a statement."""
+        return Part(type_, Name(type_, self.temporary(word)), "value")
+
+    def after(self, before: Optional[Node], value: Value) -> Value:
+        if before is None:
             return value
-        return value._replace(text=f"({before}{value.text})", level=POSTFIX, pure=False, raw=None)
+        return value._replace(code=sequence(value.type, before, value.code), pure=False, raw=None)
 
     # 6.5.4
 
@@ -257,7 +262,7 @@ class Expressions(Places):
             value = self.value(inner, False)
             if isinstance(value.type, Void):
                 return value
-            return Value(VOID, prefixed("(void)", value.text, value.level), UNARY, pure=value.pure)
+            return Value(VOID, Cast(VOID, "void", value.code), pure=value.pure)
         value = self.value(inner)
         if isinstance(type_, Struct) and type_.union and value.type is not type_:
             return self.model.load(self.cast_to_union(type_, value, inner, node), node)
@@ -295,7 +300,7 @@ class Expressions(Places):
         if is_long(type_):
             if place.member is not None:
                 value = self.cut_long(value, place.member.width)
-            return self.model.copy(place, value._replace(text=self.long_text(value)) if value.constant is None else value, used, node)._replace(wide=value.wide)
+            return self.model.copy(place, value._replace(code=self.long_code(value)) if value.constant is None else value, used, node)._replace(wide=value.wide)
         if place.member is not None and isinstance(type_, Int) and place.member.width < 32:
             value = self.cut(value, place.member.width, type_)
         return self.model.store(place, value, used)
@@ -308,8 +313,8 @@ class Expressions(Places):
         if value.constant is not None:
             whole = value.constant & ((1 << bits) - 1)
             return number(whole - (1 << bits) if type_.signed and whole >> (bits - 1) else whole, type_)._replace(wide=bits)
-        text = f"cbi_long_cut(&{self.temporary('long')}, {self.long_text(value)}, {bits}, {int(type_.signed)})"
-        return Value(type_, text, POSTFIX, None, value.pure, wide=bits)
+        code = Call(type_, "cbi_long_cut", (self.long_room(type_), self.long_code(value), Number(INT, bits), Number(INT, int(type_.signed))))
+        return Value(type_, code, None, value.pure, wide=bits)
 
     def cut(self, value: Value, bits: int, type_: Int) -> Value:
         """A value as a bit-field keeps it."""
@@ -326,21 +331,21 @@ class Expressions(Places):
             natural = not place.memory and not self.model.in_bytes and not place.stored and not isinstance(type_.to, (Void, Array, Function))
             if natural and is_complete(type_.to):
                 place = self.model.within(place, CHANGED)
-                return Value(type_, f"{place.text} {sign}= {self.index(value).at(ASSIGN)}", ASSIGN, pure=False)
+                return Value(type_, Assign(type_, place.code, self.index(value).code, sign + "="), pure=False)
         elif not isinstance(type_, Int):
             raise self.refuse(node, f"`{sign}=` of a `{spelled(type_)}`", "a number on the left: a member, an element or a variable of a type of numbers")
         elif isinstance(value.type, Int) and not is_float(value.type) and not is_float(type_) and not place.memory and place.member is None and not is_long(value.type) and not (
                 sign in ("+", "-", "*", "<<") and self.wraps(promoted(type_) if sign == "<<" else common(promoted(type_), promoted(value.type, value.bits)))) and (
                 type_.rank >= 3 and type_.size == 4 or type_.size == 1 and type_.rank == 1 and (type_ != UCHAR or sign in "+-*&|^")):
             place = self.model.within(place, CHANGED)
-            text = f"{place.text} {sign}= {self.promoted(value).at(ASSIGN)}"
+            code = Assign(type_, place.code, self.promoted(value).code, sign + "=")
             if type_ == UCHAR and used:
-                return Value(type_, f"({text}) & 255", BITAND, pure=False, raw=f"({text})")
-            return Value(type_, text, ASSIGN, pure=False)
+                return Value(type_, self.byte_of(code), pure=False, raw=Group(type_, code))
+            return Value(type_, code, pure=False)
         before, place = self.model.pin(place)
         if not value.pure and value.constant is None:
             spare, value = self.keep(value)
-            before += spare + ", "
+            before = spare if before is None else Comma(value.type, (before, spare))
         new = self.operated(sign, self.model.load(place, node), value, node)
         return self.after(before, self.assigned(place, new, used, node))
 
@@ -349,19 +354,16 @@ class Expressions(Places):
     def of_ExprList(self, node: Any, used: bool) -> Value:
         parts = [self.value(item, False) for item in node.exprs[:-1]]
         last = self.value(node.exprs[-1], used)
-        text = ", ".join([part.at(ASSIGN) for part in parts if part.text] + [last.at(ASSIGN)])
-        if is_long(last.type) and last.constant is not None:
-            last = last._replace(text=self.long_text(last))
-            text = ", ".join([part.at(ASSIGN) for part in parts if part.text] + [last.at(ASSIGN)])
-        return Value(last.type, text, COMMA, None, all(part.pure for part in parts) and last.pure, last.bits)
+        code = self.long_code(last) if is_long(last.type) else last.code
+        row = [part.code for part in parts if not isinstance(bare(part.code), Wide)]
+        return Value(last.type, Comma(last.type, (*row, code)), None, all(part.pure for part in parts) and last.pure, last.bits)
 
     def of_TernaryOp(self, node: Any, used: bool) -> Value:
         same_as = kind(node.iftrue) == "ID" and node.iftrue.name == "__cbi_same"
         condition = self.value(node.cond)
-        before = ""
+        before: Optional[Node] = None
         if same_as:
             before, condition = self.keep(condition)
-            before += ", "
             self.function.same.append(condition)
         left = self.if_live(node.iftrue, used, condition.constant != 0)
         right = self.if_live(node.iffalse, used, condition.constant is None or condition.constant == 0)
@@ -386,15 +388,14 @@ class Expressions(Places):
         if truth.constant is not None:
             constant = left.constant if truth.constant else right.constant
         if isinstance(type_, Void):
-            left, right = (it if isinstance(it.type, Void) else Value(VOID, prefixed("(void)", it.text, it.level), UNARY) for it in (left, right))
+            left, right = (it if isinstance(it.type, Void) else Value(VOID, Cast(VOID, "void", it.code)) for it in (left, right))
         if is_long(type_):
-            left, right = (it._replace(text=self.long_text(it), level=POSTFIX if it.constant is not None else it.level) for it in (left, right))
-        question, colon = self.pieces_between(node.iftrue, "?"), self.pieces_between(node.iffalse, ":")
-        text = f"{truth.at(COND + 1)} {question}? {left.at(COMMA)} {colon}: {right.at(COND)}"
+            left, right = (it._replace(code=self.long_code(it)) for it in (left, right))
+        code = Choice(type_, truth.code, left.code, right.code, self.sign_before(node.iftrue, "?"), self.sign_before(node.iffalse, ":"))
         if truth.constant is not None and constant is not None and condition.pure:
-            return number(constant, type_) if isinstance(type_, Int) and not is_long(type_) else Value(type_, text, COND, constant)
+            return number(constant, type_) if isinstance(type_, Int) and not is_long(type_) else Value(type_, code, constant)
         null = left.null and right.null
-        return Value(type_, text, COND, constant if truth.constant is not None else None, truth.pure and left.pure and right.pure, null=null)
+        return Value(type_, code, constant if truth.constant is not None else None, truth.pure and left.pure and right.pure, null=null)
 
     def arm_type(self, left: Value, right: Value, node: Any) -> CType:
         if isinstance(left.type, Int) and isinstance(right.type, Int):

@@ -9,8 +9,9 @@ from fractions import Fraction
 from typing import Any, Optional, Tuple
 
 from cbi_port.conversions import Conversions, number
+from cbi_port.nodes import Binary, Call, Node, Unary
 from cbi_port.types import DOUBLE, FLOAT, INT, LDOUBLE, UINT, ULLONG, Int, common, is_float, is_long, is_whole
-from cbi_port.values import ASSIGN, BITAND, POSTFIX, UNARY, XOR, Value
+from cbi_port.values import Value, retyped, word
 
 NAMES = {"+": "add", "-": "sub", "*": "mul", "/": "div", "<": "less", "<=": "most", ">": "less_turned", ">=": "most_turned", "==": "same", "!=": "same"}
 
@@ -64,12 +65,12 @@ def whole_hex(digits: str) -> Fraction:
 class Floats(Conversions):
     """Values of floating types."""
 
-    def by_prelude(self, name: str, type_: Int, pure: bool, *texts: str) -> Value:
+    def by_prelude(self, name: str, type_: Int, pure: bool, *given: Node) -> Value:
         found = self.prelude_symbol("__cbi_" + name)
         assert found is not None
         self.use(found)
-        rooms = [f"&{self.temporary('long')}"] if is_whole(type_) else []
-        return Value(type_, f"{found.text}({', '.join([*rooms, *texts])})", POSTFIX, pure=pure)
+        rooms = [self.long_room(type_)] if is_whole(type_) else []
+        return Value(type_, Call(type_, found.text, (*rooms, *given), found), pure=pure)
 
     def float_constant(self, node: Any, text: str) -> Value:
         found = read_constant(text)
@@ -79,10 +80,10 @@ class Floats(Conversions):
 
     def as_double(self, value: Value) -> Value:
         if value.type != FLOAT:
-            return value._replace(type=DOUBLE)
+            return value.as_type(DOUBLE)
         if value.constant is not None:
             return number(bits_of(number_of(value.constant, FLOAT), DOUBLE), DOUBLE)
-        return self.by_prelude("double_of_single", DOUBLE, value.pure, value.at(ASSIGN))
+        return self.by_prelude("double_of_single", DOUBLE, value.pure, value.code)
 
     def between(self, value: Value, type_: Int) -> Value:
         """To or from a floating type."""
@@ -93,12 +94,12 @@ class Floats(Conversions):
             found = number_of(value.constant, DOUBLE)
             if math.isfinite(found) and type_.least <= math.trunc(found) <= type_.most:
                 return number(math.trunc(found), type_)
-        text = self.long_text(value)
+        given = self.long_code(value)
         if is_long(type_):
-            return self.by_prelude("long_of_double" if type_.signed else "wide_of_double", type_, value.pure, text)
+            return self.by_prelude("long_of_double" if type_.signed else "wide_of_double", type_, value.pure, given)
         if type_.size == 4:
-            return self.by_prelude("int_of_double" if type_.signed else "unsigned_of_double", type_, value.pure, text)
-        return self.to_number(self.by_prelude("int_of_double", INT, value.pure, text), type_, False)
+            return self.by_prelude("int_of_double" if type_.signed else "unsigned_of_double", type_, value.pure, given)
+        return self.to_number(self.by_prelude("int_of_double", INT, value.pure, given), type_, False)
 
     def to_float(self, value: Value, type_: Int) -> Value:
         if is_float(value.type):
@@ -106,12 +107,12 @@ class Floats(Conversions):
                 return value
             wide = self.as_double(value)
             if type_ != FLOAT:
-                return wide._replace(type=type_)
+                return wide.as_type(type_)
             if wide.constant is not None and not math.isnan(number_of(wide.constant, DOUBLE)):
                 found = number_of(wide.constant, DOUBLE)
                 if abs(found) < 2.0 ** 127:
                     return number(bits_of(found, FLOAT), FLOAT)
-            return self.by_prelude("single_of_double", FLOAT, wide.pure, self.long_text(wide))
+            return self.by_prelude("single_of_double", FLOAT, wide.pure, self.long_code(wide))
         value = self.promoted(value)
         if value.constant is not None and abs(value.constant) <= 1 << 24:
             return number(bits_of(float(value.constant), type_), type_)
@@ -119,23 +120,23 @@ class Floats(Conversions):
             return number(bits_of(float(value.constant), type_), type_)
         head = "single_of" if type_ == FLOAT else "double_of"
         if is_long(value.type):
-            return self.by_prelude(f"{head}_{'long' if value.type.signed else 'wide'}", type_, value.pure, self.long_text(value))
-        return self.by_prelude(f"{head}_{'int' if value.type.signed or value.bits is not None else 'unsigned'}", type_, value.pure, value.at(ASSIGN))
+            return self.by_prelude(f"{head}_{'long' if value.type.signed else 'wide'}", type_, value.pure, self.long_code(value))
+        return self.by_prelude(f"{head}_{'int' if value.type.signed or value.bits is not None else 'unsigned'}", type_, value.pure, value.code)
 
     def float_truth(self, value: Value, one: bool) -> Value:
         if value.constant is not None:
             return number(int(value.constant & ((1 << (8 * value.type.size - 1)) - 1) != 0))
         if value.type == FLOAT:
-            found = Value(INT, f"{value.at(BITAND)} & 2147483647u", BITAND, pure=value.pure)
-            return self.truth(Value(UINT, found.text, BITAND, pure=value.pure), one) if one else found
-        return self.by_prelude("double_is", INT, value.pure, self.long_text(value))
+            bits = Binary(UINT, "&", value.code, word(0x7fffffff))
+            return self.truth(Value(UINT, bits, pure=value.pure), one) if one else Value(INT, retyped(INT, bits), pure=value.pure)
+        return self.by_prelude("double_is", INT, value.pure, self.long_code(value))
 
     def float_negated(self, value: Value) -> Value:
         if value.constant is not None:
             return number(value.constant ^ 1 << (8 * value.type.size - 1), value.type)
         if value.type == FLOAT:
-            return Value(FLOAT, f"{value.at(XOR)} ^ 2147483648u", XOR, pure=value.pure)
-        return self.by_prelude("double_neg", value.type, value.pure, self.long_text(value))
+            return Value(FLOAT, Binary(FLOAT, "^", value.code, word(1 << 31)), pure=value.pure)
+        return self.by_prelude("double_neg", value.type, value.pure, self.long_code(value))
 
     def float_operated(self, sign: str, left: Value, right: Value, node: Any) -> Value:
         if sign not in NAMES:
@@ -146,11 +147,11 @@ class Floats(Conversions):
         if known is not None:
             return known
         pure = left.pure and right.pure
-        texts = [self.long_text(left), self.long_text(right)]
+        given = [self.long_code(left), self.long_code(right)]
         if sign not in "+-*/":
-            found = self.by_prelude("double_" + NAMES[sign], INT, pure, *texts)
-            return Value(INT, f"!{found.text}", UNARY, pure=pure) if sign == "!=" else found
-        result = self.by_prelude("double_" + NAMES[sign], DOUBLE, pure, *texts)
+            found = self.by_prelude("double_" + NAMES[sign], INT, pure, *given)
+            return Value(INT, Unary(INT, "!", found.code), pure=pure) if sign == "!=" else found
+        result = self.by_prelude("double_" + NAMES[sign], DOUBLE, pure, *given)
         return self.to_float(result, type_)
 
     def reckoned_float(self, sign: str, left: Value, right: Value, type_: Int) -> Optional[Value]:
@@ -173,11 +174,11 @@ class Floats(Conversions):
 
     def lib___cbi_bits(self, node: Any, arguments: Any, used: bool) -> Value:
         value = self.converted(self.value(arguments[0]), DOUBLE)
-        return value._replace(type=ULLONG)
+        return value.as_type(ULLONG)
 
     def lib___cbi_of_single(self, node: Any, arguments: Any, used: bool) -> Value:
         value = self.converted(self.value(arguments[0]), UINT)
-        return value._replace(type=FLOAT)
+        return value.as_type(FLOAT)
 
     def lib_inf(self, node: Any, arguments: Any, used: bool) -> Value:
         return number(0x7ff0000000000000, DOUBLE)
@@ -191,4 +192,4 @@ class Floats(Conversions):
 
     def lib___cbi_of_bits(self, node: Any, arguments: Any, used: bool) -> Value:
         value = self.converted(self.value(arguments[0]), ULLONG)
-        return value._replace(type=DOUBLE)
+        return value.as_type(DOUBLE)

@@ -2,11 +2,12 @@
 from typing import Any, Dict, Optional, Sequence, Tuple
 
 from cbi_port.conversions import number
+from cbi_port.nodes import Assign, Call, Comma, Number, sequence
 from cbi_port.scopes import Symbol
-from cbi_port.statements import Statements
+from cbi_port.switches import Switches
 from cbi_port.trees import kind
 from cbi_port.types import INT, LLONG, LONG, UINT, ULLONG, ULONG, VOID, Int, Pointer, spelled
-from cbi_port.values import ASSIGN, POSTFIX, UNARY, Value
+from cbi_port.values import Value, retyped
 
 KINDS = {"add": 0, "sub": 1, "mul": 2}
 # What each function of overflows reckons, the type of its operands where its name says it, and whether it only asks.
@@ -27,7 +28,7 @@ NEVER_CALLED = {"alloca", "object_size", "prefetch", "trap", "unreachable", *OVE
                 "isnan", "isnormal", "isunordered", "signbit"}
 
 
-class GnuCalls(Statements):
+class GnuCalls(Switches):
     """Calls of functions that begin with `__builtin_`."""
 
     def outer_function(self, name: str) -> Optional[Symbol]:
@@ -56,19 +57,20 @@ class GnuCalls(Statements):
             raise self.refuse(node, "an operand that is no number", "whole numbers for the first two arguments")
         operands = [self.promoted(it) for it in operands]
         signs = [int(it.type.signed) for it in operands]
-        wide = [self.long_text(self.converted(it, LLONG if it.type.signed else ULLONG)) for it in operands]
+        wide = [self.long_code(self.converted(it, LLONG if it.type.signed else ULLONG)) for it in operands]
         target = values[2].type if asks else values[2].type.to if isinstance(values[2].type, Pointer) else None
         if not isinstance(target, Int):
             raise self.refuse(node, f"a result of type `{spelled(values[2].type)}`", "a pointer to a number")
-        room = f"&{self.temporary('long')}"
+        room = self.long_room(ULLONG)
         bits = values[2].bits or values[2].wide or 8 * target.size if asks else 1 if target.rank == 0 else 8 * target.size
-        call = f"cbi_reckoned({room}, {wide[0]}, {signs[0]}, {wide[1]}, {signs[1]}, {what}, {bits}, {int(target.signed)})"
+        given = [(wide[0], Number(INT, signs[0])), (wide[1], Number(INT, signs[1])), (Number(INT, what), Number(INT, bits), Number(INT, int(target.signed)))]
+        call = Call(INT, "cbi_reckoned", (room, *(it for row in given for it in row)))
         if asks:
-            return Value(INT, call, POSTFIX, pure=False)
+            return Value(INT, call, pure=False)
         before, place = self.model.pin(self.model.target(values[2], node))
-        flag = self.temporary("int") + ".value"
-        store = self.assigned(place, Value(ULLONG, room, UNARY), False, node)
-        return Value(INT, f"({before}{flag} = {call}, {store.at(ASSIGN)}, {flag})", POSTFIX, pure=False)
+        flag = self.scalar_room(INT, "int")
+        store = self.assigned(place, Value(ULLONG, room), False, node)
+        return Value(INT, sequence(INT, before, Assign(INT, flag, call), store.code, flag), pure=False)
 
     def lib___builtin_expect(self, node: Any, arguments: Sequence[Any], used: bool) -> Value:
         value = self.converted(self.value(arguments[0]), LONG)
@@ -76,7 +78,7 @@ class GnuCalls(Statements):
         if other.pure:
             return value
         kept, value = self.keep(value)
-        return self.after(f"{kept}, {other.at(ASSIGN)}, ", value)
+        return self.after(Comma(LONG, (kept, other.code)), value)
 
     def lib___builtin_constant_p(self, node: Any, arguments: Sequence[Any], used: bool) -> Value:
         quiet, self.function.quiet = self.function.quiet, True
@@ -91,13 +93,13 @@ class GnuCalls(Statements):
         return self.value(arguments[1] if self.constant(arguments[0]) else arguments[2], used)
 
     def lib_unreachable(self, node: Any, arguments: Sequence[Any], used: bool) -> Value:
-        return Value(VOID, "abort()", POSTFIX, pure=False)
+        return Value(VOID, Call(VOID, "abort", ()), pure=False)
 
     lib_trap = lib_unreachable
 
     def lib_prefetch(self, node: Any, arguments: Sequence[Any], used: bool) -> Value:
         values = [it for it in (self.value(argument, False) for argument in arguments[:1]) if not it.pure]
-        return Value(VOID, values[0].text if values else "0", values[0].level if values else POSTFIX, pure=not values)
+        return Value(VOID, retyped(VOID, values[0].code) if values else Number(VOID, 0), pure=not values)
 
     def lib_object_size(self, node: Any, arguments: Sequence[Any], used: bool) -> Value:
         raise self.refuse(node, "`__builtin_object_size`", "the size itself")

@@ -1,11 +1,19 @@
 """What is added to a text: declarations on its first line, and functions behind its end."""
 import os
 import re
+from dataclasses import replace
 from typing import Any, Dict, List, Sequence, Set, Tuple
 
 from cbi_port import Ported
-from cbi_port.lines import Refusal, bare
-from cbi_port.types import CType, Pointer, Struct, Void, is_long, is_whole, to_function
+from cbi_port.alike import cells
+from cbi_port.blocks import Definition, Evaluate, Head, Statement, Template
+from cbi_port.dump import dumped
+from cbi_port.late import decided
+from cbi_port.lines import Refusal
+from cbi_port.names import names_of
+from cbi_port.nodes import Call, Name
+from cbi_port.types import UINT, VOID, CType, Pointer, Struct, Void, is_long, is_whole, to_function
+from cbi_port.writer import plain, prototype, record, statement, text_of
 
 HERE = os.path.join(os.path.dirname(os.path.abspath(__file__)), "prelude")
 WORD = re.compile(r"\bcbi_\w+")
@@ -30,17 +38,23 @@ def raw_pieces(names: Sequence[str]) -> Dict[str, Tuple[str, str]]:
     return found
 
 
+def name_of(found: Any) -> str:
+    """The name of a function."""
+    return str(found.head.name if isinstance(found, Definition) else found.name)
+
+
 class Helpers:
     """Joins the parts of a program."""
 
     def __init__(self, program: Any) -> None:
         self.program = program
         self.heads: List[str] = []
-        self.tails: List[str] = []
+        self.tails: List[Any] = []          # definitions, and functions of the tool's own
 
-    def add(self, pair: Tuple[str, str]) -> None:
-        self.heads.append(pair[0])
-        self.tails.append(pair[1])
+    def add(self, found: Any) -> None:
+        """Adds a function, which is declared first."""
+        self.heads.append(prototype(found.head) if isinstance(found, Definition) else found.head)
+        self.tails.append(found)
 
     def ported(self) -> Ported:
         program, model, sheet = self.program, self.program.model, self.program.sheet
@@ -51,17 +65,34 @@ class Helpers:
             self.typed()
         except Refusal as refusal:
             program.tell(refusal)
-        pairs = []
-        for name, type_, kinds in program.dispatchers.values():
-            pairs.append(program.dispatch_text(name, type_, kinds))
-        for pair in pairs:
-            self.add(pair)
+        for found in [program.dispatched(*row) for row in program.dispatchers.values()]:
+            self.add(found)
+        self.settle(self.beginning())
+        every = [symbol for symbol, _, _ in program.definitions + [it for it in program.waiting if it[0].unit == "prelude" or it[0].object is not None]]
+        heads = [program.signature(symbol.text, symbol.type, symbol.type.parameters, [""] * len(symbol.type.parameters))
+                 for symbol in every if symbol.emitted and symbol.text != "main"]
+        structs = [model.record(struct) for struct in program.structs] if not model.in_bytes else []
+        raw = self.raw(names_of(*sheet.every(), *self.tails, *heads, *program.globals, *structs) | self.named_by_templates())
+        raw_structs = [head for name, (head, tail) in raw.items() if name.startswith("struct ")]
+        raw_heads = [head for name, (head, tail) in raw.items() if not name.startswith("struct ")]
+        sheet.head = [*raw_structs, *map(record, structs), *raw_heads, *self.heads, *map(prototype, heads), *(plain(statement(it)) for it in program.globals)]
+        sheet.tail += [*self.tails, *(Template(name, head, tail) for name, (head, tail) in raw.items() if tail)]
+        text, lines = sheet.laid()
+        added = sorted({name for name in map(name_of, sheet.tail) if name.startswith("cbi_")} | set(program.added))
+        if any(name_of(it) == "main" for it in sheet.tail):
+            added.append("main")
+        return Ported(text.encode("latin-1"), lines, added, list(program.liberties), {name: count for name, count in program.counts.items() if name},
+                      lambda: dumped(sheet.users(), program.tokens))
+
+    def beginning(self) -> List[Statement]:
+        """What a program does first; where `main` wants more, a function of that name is added that calls it."""
+        program, model = self.program, self.program.model
         main = program.externals.get("main")
         init = program.first.out
         wrapped = main is not None and main.text != "main"
         if init:
-            self.add(("void cbi_init(void);", f"void cbi_init(void) {{ {program.first.declarations()}{' '.join(init)} }}"))
-        start = "cbi_init(); " if init else ""
+            self.add(Definition(Head("cbi_init", "void", 0, ()), tuple(program.first.declarations()), tuple(init)))
+        start: List[Statement] = [Evaluate(Call(VOID, "cbi_init", ()))] * bool(init)
         if wrapped:
             call, rows = model.main_arguments(self, len(main.type.parameters))
         if model.in_bytes:
@@ -69,40 +100,35 @@ class Helpers:
                 model.finish_memory(self)
             except Refusal as refusal:
                 program.tell(refusal)
-            start = getattr(model, "start", "") + start
+            start = [*model.start, *start]
         if wrapped:
-            self.main_wrapper(main, start, call, rows)
-        for parts in sheet.parts.values():
-            parts[:] = [self.resolved(text.replace("\x05", start)) for text in parts]
-        sheet.apart[:] = [(file, self.resolved(text)) for file, text in sheet.apart]
-        sheet.tail[:] = [self.resolved(text) for text in sheet.tail]
-        self.tails = [self.resolved(text) for text in self.tails]
-        every = [symbol for symbol, _, _ in program.definitions + [it for it in program.waiting if it[0].unit == "prelude" or it[0].object is not None]]
-        protos = [program.signature(symbol.text, symbol.type, symbol.type.parameters, [""] * len(symbol.type.parameters)) + ";"
-                  for symbol in every if symbol.emitted and symbol.text != "main"]
-        protos = [re.sub(r" ([,)])", r"\1", text) for text in protos]
-        body = " ".join(text for parts in sheet.parts.values() for text in parts) + " ".join([text for _, text in sheet.apart] + sheet.tail + self.tails + protos + program.globals_text)
-        structs = [model.spell_struct(struct) for struct in program.structs if self.mentioned(struct, body)] if not model.in_bytes else []
-        raw = self.raw(body + " ".join(structs))
-        raw_structs = [head for name, (head, tail) in raw.items() if name.startswith("struct ")]
-        raw_heads = [head for name, (head, tail) in raw.items() if not name.startswith("struct ")]
-        sheet.head = [bare(text) for text in raw_structs + structs + raw_heads + self.heads + protos + program.globals_text]
-        sheet.tail += [bare(text) for text in self.tails] + [tail for _, tail in raw.values() if tail]
-        text, lines = sheet.laid()
-        added = sorted(set(re.findall(r"\b(cbi_\w+)\([^;{]*\) \{", " ".join(sheet.tail))) | set(program.added))
-        if wrapped:
-            added.append("main")
-        return Ported(text.encode("latin-1"), lines, added, list(program.liberties), {name: count for name, count in program.counts.items() if name})
+            self.main_wrapper(main, "".join(plain(statement(it)) + " " for it in start), call, rows)
+        return start
 
-    def mentioned(self, struct: Struct, body: str) -> bool:
-        return True
+    def settle(self, start: List[Statement]) -> None:
+        """Leaves nothing open in any tree."""
+        sheet = self.program.sheet
+        for trees in sheet.parts.values():
+            trees[:] = [self.settled(it, start) for it in trees]
+        sheet.apart[:] = [(file, self.settled(it, start)) for file, it in sheet.apart]
+        sheet.tail[:] = [self.settled(it, start) for it in sheet.tail]
+        self.tails = [self.settled(it, start) for it in self.tails]
 
-    def raw(self, text: str) -> Dict[str, Tuple[str, str]]:
+    def settled(self, tree: Any, start: List[Statement]) -> Any:
+        """A tree in which nothing is left open; the function that runs first does first what the program begins with."""
+        found = decided(tree, self.program.later, self.all_copied)
+        return replace(found, first=(*start, *found.first)) if isinstance(found, Definition) and found.begins else found
+
+    def named_by_templates(self) -> Set[str]:
+        """The names in the functions of the tool's own."""
+        return {name for it in self.tails if isinstance(it, Template) for name in WORD.findall(it.text)}
+
+    def raw(self, names: Set[str]) -> Dict[str, Tuple[str, str]]:
         """The parts of the prelude's own text that are named, and those that these name."""
         model = self.program.model
         pieces = raw_pieces(["raw_bytes.c" if model.in_bytes else "raw_cells.c", *["raw_bounds.c"] * (model.in_bytes and model.bounded), "raw_long.c"])
         wanted: Set[str] = set()
-        todo = set(WORD.findall(text))
+        todo = set(names)
         while todo:
             name = todo.pop()
             for key in (name, "struct " + name):
@@ -110,16 +136,6 @@ class Helpers:
                     wanted.add(key)
                     todo |= set(WORD.findall(" ".join(pieces[key])))
         return {name: pieces[name] for name in pieces if name in wanted}
-
-    def resolved(self, text: str) -> str:
-        """What was left open until all was known."""
-        def choice(found: "re.Match[str]") -> str:
-            entry = self.program.later[int(found[1])]
-            copied = any(struct in self.all_copied for struct in entry[0])
-            return str(entry[1] if copied else entry[2] if len(entry) > 2 else "")
-        while "\x03" in text:
-            text = re.sub("\x03(\\d+)\x04", choice, text)
-        return text
 
     def main_wrapper(self, main: Any, start: str, call: str, rows: str) -> None:
         program = self.program
@@ -129,7 +145,7 @@ class Helpers:
             last = f"cbi_exit_now(cbi_user_main({call})); return 0;"
         else:
             last = f"return cbi_user_main({call});"
-        self.tails.append(f"int main(void) {{ {start}{rows}{last} }}")
+        self.tails.append(Template("main", "", f"int main(void) {{ {start}{rows}{last} }}"))
 
     # Functions that go by types.
 
@@ -149,10 +165,8 @@ class Helpers:
                 self.add(model.copy_function(struct))
         self.all_copied = set(done) | {name for _, name in program.movers}
         for entry in program.later:
-            if any(struct in self.all_copied for struct in entry[0]):
-                for name in re.findall(r"cbi_new_(\w+)", entry[1]):
-                    if name in program.makers_if:
-                        program.makers.setdefault(name, program.makers_if[name])
+            if entry.maker and any(struct in self.all_copied for struct in entry.structs):
+                program.makers.setdefault(entry.maker, program.makers_if[entry.maker])
         for name, type_ in program.makers.items():
             self.add(self.maker(name, type_))
         for name, type_ in program.resized.items():
@@ -176,7 +190,7 @@ class Helpers:
     def word(self, type_: CType) -> str:
         if isinstance(type_, Pointer) and not to_function(type_):
             return "void **"
-        return str(self.program.model.declare(Pointer(type_), "")) if not to_function(type_) else "int *"
+        return str(self.program.model.spell(Pointer(type_))) if not to_function(type_) else "int *"
 
     def store(self, to: str, from_: str, type_: CType) -> str:
         """An element that is copied; both are pointers."""
@@ -187,36 +201,36 @@ class Helpers:
         return f"*({to}) = *({from_});"
 
     def per(self, type_: CType) -> int:
-        from cbi_port.cells import cells
+        from cbi_port.alike import cells
         return cells(type_)
 
-    def maker(self, name: str, type_: CType) -> Tuple[str, str]:
+    def maker(self, name: str, type_: CType) -> Template:
         word, per = self.word(type_), self.per(type_)
         make = "cbi_malloc" if self.program.keeps_sizes else "malloc"
-        clear = self.program.model.clear_cells("cbi_at", type_, "cbi_count")
+        clear = text_of(self.program.model.clear_cells(Name(Pointer(type_), "cbi_at"), type_, Name(UINT, "cbi_count")))
         head = f"{word}cbi_new_{name}(unsigned cbi_count)" if word != "void **" else f"void *cbi_new_{name}(unsigned cbi_count)"
         times = (f" * {per}" if per > 1 else "") + " + (cbi_count == 0)" * (not self.program.keeps_sizes)
-        return head + ";", f"{head} {{ {word}cbi_at = {make}(cbi_count{times}); if (cbi_at) {clear}; return cbi_at; }}"
+        return Template(f"cbi_new_{name}", head + ";", f"{head} {{ {word}cbi_at = {make}(cbi_count{times}); if (cbi_at) {clear}; return cbi_at; }}")
 
-    def resizer(self, name: str, type_: CType) -> Tuple[str, str]:
+    def resizer(self, name: str, type_: CType) -> Template:
         word, per = self.word(type_), self.per(type_)
         head = f"void *cbi_resize_{name}(void *cbi_old, unsigned cbi_count)"
         body = f"{word}cbi_to; {word}cbi_from = cbi_old; unsigned cbi_had = 0; unsigned cbi_n; "
         body += f"if (cbi_old != NULL) cbi_had = cbi_size_of(cbi_old) / {per}; if (cbi_old != NULL && cbi_count == 0) {{ cbi_free(cbi_old); return NULL; }} "
         body += f"cbi_to = cbi_new_{name}(cbi_count); if (cbi_to == NULL) return NULL; "
         body += f"for (cbi_n = 0; cbi_n < cbi_had && cbi_n < cbi_count; cbi_n++) {self.store('cbi_to + cbi_n', 'cbi_from + cbi_n', type_)} "
-        return head + ";", f"{head} {{ {body}if (cbi_old != NULL) cbi_free(cbi_old); return cbi_to; }}"
+        return Template(f"cbi_resize_{name}", head + ";", f"{head} {{ {body}if (cbi_old != NULL) cbi_free(cbi_old); return cbi_to; }}")
 
-    def mover(self, name: str, type_: CType) -> Tuple[str, str]:
+    def mover(self, name: str, type_: CType) -> Template:
         word = self.word(type_)
         head = f"{word}cbi_move_{name}({word}cbi_to, {word}cbi_from, unsigned cbi_count)"
         body = "unsigned cbi_n; if (cbi_count == 0 || cbi_to == cbi_from) return cbi_to; "
         body += f"{word}cbi_room = malloc(cbi_count * {self.per(type_)}); if (cbi_room == NULL) abort(); "
         body += f"for (cbi_n = 0; cbi_n < cbi_count; cbi_n++) {self.store('cbi_room + cbi_n', 'cbi_from + cbi_n', type_)} "
         body += f"for (cbi_n = 0; cbi_n < cbi_count; cbi_n++) {self.store('cbi_to + cbi_n', 'cbi_room + cbi_n', type_)} free(cbi_room); "
-        return head + ";", f"{head} {{ {body}return cbi_to; }}"
+        return Template(f"cbi_move_{name}", head + ";", f"{head} {{ {body}return cbi_to; }}")
 
-    def sorter(self, name: str, type_: CType, call: str, handed: bool) -> Tuple[str, str]:
+    def sorter(self, name: str, type_: CType, call: str, handed: bool) -> Template:
         """A sort by merging, which keeps the order of what is equal, as glibc's does; something may be handed to each comparison."""
         word, per = self.word(type_), self.per(type_)
         sort, more = f"cbi_sort{'_with' * handed}_{name}", ", cbi_with" * handed
@@ -228,12 +242,12 @@ class Helpers:
         body += f"else {{ {self.store('cbi_room + cbi_n', 'cbi_at + cbi_j', type_)} cbi_j++; }} cbi_n++; }} "
         body += f"while (cbi_i < cbi_half) {{ {self.store('cbi_room + cbi_n', 'cbi_at + cbi_i', type_)} cbi_i++; cbi_n++; }} "
         body += f"for (cbi_i = 0; cbi_i < cbi_n; cbi_i++) {self.store('cbi_at + cbi_i', 'cbi_room + cbi_i', type_)} free(cbi_room); "
-        return head + ";", f"{head} {{ {body}}}"
+        return Template(sort, head + ";", f"{head} {{ {body}}}")
 
-    def searcher(self, name: str, type_: CType) -> Tuple[str, str]:
+    def searcher(self, name: str, type_: CType) -> Template:
         word = self.word(type_)
         head = f"void *cbi_search_{name}(void *cbi_key, {word}cbi_at, unsigned cbi_count, int cbi_order)"
         body = "unsigned cbi_low = 0; unsigned cbi_middle; int cbi_sign; while (cbi_low < cbi_count) { cbi_middle = (cbi_low + cbi_count) / 2; "
         body += f"cbi_sign = {self.program.sort_call}(cbi_order, cbi_key, cbi_at + cbi_middle); "
         body += "if (cbi_sign == 0) return cbi_at + cbi_middle; if (cbi_sign < 0) cbi_count = cbi_middle; else cbi_low = cbi_middle + 1; } return NULL; "
-        return head + ";", f"{head} {{ {body}}}"
+        return Template(f"cbi_search_{name}", head + ";", f"{head} {{ {body}}}")

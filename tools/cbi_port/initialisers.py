@@ -1,9 +1,11 @@
 """Initialisers (C99 6.7.8): which place gets which value."""
 from typing import Any, Dict, List, Optional, Sequence, Set, Tuple
 
+from cbi_port.blocks import Evaluate
 from cbi_port.calls import Calls
-from cbi_port.conversions import number
 from cbi_port.constants import bytes_of, characters_of
+from cbi_port.conversions import number
+from cbi_port.nodes import Node
 from cbi_port.trees import kind
 from cbi_port.types import Array, CType, Int, Member, Struct
 from cbi_port.values import Leaf, Place
@@ -190,13 +192,13 @@ class Initialisers(Calls):
                 place = found
         return place
 
-    def assignments(self, place: Place, found: Dict[Path, Leaf], node: Any) -> List[str]:
+    def assignments(self, place: Place, found: Dict[Path, Leaf], node: Any) -> List[Evaluate]:
         """The values of an initialiser as statements that store them."""
         rows = []
         kept = self.beside_zeros(place.type, found)
         for path, leaf in kept.items():
             self.function.fresh_statement()
-            rows.append(self.assignment(self.part(place, path, node), leaf, node))
+            rows.append(Evaluate(self.assignment(self.part(place, path, node), leaf, node)))
         return rows
 
     def beside_zeros(self, type_: CType, found: Dict[Path, Leaf]) -> Dict[Path, Leaf]:
@@ -223,20 +225,20 @@ class Initialisers(Calls):
             self.function.quiet = quiet
         return value.null or value.constant == 0
 
-    def assignment(self, place: Place, leaf: Leaf, node: Any) -> str:
+    def assignment(self, place: Place, leaf: Leaf, node: Any) -> Node:
         if is_char_array(leaf.type):
             return self.spelled_out(place, leaf, node)
         value = self.value(leaf.node)
         if isinstance(leaf.type, Struct):
             if value.type is not leaf.type:
                 raise self.refuse(leaf.node, "an initialiser of another type", "a value of the struct's type")
-            return self.model.copy(place, value, False, leaf.node).text + ";"
-        return self.assigned(place, value, False, leaf.node).text + ";"
+            return self.model.copy(place, value, False, leaf.node).code
+        return self.assigned(place, value, False, leaf.node).code
 
-    def spelled_out(self, place: Place, leaf: Leaf, node: Any) -> str:
+    def spelled_out(self, place: Place, leaf: Leaf, node: Any) -> Node:
         data = bytes_of(leaf.node.value) + b"\0"
         length = min(len(data), leaf.type.count if isinstance(leaf.type.count, int) else len(data))
-        return self.model.store_string(place, self.string_text(leaf.node), data, length, leaf.type) + ";"
+        return self.model.store_string(place, self.string_text(leaf.node), data, length, leaf.type)
 
     def literal_place(self, node: Any) -> Place:
         """A compound literal (6.5.2.5)."""

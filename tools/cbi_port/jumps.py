@@ -4,15 +4,20 @@ Only statements that hold a label, or jump out of a loop, are cut into segments;
 """
 from typing import Any, List, Optional
 
+from cbi_port.blocks import Block, Break, Continue, Empty, Evaluate, If, Statement, While
 from cbi_port.lines import Refusal
+from cbi_port.nodes import Assign, Call, Cast, Comma, Name, Node, Number, Unary, marked, spot
 from cbi_port.scopes import Scope, Symbol
-from cbi_port.statements import Statements
+from cbi_port.switches import Switches
 from cbi_port.trees import CONTROL, cases_within, holds, is_cut, is_jump, kind
-from cbi_port.types import Array, Function, Struct, Void, is_complete, is_long
-from cbi_port.values import ASSIGN, COMMA, UNARY, Value
+from cbi_port.types import INT, Array, Function, Struct, Void, is_complete, is_long
+from cbi_port.values import Value
 
 
-class Jumps(Statements):
+NOTHING = Value(Void(), Number(Void(), 0))
+
+
+class Jumps(Switches):
     """Functions that jump."""
 
     def prepare(self, item: Any) -> None:
@@ -21,15 +26,19 @@ class Jumps(Statements):
                 item.body, lambda it: kind(it) == "Switch" and cases_within(it)):
             return
         self.count("functions with jumps")
-        body.flat = body.lasting("int") + ".value"
+        body.flat = self.lasting_scalar(INT, "int")
         self.jumping = body
         body.segments = 0
         body.case_segments = {}
-        self.put(f"{body.flat} = 0; while (1) {{ if ({body.flat} == 0) {{")
+        body.done, body.out = [*body.out, Evaluate(Assign(INT, body.flat, Number(INT, 0)))], []
+        body.before = len(body.done)
 
     def finish(self, item: Any) -> None:
         if self.function.flat is not None:
-            self.put("} break; }")
+            body = self.function
+            body.segment(-1)
+            rounds = Block((*body.done[body.before:], Break()))
+            body.out = [*body.done[:body.before], While(Number(INT, 1), rounds)]
             self.hold_labels(item)
 
     def hold_labels(self, item: Any) -> None:
@@ -44,12 +53,17 @@ class Jumps(Statements):
     def segment(self, number: int, falls: bool = True, node: Any = None) -> None:
         """Ends a segment, and begins another one."""
         self.function.last_member.clear()
-        flat = self.function.flat
-        before = f"{flat} = {number}; " if falls else ""
-        self.put(f"{before}}} if ({flat} == {number}) {{", node)
+        if falls:
+            self.do(self.next_is(number), node)
+        self.function.segment(number)
 
-    def jump(self, number: int) -> str:
-        return f"{{ {self.function.flat} = {number}; continue; }}"
+    def next_is(self, number: int) -> Node:
+        """Says which segment is next."""
+        return Assign(INT, self.function.flat, Number(INT, number))
+
+    def parted(self, condition: Node, yes: int, no: int, at: int) -> None:
+        """Says which of two segments is next."""
+        self.add(If(condition, Evaluate(self.next_is(yes)), Evaluate(self.next_is(no)), at))
 
     def label_segment(self, name: str) -> int:
         owner = self.label_owner
@@ -93,7 +107,7 @@ class Jumps(Statements):
             if self.function.flat is None or not self.model.in_bytes:
                 raise self.refuse(node, "a jump to a label that is reckoned", "a `switch`", True)
             value = self.value(node.args.exprs[0])
-            self.put(f"{{ {self.function.flat} = (int){value.at(UNARY)}; continue; }}", node)
+            self.add(Block((Evaluate(Assign(INT, self.function.flat, Cast(INT, "int", value.code))), Continue()), self.place_of(node)))
             return
         super().st_expression(node)
 
@@ -125,10 +139,7 @@ class Jumps(Statements):
                     symbol = Symbol(node.name, "variable", type_, self.local_name(node.name))
                     symbol.quals = self.quals_of(node.type)
                     self.scope.names[node.name] = symbol
-                    out, self.function.out = self.function.out, []
-                    self.model.declare_bare(symbol)
-                    self.function.fixed.extend(self.function.out)
-                    self.function.out = out
+                    self.function.fixed.extend(self.function.gathered(lambda: self.model.declare_bare(symbol)))
                     self.function.hoisted[id(node)] = symbol
                     if node.init is None:
                         return
@@ -146,7 +157,7 @@ class Jumps(Statements):
 
     def st_Goto(self, node: Any) -> None:
         self.function.wanted_labels.setdefault(node.name, self.place_of(node))
-        self.put(self.jump(self.label_segment(node.name)), node)
+        self.add(self.jump(self.label_segment(node.name), self.place_of(node)))
 
     def st_Label(self, node: Any) -> None:
         raise self.refuse(node, "a label within an expression", "a label in the function")
@@ -155,16 +166,13 @@ class Jumps(Statements):
         yes, no, end = self.new_segment(), self.new_segment(), self.new_segment()
         self.lead(node.cond)
         value = self.truth(self.value(node.cond))
-        condition = self.condition_text(value)
         dead = self.function.dead
-        flat = self.function.flat
-        other = no if node.iffalse is not None else end
-        self.put(f"if ({condition}) {flat} = {yes}; else {flat} = {other};", node)
+        self.parted(value.code, yes, no if node.iffalse is not None else end, self.place_of(node))
         self.segment(yes, False)
         self.function.dead = dead + (value.constant == 0)
         self.level_statement(node.iftrue)
         if node.iffalse is not None:
-            self.put(self.jump(end))
+            self.add(self.jump(end))
             self.segment(no, False)
             self.function.dead = dead + (value.constant is not None and value.constant != 0)
             self.level_statement(node.iffalse)
@@ -173,12 +181,11 @@ class Jumps(Statements):
 
     def cut_While(self, node: Any) -> None:
         test, begin, end = self.new_segment(), self.new_segment(), self.new_segment()
-        flat = self.function.flat
         self.segment(test)
-        self.put(f"if ({self.condition(node.cond)}) {flat} = {begin}; else {flat} = {end};", node)
+        self.parted(self.condition(node.cond), begin, end, self.place_of(node))
         self.segment(begin, False)
         self.round(node.stmt, test, end)
-        self.put(self.jump(test))
+        self.add(self.jump(test))
         self.segment(end, False)
 
     def round(self, node: Any, again: Optional[int], end: int) -> None:
@@ -191,24 +198,23 @@ class Jumps(Statements):
         self.segment(begin)
         self.round(node.stmt, test, end)
         self.segment(test)
-        self.put(f"if ({self.condition(node.cond)}) {self.jump(begin)}", node)
+        self.add(If(self.condition(node.cond), self.jump(begin), None, self.place_of(node)))
         self.segment(end)
 
     def cut_For(self, node: Any) -> None:
         test, begin, step, end = (self.new_segment() for _ in range(4))
         outer, self.scope = self.scope, Scope(self.scope)
-        flat = self.function.flat
         if node.init is not None:
             self.level_statement(node.init)
         self.segment(test)
         if node.cond is not None:
-            self.put(f"if ({self.condition(node.cond)}) {flat} = {begin}; else {flat} = {end};", node)
+            self.parted(self.condition(node.cond), begin, end, self.place_of(node))
             self.segment(begin, False)
         self.round(node.stmt, step, end)
         self.segment(step)
         if node.next is not None:
             super().statement(node.next)
-        self.put(self.jump(test))
+        self.add(self.jump(test))
         self.segment(end, False)
         self.scope = outer
 
@@ -216,12 +222,12 @@ class Jumps(Statements):
         self.count("switches")
         value = self.promoted(self.value(node.cond))
         if is_long(value.type):
-            name = self.function.lasting("long")
-            self.put(f"cbi_long_copy(&{name}, {self.long_text(value)});", node)
-            held = Value(value.type, f"&{name}", UNARY)
+            room = Unary(value.type, "&", Name(value.type, self.function.lasting("long")))
+            self.do(Call(value.type, "cbi_long_copy", (room, self.long_code(value))), node)
+            held = Value(value.type, room)
         else:
-            name = self.function.lasting("int" if value.type.signed or value.bits is not None else "unsigned") + ".value"
-            self.put(f"{name} = {value.at(ASSIGN)};", node)
+            name = self.lasting_scalar(value.type, "int" if value.type.signed or value.bits is not None else "unsigned")
+            self.do(Assign(value.type, name, value.code), node)
             held = Value(value.type, name)
         cases: List[Any] = []
 
@@ -242,8 +248,8 @@ class Jumps(Statements):
         for case in cases:
             if kind(case) == "Case":
                 self.function.fresh_statement()
-                self.put(f"if {self.label_test(held, case, [])} {self.jump(self.function.case_segments[id(case)])}")
-        self.put(self.jump(default))
+                self.add(If(self.label_test(held, case, []).inner, self.jump(self.function.case_segments[id(case)])))
+        self.add(self.jump(default))
         self.function.loops.append(("flat", self.outer_again(), end))
         self.level_statement(node.stmt)
         self.function.loops.pop()
@@ -283,7 +289,7 @@ class Jumps(Statements):
                 if isinstance(value.type, (Struct, Void)) or value.constant is not None:
                     return value
                 text, value = self.keep(value)
-                self.put(text + ";")
+                self.do(text)
                 return value
             return self.within_commas(node, items, used)
         finally:
@@ -296,11 +302,11 @@ class Jumps(Statements):
         for item in items[:-1]:
             self.own_statement(item)
         if not items:
-            return Value(Void(), "0")
+            return NOTHING
         last = items[-1]
         if kind(last) in (*CONTROL, "Decl", "EmptyStatement"):
             self.own_statement(last)
-            return Value(Void(), "0")
+            return NOTHING
         self.lead(last)
         return self.value(last, used)
 
@@ -321,15 +327,19 @@ class Jumps(Statements):
         symbol = Symbol(node.name, "variable", type_, self.names.take(node.name))
         symbol.quals = self.quals_of(node.type)
         self.pending_symbol = symbol
-        out, self.function.out = self.function.out, []
-        self.model.declare_bare(symbol)
-        self.function.fixed.extend(self.function.out)
-        self.function.out = out
+        self.function.fixed.extend(self.function.gathered(lambda: self.model.declare_bare(symbol)))
         self.function.hoisted[id(node)] = symbol
 
+    def part_of_commas(self, row: Statement, node: Any) -> Node:
+        """A statement as a part of an expression."""
+        if not isinstance(row, Evaluate):
+            raise self.refuse(node, "a statement within an expression", "a function, or the statement before")
+        code: Node = marked(row.code, row.at) if spot(row.code) < 0 else row.code
+        return code
+
     def within_commas(self, node: Any, items: List[Any], used: bool) -> Value:
-        texts: List[str] = []
-        value = Value(Void(), "0")
+        parts: List[Node] = []
+        value = NOTHING
         for item in items:
             last = item is items[-1]
             if kind(item) in CONTROL:
@@ -341,21 +351,15 @@ class Jumps(Statements):
             if kind(item) in ("Decl", "DeclList"):
                 for decl in (item.decls if kind(item) == "DeclList" else [item]):
                     self.renamed(decl)
-                    out, self.function.out = self.function.out, []
-                    super().statement(decl)
-                    rows, self.function.out = self.function.out, out
-                    text = " ".join(rows).strip()
-                    if "{" in text:
-                        raise self.refuse(node, "a statement within an expression", "a function, or the statement before")
-                    texts.extend(row.strip() for row in text.rstrip(";").split("; ") if row.strip())
+                    rows = self.function.gathered(lambda: super(Jumps, self).statement(decl))
+                    parts.extend(self.part_of_commas(row, node) for row in rows if not isinstance(row, Empty))
                 continue
             value = self.value(item, used if last else False)
             if not last and not value.pure:
-                texts.append(value.at(ASSIGN))
+                parts.append(value.code)
             if not last:
-                value = Value(Void(), "0")
-        if not texts:
+                value = NOTHING
+        if not parts:
             return value
-        if value.constant is not None and is_long(value.type):
-            value = value._replace(text=self.long_text(value))
-        return Value(value.type, ", ".join(texts + [value.at(ASSIGN)]), COMMA, None, False, value.bits)
+        code = self.long_code(value) if value.constant is not None and is_long(value.type) else value.code
+        return Value(value.type, Comma(value.type, (*parts, code)), None, False, value.bits)

@@ -1,20 +1,22 @@
 """The library (C99 7): what the dialect has, what goes by the types of its arguments, and what the prelude has."""
 import re
-from typing import Any, Dict, Optional, Sequence, Tuple
+from typing import Any, Dict, List, Optional, Sequence, Tuple
 
 from cbi_port import forms
-from cbi_port.cells import innermost, like_char
+from cbi_port.alike import innermost, is_address, like_char
 from cbi_port.conversions import number
-from cbi_port.lines import Refusal, mark
-from cbi_port.reader import HEADERS
-from cbi_port.scopes import Symbol
 from cbi_port.gnu_calls import OVERFLOWS, GnuCalls
+from cbi_port.lines import Refusal
+from cbi_port.nodes import POSTFIX, UNARY, Assign, Binary, Call, Cast, Name, Node, Number, String, Wide, bare, held, level, marked, sequence, spot, walk
+from cbi_port.objects import ROUNDED
+from cbi_port.reader import HEADERS
 from cbi_port.scan_calls import ScanCalls
+from cbi_port.scopes import Symbol
 from cbi_port.system import TOLD, VARIABLES
 from cbi_port.trees import kind, without_casts
-from cbi_port.types import (CHAR, INT, LONG, UINT, VOID, Array, CType, Function, Int, Pointer, Struct, Void, is_float, is_long,
-                            is_pointer, same, size_of, spelled, to_function)
-from cbi_port.values import ASSIGN, POSTFIX, UNARY, Value, prefixed
+from cbi_port.types import (CHAR, INT, LONG, UINT, VOID, Array, CType, Function, Int, Pointer, Struct, Void, is_float, is_long, is_pointer, same, size_of,
+                            spelled)
+from cbi_port.values import Value, word
 
 # What the dialect has itself.
 OWN: Dict[str, Function] = {
@@ -32,7 +34,7 @@ UNWOUND = "a status that each function returns, and that its caller tests"
 NO = {**dict.fromkeys(["setjmp", "longjmp", "_setjmp", "_longjmp", "sigsetjmp", "siglongjmp"], UNWOUND),
       "fork": "one process, which does what both would do", "alloca": "`malloc`"}
 # Of <math.h> what isn't there.
-ROUNDED = {word + end for end in ("", "f", "l") for word in ("j0", "j1", "jn", "y0", "y1", "yn")}
+OF_BESSEL = {name + end for end in ("", "f", "l") for name in ("j0", "j1", "jn", "y0", "y1", "yn")}
 TYPED = {"malloc", "calloc", "realloc", "free", "memcpy", "memmove", "memset", "memcmp", "mempcpy", "bzero", "bcopy", "bcmp", "qsort", "qsort_r", "bsearch", "alloca",
          "strdup", "fread", "fwrite", "read", "write"}
 
@@ -71,7 +73,7 @@ class Library(GnuCalls):
         """A call of the library; None where the name isn't one of it."""
         if symbol is not None and symbol.defined:
             return None
-        at = mark(self.place_of(node))
+        at = self.place_of(node)
         if name in forms.PRINTS:
             arguments = self.in_order(node, arguments, forms.PRINTS[name])
         if name in OVERFLOWS:
@@ -97,7 +99,7 @@ class Library(GnuCalls):
             self.use(found)
             return self.called(found.text, found, found.type, arguments, node, used)
         dead = self.function.dead and symbol is not None
-        if not dead and (name in NO or name.startswith("__builtin") or name in ROUNDED or symbol is not None and self.of_system(symbol)):
+        if not dead and (name in NO or name.startswith("__builtin") or name in OF_BESSEL or symbol is not None and self.of_system(symbol)):
             raise self.missing(node, name)
         return None
 
@@ -120,7 +122,7 @@ class Library(GnuCalls):
 
     def missing(self, node: Any, name: str) -> Refusal:
         """The refusal of what the system has and this library hasn't."""
-        found = self.refuse(node, f"`{name}`", NO.get(name, "a function of your own" if name in ROUNDED else "a function of your own for it, in one of the files"))
+        found = self.refuse(node, f"`{name}`", NO.get(name, "a function of your own" if name in OF_BESSEL else "a function of your own for it, in one of the files"))
         found.sure = True
         return found
 
@@ -136,8 +138,10 @@ class Library(GnuCalls):
         from pycparser import c_ast
         return [*arguments[:at], c_ast.Constant("string", found[0], form.coord), *(rest[place - 1] for place in found[1])]
 
-    def placed(self, value: Value, at: str) -> Value:
-        return value._replace(text=at + value.text) if value.text and at not in value.text and value.level == POSTFIX else value
+    def placed(self, value: Value, at: int) -> Value:
+        """A value of the library where its call stands, unless something of it stands there already."""
+        there = level(value.code) != POSTFIX or isinstance(bare(value.code), Wide) or any(spot(it) == at for it in walk(value.code))
+        return value if there else value._replace(code=marked(value.code, at))
 
     def library_used(self, name: str) -> None:
         if not self.in_prelude:
@@ -151,16 +155,16 @@ class Library(GnuCalls):
         if len(arguments) != len(type_.parameters):
             if len(arguments) < len(type_.parameters):
                 raise self.refuse(node, f"{len(arguments)} arguments of `{name}`", "an argument for each parameter")
-        at = mark(self.place_of(node))
-        values = [self.passed(self.value(it), parameter, node).at(ASSIGN) for it, parameter in zip(arguments, type_.parameters)]
+        at = self.place_of(node)
+        given = tuple(self.passed(self.value(it), parameter, node).code for it, parameter in zip(arguments, type_.parameters))
         if name == "exit" and self.exit_functions and not self.in_prelude:
             found = self.prelude_symbol("__cbi_exit_now")
             assert found is not None
             self.use(found)
-            return Value(VOID, f"{at}{found.text}({', '.join(values)})", POSTFIX, pure=False)
+            return Value(VOID, Call(VOID, found.text, given, found, at), pure=False)
         if self.model.in_bytes and name == "puts":
-            return Value(INT, f"{at}cbi_puts({', '.join(values)})", POSTFIX, pure=False)
-        return Value(type_.result, f"{at}{name}({', '.join(values)})", POSTFIX, pure=False)
+            return Value(INT, Call(INT, "cbi_puts", given, None, at), pure=False)
+        return Value(type_.result, Call(type_.result, name, given, None, at), pure=False)
 
     def order_by(self, more: int) -> None:
         """Asks for the calls of functions that compare two elements, and what is handed on."""
@@ -192,25 +196,25 @@ class Library(GnuCalls):
     def lib_assert(self, node: Any, arguments: Sequence[Any], used: bool) -> Value:
         self.library_used("assert")
         value = self.truth(self.value(arguments[0]))
-        return Value(VOID, f"assert({value.text or str(value.constant)})", POSTFIX, pure=False)
+        return Value(VOID, Call(VOID, "assert", (value.code,)), pure=False)
 
     def lib___builtin_va_start(self, node: Any, arguments: Sequence[Any], used: bool) -> Value:
         place = self.place(arguments[0])
-        return Value(VOID, f"{place.text} = cbi_more", ASSIGN, pure=False) if not place.memory else self.model.store(
-            place, Value(place.type, "cbi_more"), False)
+        more = Name(place.type, "cbi_more")
+        return self.model.store(place, Value(place.type, more), False) if place.memory else Value(VOID, Assign(VOID, place.code, more), pure=False)
 
     lib_va_start = lib___builtin_va_start
     lib_stdarg_start = lib___builtin_va_start
 
     def lib___builtin_va_end(self, node: Any, arguments: Sequence[Any], used: bool) -> Value:
         value = self.value(arguments[0])
-        return Value(VOID, prefixed("(void)", value.text, value.level), UNARY, pure=value.pure)
+        return Value(VOID, Cast(VOID, "void", value.code), pure=value.pure)
 
     lib_va_end = lib___builtin_va_end
 
     def lib___builtin_va_copy(self, node: Any, arguments: Sequence[Any], used: bool) -> Value:
         place = self.place(arguments[0])
-        return self.model.store(place, self.value(arguments[1]), False)._replace(type=VOID)
+        return self.model.store(place, self.value(arguments[1]), False).as_type(VOID)
 
     lib_va_copy = lib___builtin_va_copy
 
@@ -238,21 +242,21 @@ class Library(GnuCalls):
         lengths = [length for length, letter in found if letter != "%"]
         if len(letters) > len(arguments) - 1 or any(length in ("h", "hh") for length in lengths):
             return None
-        texts = []
+        given: List[Node] = []
         for letter, argument in zip(letters, arguments[1:]):
             value = self.value(argument)
             if letter == "s":
                 if not is_pointer(value.type) or not like_char(value.type.to) or value.null:
                     return None
-                texts.append(value.at(ASSIGN))
+                given.append(value.code)
             elif not isinstance(value.type, Int) or is_long(value.type) or is_float(value.type):
                 return None
             else:
-                texts.append(self.promoted(value).at(ASSIGN))
+                given.append(self.promoted(value).code)
         if len(arguments) - 1 > len(letters):
             return None
         form = re.sub(r"%(?:l|z|t)?([diucs%])", lambda it: "%" + ("d" if it[1] == "i" else it[1]), form)
-        return Value(INT, f"{mark(self.place_of(node))}printf({', '.join([form] + texts)})", POSTFIX, pure=False)
+        return Value(INT, Call(INT, "printf", (String(Pointer(CHAR), form), *given), None, self.place_of(node)), pure=False)
 
     lib_atexit_count = 0
 
@@ -263,7 +267,7 @@ class Library(GnuCalls):
     def lib___cbi_word(self, node: Any, arguments: Sequence[Any], used: bool) -> Value:
         """A word of the input's first line."""
         at = self.converted(self.value(arguments[0]), UINT)
-        return Value(Pointer(CHAR), self.model.word_of_main(at.at(UNARY)), POSTFIX, pure=False)
+        return Value(Pointer(CHAR), self.model.word_of_main(held(at.code, UNARY)), pure=False)
 
 
 class TypedCalls(ScanCalls):
@@ -308,8 +312,8 @@ class TypedCalls(ScanCalls):
         if whole.constant is not None and whole.constant % max(size_of(type_), 1):
             raise program.refuse(node, f"a part of a `{spelled(type_)}`", "an assignment of each value", True)
         count: Value = program.model.objects(type_, [size])
-        if " + " in count.text and count.text.endswith(f"/ {size_of(type_)}u"):
-            return Value(UINT, f"cbi_exact({program.converted(whole, UINT, True).at(ASSIGN)}, {size_of(type_)}u)", POSTFIX, pure=False)
+        if count.origin == ROUNDED:
+            return Value(UINT, Call(UINT, "cbi_exact", (program.converted(whole, UINT, True).code, word(size_of(type_)))), pure=False)
         return count
 
     def call_malloc(self, node: Any, arguments: Sequence[Any], used: bool) -> Value:
@@ -332,20 +336,20 @@ class TypedCalls(ScanCalls):
         inner, per = innermost(to)
         count = program.model.objects(to, [arguments[1]])
         program.resized.setdefault(program.model.maker_name(inner), inner)
-        objects = count.text if per == 1 else f"{count.at(13)} * {per}"
-        text = f"cbi_resize_{program.model.maker_name(inner)}({value.at(ASSIGN)}, {objects})"
+        objects = count.code if per == 1 else Binary(UINT, "*", held(count.code, UNARY), Number(INT, per))
+        resized = Call(Pointer(VOID), f"cbi_resize_{program.model.maker_name(inner)}", (value.code, objects))
 
-        def fresh(type_: Optional[CType]) -> str:
+        def fresh(type_: Optional[CType]) -> Node:
             if type_ is None or not program.model.alike(to, type_):
                 raise program.refuse(node, "`realloc` to another type", "the type that is there", True)
-            return text
-        return Value(Pointer(VOID), text, POSTFIX, pure=False, fresh=fresh)
+            return resized
+        return Value(Pointer(VOID), resized, pure=False, fresh=fresh)
 
     def call_free(self, node: Any, arguments: Sequence[Any], used: bool) -> Value:
         value = self.program.value(without_casts(arguments[0]))
         if isinstance(value.type, Int):
             value = self.program.converted(value, Pointer(VOID), True, node)
-        return Value(VOID, f"{'cbi_free' if self.program.keeps_sizes else 'free'}({value.at(ASSIGN)})", POSTFIX, pure=False)
+        return Value(VOID, Call(VOID, "cbi_free" if self.program.keeps_sizes else "free", (value.code,)), pure=False)
 
     def moved(self, node: Any, arguments: Sequence[Any], name: str, used: bool, what: str) -> Value:
         program = self.program
@@ -353,15 +357,16 @@ class TypedCalls(ScanCalls):
         from_, right = self.pointer(arguments[1])
         inner = innermost(self.known(node, name, left, right))[0]
         count = self.exact(inner, arguments[2], arguments[:2], node)
-        word = program.model.maker_name(inner)
-        program.movers.setdefault((what, word), inner)
+        name_ = program.model.maker_name(inner)
+        program.movers.setdefault((what, name_), inner)
         if isinstance(inner, Struct):
             inner.copied = True
             program.model.copier(inner)
-        objects = count.at(ASSIGN)
-        cast = "(void **)(void *)" if word == "pointers" else ""
-        left_text, right_text = (prefixed(cast, it.text, it.level) if cast else it.at(ASSIGN) for it in (to, from_))
-        return Value(to.type, f"cbi_{what}_{word}({left_text}, {right_text}, {objects})", POSTFIX, pure=False)
+        return Value(to.type, Call(to.type, f"cbi_{what}_{name_}", (self.any_cells(to, inner), self.any_cells(from_, inner), count.code)), pure=False)
+
+    def any_cells(self, pointer: Value, inner: CType) -> Node:
+        """A pointer as what goes by types takes it: cells of pointers are all alike."""
+        return Cast(pointer.type, "void **", Cast(pointer.type, "void *", pointer.code)) if is_address(inner) else pointer.code
 
     def call_memcpy(self, node: Any, arguments: Sequence[Any], used: bool) -> Value:
         return self.result(self.moved(node, arguments, "memcpy", used, "move"), arguments, used, node)
@@ -376,7 +381,7 @@ class TypedCalls(ScanCalls):
         """What a moving function gives: its first argument."""
         if not used:
             return value._replace(type=VOID)
-        if innermost(value.type.to)[0] == value.type.to and self.program.model.spell(value.type) != "void *" and "pointers" not in value.text.split("(")[0]:
+        if innermost(value.type.to)[0] == value.type.to and self.program.model.spell(value.type) != "void *" and not is_address(value.type.to):
             return value
         raise self.program.refuse(node, "the value of this call", "a statement of its own", True)
 
@@ -386,20 +391,21 @@ class TypedCalls(ScanCalls):
         self.known(node, "memset", type_)
         inner = innermost(type_)[0]
         value = program.value(arguments[1])
-        objects = self.exact(inner, arguments[2], arguments[:1], node).at(ASSIGN)
+        objects = self.exact(inner, arguments[2], arguments[:1], node).code
         if like_char(inner):
-            text = f"cbi_fill_char({to.at(ASSIGN)}, {program.converted(value, INT, True).at(ASSIGN)}, {objects})"
+            code: Node = Call(to.type, "cbi_fill_char", (to.code, program.converted(value, INT, True).code, objects))
         elif value.constant == 0:
-            before, place = "", to
+            before: Optional[Node] = None
+            place = to
             if used and not to.pure:
                 before, place = program.keep(to)
-            text = program.model.clear_cells(place.at(UNARY), inner, objects)
+            code = program.model.clear_cells(held(place.code, UNARY), inner, objects)
             if used:
                 # What clears gives no value.
-                return place._replace(text=f"({', '.join([*[before] * bool(before), text, place.at(ASSIGN)])})", level=POSTFIX, pure=False, null=False)
+                return place._replace(code=sequence(place.type, before, code, place.code), pure=False, null=False)
         else:
             raise program.refuse(node, f"`memset` of a `{spelled(inner)}` to more than zero", "a loop that stores each value", True)
-        return self.result(Value(to.type, text, POSTFIX, pure=False), arguments, used, node)
+        return self.result(Value(to.type, code, pure=False), arguments, used, node)
 
     def call_bzero(self, node: Any, arguments: Sequence[Any], used: bool) -> Value:
         raise self.program.refuse(node, "`bzero`", "`memset`", True)
@@ -413,7 +419,7 @@ class TypedCalls(ScanCalls):
         if not like_char(inner):
             raise program.refuse(node, f"`memcmp` of a `{spelled(inner)}`", "a comparison of each value", True)
         count = program.converted(program.value(arguments[2]), UINT, True, node)
-        return Value(INT, f"cbi_compare_char({left.at(ASSIGN)}, {right.at(ASSIGN)}, {count.at(ASSIGN)})", POSTFIX, pure=False)
+        return Value(INT, Call(INT, "cbi_compare_char", (left.code, right.code, count.code)), pure=False)
 
     call_bcmp = call_memcmp
 
@@ -444,11 +450,10 @@ class TypedCalls(ScanCalls):
         if isinstance(inner, Struct):
             program.model.copier(inner)
         compare = program.value(arguments[3])
-        texts = [prefixed("(void **)(void *)", to.text, to.level) if isinstance(inner, Pointer) and not to_function(inner) else to.at(ASSIGN),
-                 program.converted(program.value(arguments[1]), UINT, True, node).at(ASSIGN), compare.at(ASSIGN)]
-        more = [program.converted(program.value(it), Pointer(VOID), True, node).at(ASSIGN) for it in arguments[4:5]]
+        given = [self.any_cells(to, inner), program.converted(program.value(arguments[1]), UINT, True, node).code, compare.code]
+        more = [program.converted(program.value(it), Pointer(VOID), True, node).code for it in arguments[4:5]]
         program.order_by(len(more))
-        return Value(VOID, f"cbi_sort{'_with' * len(more)}_{program.model.maker_name(inner)}({', '.join(texts + more)})", POSTFIX, pure=False)
+        return Value(VOID, Call(VOID, f"cbi_sort{'_with' * len(more)}_{program.model.maker_name(inner)}", (*given, *more)), pure=False)
 
     def call_bsearch(self, node: Any, arguments: Sequence[Any], used: bool) -> Value:
         program = self.program
@@ -461,10 +466,8 @@ class TypedCalls(ScanCalls):
         program.searchers.setdefault(program.model.maker_name(inner), inner)
         program.order_by(0)
         compare = program.value(arguments[4])
-        cast = "(void **)(void *)" if isinstance(inner, Pointer) and not to_function(inner) else ""
-        text = prefixed(cast, base.text, base.level) if cast else base.at(ASSIGN)
         count = program.converted(program.value(arguments[2]), UINT, True, node)
-        return Value(Pointer(VOID), f"cbi_search_{program.model.maker_name(inner)}({key.at(ASSIGN)}, {text}, {count.at(ASSIGN)}, {compare.at(ASSIGN)})", POSTFIX, pure=False)
+        return Value(Pointer(VOID), Call(Pointer(VOID), f"cbi_search_{program.model.maker_name(inner)}", (key.code, self.any_cells(base, inner), count.code, compare.code)), pure=False)
 
     def of_characters(self, node: Any, name: str, argument: Any) -> Optional[Value]:
         """Refuses what is read or written byte by byte and has no characters; else the call is one of the prelude."""

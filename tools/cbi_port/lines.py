@@ -1,10 +1,8 @@
-"""Where a piece of text stands (C99 5.1.1.2): tokens know their file and line, and texts carry marks of tokens."""
-import re
-from typing import Dict, List, NamedTuple, Sequence, Tuple
+"""Where a piece of text stands (C99 5.1.1.2): tokens know their file and line, and what is written carries the numbers of tokens."""
+from typing import Any, Dict, Iterator, List, NamedTuple, Sequence, Tuple
 
 from cbi_port import Line, Problem
-
-MARK = re.compile("\x01(\\d+)\x02")
+from cbi_port.writer import outer, plain
 
 
 class Token(NamedTuple):
@@ -29,36 +27,31 @@ class Refusal(Exception):
         return Problem(token.file, token.line, self.construct, self.advice)
 
 
-def mark(index: int) -> str:
-    """Says that the text behind it stands where the token does."""
-    return f"\x01{index}\x02" if index >= 0 else ""
-
-
-def bare(text: str) -> str:
-    return MARK.sub("", text)
-
-
 class Sheet:
-    """The text as it grows: a head for line 1, a part for each file, and a tail behind the end."""
+    """The program as it grows: a head for line 1, a part for each file, and a tail behind the end. The parts are trees of what stands outside functions."""
 
     def __init__(self, tokens: Sequence[Token], first: str) -> None:
         self.tokens, self.first = tokens, first
-        self.parts: Dict[str, List[str]] = {first: []}
+        self.parts: Dict[str, List[Any]] = {first: []}
         self.head: List[str] = []
-        self.tail: List[str] = []
-        self.apart: List[Tuple[str, str]] = []  # texts whose lines another one has already, and their files
+        self.tail: List[Any] = []
+        self.apart: List[Tuple[str, Any]] = []  # what has lines that another one has already, and their files
 
-    def put(self, file: str, text: str) -> None:
-        self.parts.setdefault(file, []).append(text)
+    def put(self, file: str, tree: Any) -> None:
+        self.parts.setdefault(file, []).append(tree)
 
-    def mentions(self, name: str) -> bool:
-        """Whether a name stands in what was written so far."""
-        word = re.compile(rf"\b{re.escape(name)}\b")
-        return any(word.search(text) for texts in [*self.parts.values(), [it for _, it in self.apart], self.tail] for text in texts)
+    def every(self) -> Iterator[Any]:
+        """All trees that are there."""
+        yield from self.users()
+        yield from self.tail
 
     def take_back(self, file: str) -> None:
         """Leaves the last text of a file out."""
         self.parts[file].pop()
+
+    def users(self) -> List[Any]:
+        """The trees of what the files have."""
+        return [tree for trees in self.parts.values() for tree in trees] + [tree for _, tree in self.apart]
 
     def laid(self) -> Tuple[str, List[Line]]:
         """The whole text, and whose its lines are."""
@@ -67,18 +60,18 @@ class Sheet:
         now = ["".join(text + " " for text in self.head)]
 
         def end(line: Line) -> None:
-            out.append(re.sub("[ \t]+$", "", "".join(now)))
+            out.append("".join(now).rstrip(" \t"))
             now.clear()
             lines.append(line)
-        for file, texts in [*self.parts.items(), *((file, [text]) for file, text in self.apart)]:
+        for file, trees in [*self.parts.items(), *((file, [tree]) for file, tree in self.apart)]:
             at = 1
-            used = texts is self.parts[self.first]
-            for text in texts:
-                place = 0
-                for found in MARK.finditer(text):
-                    now.append(text[place:found.start()])
-                    place = found.end()
-                    token = self.tokens[int(found[1])]
+            used = trees is self.parts[self.first]
+            for tree in trees:
+                for piece in outer(tree):
+                    if isinstance(piece, str):
+                        now.append(piece)
+                        continue
+                    token = self.tokens[piece]
                     if token.file != file or token.line <= at:
                         continue
                     if not used and at == 1:
@@ -87,9 +80,9 @@ class Sheet:
                     while at < token.line:
                         end(Line(file, at, False))
                         at += 1
-                now.append(text[place:] + " ")
+                now.append(" ")
             end(Line(file, at, False))
-        for text in self.tail:
-            now.append(bare(text))
+        for tree in self.tail:
+            now.append(plain(outer(tree)))
             end(Line("", 0, True))
         return "\n".join(out) + "\n", lines

@@ -1,16 +1,21 @@
 """Objects of the dialect (C99 6.7.8, 7.20.3): how they are declared, begun, copied and made of the library's memory."""
-import re
+from dataclasses import replace
 from typing import Any, List, Optional, Tuple
 
-from cbi_port.cells import MOST_CELLS, Cells, cells, innermost
+from cbi_port.alike import cells, innermost, is_address
+from cbi_port.blocks import Block, Declarator, Declare, Evaluate, Perhaps, Return, Statement, Template, placed
+from cbi_port.cells import MOST_CELLS, Cells
 from cbi_port.conversions import number
+from cbi_port.late import Choice
+from cbi_port.nodes import (ADD, EQUAL, LEAST_INT, POSTFIX, Assign, Binary, Braces, Call, Cast, Group, Index, Later, Name, Node, Null, Number, Part,
+                            SizeOf, String, Unary, bare, held, product, sequence)
 from cbi_port.scopes import Symbol
 from cbi_port.trees import kind
-from cbi_port.types import (CHAR, UINT, VOID, Array, CType, Int, List_, Pointer, Struct, is_long, is_whole, size_of,
-                            spread, to_function)
-from cbi_port.values import ADD, ASSIGN, EQUAL, POSTFIX, TIMES, UNARY, Place, Value
+from cbi_port.types import CHAR, INT, UINT, VOID, Array, CType, Int, List_, Pointer, Struct, is_long, is_whole, size_of, spread, to_function
+from cbi_port.values import Place, Value, word
+from cbi_port.writer import operand, plain, text_of
 
-LATER = "\x03{}\x04"  # what is known only when all is translated
+ROUNDED = "rounded"    # a count of objects that takes bytes that aren't enough for one as one
 
 
 def structs_in(type_: CType) -> List[Struct]:
@@ -38,27 +43,27 @@ class Objects(Cells):
     static_cells = 0  # of what lives as long as the program
 
     def declare_bare(self, symbol: Symbol) -> None:
-        program = self.program
-        program.put(f"{self.declare(symbol.type, symbol.text)};{self.cleared_if_copied(symbol)}")
+        self.program.add(Declare(self.declare(symbol.type, symbol.text), None, self.cleared_if_copied(symbol)))
 
-    def cleared_if_copied(self, symbol: Symbol) -> str:
+    def cleared_if_copied(self, symbol: Symbol) -> Optional[Statement]:
         """Structs that are copied as wholes have a value from the beginning, since a copy loads each cell."""
         found: List[Any] = structs_in(symbol.type)
         if not found and isinstance(symbol.type, Array):
             found = [self.maker_name(innermost(symbol.type)[0])]
         if not found:
-            return ""
-        self.program.later.append((found, f" {self.clear(self.variable(symbol))};"))
-        return LATER.format(len(self.program.later) - 1)
+            return None
+        self.program.later.append(Choice(found, Evaluate(self.clear(self.variable(symbol))), None))
+        return Perhaps(len(self.program.later) - 1)
 
     def declare_local(self, symbol: Symbol, node: Any, found: Any) -> None:
         program, type_ = self.program, symbol.type
         hoisted = id(node) in program.function.hoisted
-        head = "" if hoisted else f"{self.declare(type_, symbol.text)}"
+        head = None if hoisted else self.declare(type_, symbol.text)
+        at = program.place_of(node)
         place = self.variable(symbol)
         if node.init is None:
-            if not hoisted:
-                self.program.put(f"{head};{self.cleared_if_copied(symbol)}", node)
+            if head is not None:
+                program.add(Declare(head, None, self.cleared_if_copied(symbol), at))
             return
         if isinstance(type_, (Array, Struct)) and (kind(node.init) == "InitList" or isinstance(type_, Array)):
             self.declare_parts(symbol, place, head, node, found)
@@ -66,163 +71,179 @@ class Objects(Cells):
         value = program.value(node.init if kind(node.init) != "InitList" else node.init.exprs[0])
         if is_whole(type_):
             row = program.assigned(place, value, False, node) if is_long(type_) else self.copy(place, program.converted(value, type_, True, node), False, node)
-            program.put(f"{head}{'; ' * bool(head)}{row.text};", node)
-        elif hoisted:
-            program.put(program.assigned(place, value, False, node).text + ";", node)
+            if head is not None:
+                program.add(Declare(head, None, None, at))
+            program.do(row.code, node)
+        elif head is None:
+            program.do(program.assigned(place, value, False, node).code, node)
         else:
-            program.put(f"{head} = {program.converted(value, type_, True, node).at(ASSIGN)};", node)
+            program.add(Declare(head, program.converted(value, type_, True, node).code, None, at))
 
-    def declare_parts(self, symbol: Symbol, place: Place, head: str, node: Any, found: Any) -> None:
+    def declare_parts(self, symbol: Symbol, place: Place, head: Optional[Declarator], node: Any, found: Any) -> None:
         program, type_ = self.program, symbol.type
+        at = program.place_of(node)
         if found is None:
             type_, found = program.leaves(type_, node.init)
-        if head and set(found) == {()} :
-            leaf = found[()]
-            program.put(f"{head} = {program.string_text(leaf.node)};", node)
+        if head is not None and set(found) == {()}:
+            program.add(Declare(head, String(type_, program.string_text(found[()].node)), None, at))
             return
-        texts = self.list_text(type_, found) if head else None
-        if texts is not None:
-            program.put(f"{head} = {{ {', '.join(texts)} }};", node)
+        items = self.flat_list(type_, found) if head is not None else None
+        if head is not None:
+            program.add(Declare(head, None if items is None else Braces(type_, tuple(items)), None, at))
+        if items is not None:
             return
-        rows = [] if program.is_full(type_, found) else [self.clear(place) + ";"]
-        if head:
-            rows.insert(0, head + ";")
-        rows += program.assignments(place, found, node)
-        program.put(" ".join(rows), node)
+        self.begin_parts(place, type_, found, node)
 
-    def list_text(self, type_: CType, found: Any) -> Optional[List[str]]:
+    def begin_parts(self, place: Place, type_: CType, found: Any, node: Any) -> None:
+        """Stores the values of an initialiser."""
+        program = self.program
+        if not program.is_full(type_, found):
+            program.do(self.clear(place), node)
+        for row in program.assignments(place, found, node):
+            program.do(row.code, node)
+
+    def flat_list(self, type_: CType, found: Any) -> Optional[List[Node]]:
         """The items of a flat list, where the dialect takes one."""
         if not isinstance(type_, Array) or isinstance(type_.of, (Array, Struct)) or is_long(type_.of) or not isinstance(type_.count, int):
             return None
         last = max((path[0] for path in found), default=0)
         if last > 2 * len(found) + 16 or list(found) != sorted(found):
             return None
-        empty = "NULL" if isinstance(type_.of, (Pointer, List_)) and not to_function(type_.of) and not self.in_bytes else "0"
-        texts = [empty] * (last + 1)
+        items = [self.empty(type_.of)] * (last + 1)
         for path, leaf in found.items():
             self.program.function.fresh_statement() if len(found) > 64 else None
-            texts[path[0]] = self.program.converted(self.program.value(leaf.node), type_.of, True, leaf.node).at(ASSIGN)
-        return texts
+            items[path[0]] = self.program.converted(self.program.value(leaf.node), type_.of, True, leaf.node).code
+        return items
+
+    def empty(self, type_: CType) -> Node:
+        """What an element begins with of which nothing is said."""
+        return Null(type_) if is_address(type_) and not self.in_bytes else Number(type_, 0)
 
     def open_array(self, node: Any, type_: Array) -> None:
         """An array of variable length is memory of `malloc`, which is given back where the function returns."""
         program = self.program
         function = program.function
-        inner, count, texts = spread(type_)
+        inner, count, lengths = spread(type_)
         holder = f"cbi_open_{len(function.ends) + 1}"
-        function.fixed.append(f"{self.spell(Pointer(type_.of))}{holder} = NULL;")
+        name = Name(Pointer(type_.of), holder)
+        function.fixed.append(Declare(self.declare(name.type, holder), Null(name.type)))
         symbol = Symbol(node.name, "variable", Pointer(type_.of), holder)
         program.scope.names[node.name] = symbol
         symbol.lengths, symbol.open = program.size_value(type_), type_
-        amount = " * ".join(texts + [str(count * cells(inner))] * (count * cells(inner) != 1))
-        program.put(f"free({holder}); {holder} = malloc({amount});", node)
-        function.ends.append(f"free({holder});")
+        amount = product(UINT, lengths + [Number(INT, count * cells(inner))] * (count * cells(inner) != 1))
+        free = Call(VOID, "free", (name,))
+        program.do(free, node)
+        program.do(Assign(name.type, name, Call(name.type, "malloc", (amount,))), node)
+        function.ends.append(Evaluate(free))
 
     def literal(self, type_: CType, found: Any, node: Any) -> Place:
         program = self.program
         if program.function.name == "cbi_init":
             name = program.names.take("cbi_literal")
-            program.globals_text.append(self.declare(type_, name) + ";")
+            program.globals.append(Declare(self.declare(type_, name)))
         else:
             program.function.number += 1
             name = f"cbi_literal_{program.function.number}"
-            program.function.fixed.append(self.declare(type_, name) + ";")
-        place = Place(type_, name)
+            program.function.fixed.append(Declare(self.declare(type_, name)))
+        place = Place(type_, Name(type_, name))
         rows = [] if program.is_full(type_, found) else [self.clear(place)]
         for path, leaf in program.beside_zeros(type_, found).items():
-            rows.append(program.assignment(program.part(place, path, node), leaf, node)[:-1])
+            rows.append(program.assignment(program.part(place, path, node), leaf, node))
         if isinstance(type_, Array):
             begin = self.decayed(place)
-            return Place(type_, f"({', '.join(rows + [begin.text])})", POSTFIX, False, pointer="flat")
-        pointer = f"({', '.join(rows + ['&' + name])})"
-        return Place(type_, f"*{pointer}", UNARY, False, pointer=pointer)
+            return Place(type_, sequence(type_, *rows, begin.code), False, flat=True)
+        pointer = sequence(Pointer(type_), *rows, Unary(Pointer(type_), "&", place.code))
+        return Place(type_, Unary(type_, "*", pointer), False, pointer=pointer)
 
-    def store_string(self, place: Place, text: str, data: bytes, length: int, type_: Any) -> str:
-        target = self.decayed(place).at(ASSIGN)
+    def store_string(self, place: Place, text: str, data: bytes, length: int, type_: Any) -> Node:
         count = type_.count if isinstance(type_.count, int) else len(data)
-        return f"cbi_spell({target}, {text}, {length}, {count})"
+        return Call(VOID, "cbi_spell", (self.decayed(place).code, String(Pointer(CHAR), text), Number(INT, length), Number(INT, count)))
 
-    def leave(self, text: str, value: Optional[Tuple[str, CType]]) -> str:
-        """A `return`, behind what is done before one."""
+    def leave(self, row: Statement, value: Optional[Tuple[Node, CType]], at: int = -1) -> Statement:
+        """A `return`, behind what is done before one; `value` is what it gives."""
         ends = self.program.function.ends
         if not ends:
-            return text
+            return placed(row, at)
         if value is None:
-            return f"{{ {' '.join(ends)} {text} }}"
-        if is_whole(value[1]):
-            return f"{{ {value[0]}; {' '.join(ends)} return cbi_result; }}"
-        word = self.spell(value[1])
-        plain = word in ("int", "unsigned", "char")
-        name = self.program.function.temporary("unsigned" if word == "unsigned" else "int") + ".value" if plain else self.program.function.temporary(word)
-        return f"{{ {name} = {value[0]}; {' '.join(ends)} return {name}; }}"
+            return Block((*ends, row), at)
+        code, type_ = value
+        if is_whole(type_):
+            return Block((Evaluate(code), *ends, Return(Name(type_, "cbi_result"))), at)
+        base, stars = self.base(type_)
+        name: Node = self.program.scalar_room(type_, "unsigned" if base == "unsigned" else "int") if not stars else Name(type_, self.program.function.temporary((base, stars)))
+        return Block((Evaluate(Assign(type_, name, code)), *ends, Return(name)), at)
 
-    def copy_to(self, target: str, value: Value, struct: Struct) -> str:
-        return f"{self.copier(struct)}({target}, {value.at(ASSIGN)})"
+    def copy_to(self, target: Node, value: Value, struct: Any) -> Node:
+        return Call(struct, self.copier(struct), (target, value.code))
 
     # Zeros and copies.
 
-    def clear(self, place: Place) -> str:
+    def clear(self, place: Place) -> Node:
         """Makes all of a place zero."""
         type_, count = innermost(place.type)
-        pointer = self.decayed(place) if isinstance(place.type, Array) else Value(Pointer(type_), place.pointer or f"&{place.at(UNARY)}", UNARY)
-        return self.clear_cells(pointer.at(ASSIGN), type_, str(count))
+        if isinstance(place.type, Array):
+            return self.clear_cells(self.decayed(place).code, type_, Number(INT, count))
+        return self.clear_cells(place.pointer if place.pointer is not None else Unary(Pointer(type_), "&", place.code), type_, Number(INT, count))
 
-    def clear_cells(self, pointer: str, type_: CType, count: str) -> str:
+    def clear_cells(self, pointer: Node, type_: CType, count: Node) -> Node:
         if isinstance(type_, Struct):
             self.program.cleared.setdefault(type_, None)
-            return f"cbi_clear_{type_.tag}({pointer}, {count})"
-        if is_long(type_):
-            return f"cbi_clear_long({pointer}, {count})"
-        if isinstance(type_, (Pointer, List_)) and not to_function(type_):
-            return f"cbi_clear_pointers((void **)(void *){pointer if pointer[0] not in '(&' or True else pointer}, {count})"
-        return f"cbi_clear_{self.base(type_)[0]}({pointer}, {count})"
+        if is_address(type_):
+            pointer = Cast(Pointer(type_), "void **", Cast(Pointer(VOID), "void *", pointer))
+        return Call(VOID, f"cbi_clear_{self.maker_name(type_)}", (pointer, count))
 
-    def clear_function(self, struct: Struct) -> Tuple[str, str]:
+    def clear_function(self, struct: Struct) -> Template:
         head = f"void cbi_clear_{struct.tag}(struct {struct.tag} *cbi_at, unsigned cbi_count)"
-        outer = Place(struct, "*cbi_at", UNARY, pointer="cbi_at")
+        outer = self.pointed(struct, "cbi_at")
         rows = ["cbi_at->cbi_is = 0;"] if struct.union else []
         for member in struct.members:
             rows.append(self.clear_member(outer, member, struct))
-        return head + ";", f"{head} {{ while (cbi_count) {{ {' '.join(rows)} cbi_at++; cbi_count--; }} }}"
+        return Template(f"cbi_clear_{struct.tag}", head + ";", f"{head} {{ while (cbi_count) {{ {' '.join(rows)} cbi_at++; cbi_count--; }} }}")
+
+    def pointed(self, struct: Struct, name: str) -> Place:
+        """The struct that a parameter of a function of the tool's points to."""
+        pointer = Name(Pointer(struct), name)
+        return Place(struct, Unary(struct, "*", pointer), pointer=pointer)
 
     def bare_member(self, outer: Place, member: Any, struct: Struct) -> Place:
         inner = innermost(member.type)[0]
         stored = member.name in struct.forward and isinstance(inner, Pointer) and not to_function(inner)
-        return Place(member.type, f"{outer.pointer}->{self.member_name(member)}", member=member if member.bits is not None else None, stored=stored)
+        assert outer.pointer is not None
+        return Place(member.type, Part(member.type, outer.pointer, self.member_name(member), True, member), member=member if member.bits is not None else None, stored=stored)
 
     def clear_member(self, outer: Place, member: Any, struct: Struct) -> str:
         place = self.bare_member(outer, member, struct)
         type_ = place.type
         if isinstance(type_, (Array, Struct)) or is_long(type_):
-            return self.clear(place) + ";"
-        return f"{place.text} = {'NULL' if isinstance(type_, (Pointer, List_)) and not to_function(type_) else '0'};"
+            return text_of(self.clear(place)) + ";"
+        return f"{text_of(place.code)} = {'NULL' if isinstance(type_, (Pointer, List_)) and not to_function(type_) else '0'};"
 
-    def copy_function(self, struct: Struct) -> Tuple[str, str]:
+    def copy_function(self, struct: Struct) -> Template:
         tag = struct.tag
         head = f"struct {tag} *cbi_copy_{tag}(struct {tag} *cbi_to, struct {tag} *cbi_from)"
-        to, from_ = Place(struct, "*cbi_to", UNARY, pointer="cbi_to"), Place(struct, "*cbi_from", UNARY, pointer="cbi_from")
+        to, from_ = self.pointed(struct, "cbi_to"), self.pointed(struct, "cbi_from")
         rows = ["cbi_to->cbi_is = cbi_from->cbi_is;"] if struct.union else []
         counter = False
         for index, member in enumerate(struct.members, 1):
             left, right = self.bare_member(to, member, struct), self.bare_member(from_, member, struct)
             row = self.copy_member(left, right)
-            counter = counter or "cbi_n" in row
+            counter = counter or isinstance(left.type, Array)
             rows.append(f"if (cbi_from->cbi_is == {index}) {{ {row} }}" if struct.union else row)
         if struct.union:
             self.program.cleared.setdefault(struct, None)
             rows.append(f"if (cbi_from->cbi_is == 0) cbi_clear_{tag}(cbi_to, 1u);")
-        return head + ";", f"{head} {{ {'int cbi_n; ' if counter else ''}{' '.join(rows)} return cbi_to; }}"
+        return Template(f"cbi_copy_{tag}", head + ";", f"{head} {{ {'int cbi_n; ' if counter else ''}{' '.join(rows)} return cbi_to; }}")
 
     def copy_member(self, left: Place, right: Place) -> str:
         type_, count = innermost(left.type)
         if not isinstance(left.type, Array):
             if isinstance(type_, Struct):
-                return f"{self.copier(type_)}(&{left.text}, &{right.text});"
+                return f"{self.copier(type_)}(&{text_of(left.code)}, &{text_of(right.code)});"
             if is_long(type_):
-                return f"cbi_long_copy(&{left.text}, &{right.text});"
-            return f"{left.text} = {right.text};"
+                return f"cbi_long_copy(&{text_of(left.code)}, &{text_of(right.code)});"
+            return f"{text_of(left.code)} = {text_of(right.code)};"
         bare_left, bare_right = left._replace(stored=False), right._replace(stored=False)
-        to, from_ = self.decayed(bare_left).at(POSTFIX), self.decayed(bare_right).at(POSTFIX)
+        to, from_ = (plain(operand(self.decayed(it).code, POSTFIX)) for it in (bare_left, bare_right))
         if isinstance(type_, Struct) or is_long(type_):
             name = self.copier(type_) if isinstance(type_, Struct) else "cbi_long_copy"
             inner = f"{name}({to} + cbi_n, {from_} + cbi_n);"
@@ -230,17 +251,17 @@ class Objects(Cells):
             inner = f"{to}[cbi_n] = {from_}[cbi_n];"
         return f"for (cbi_n = 0; cbi_n < {count}; cbi_n++) {inner}"
 
-    def union_function(self, struct: Struct, index: int, way: str) -> Tuple[str, str]:
+    def union_function(self, struct: Struct, index: int, way: str) -> Template:
         """What gives the place of a union's member: one that the union then has (`put`), must have (`get`), or both (`use`)."""
         member = struct.members[index - 1]
         name, inner = self.member_name(member), innermost(member.type)[0]
         stored = member.name in struct.forward and isinstance(inner, Pointer) and not to_function(inner)
-        word = "void **" if stored else self.declare(Pointer(member.type), "") if not to_function(inner) else "int *"
+        word = "void **" if stored else self.spell(Pointer(member.type)) if not to_function(inner) else "int *"
         what = f"{word}cbi_{way}_{struct.tag}_{name}(struct {struct.tag} *cbi_at)"
         # One that was made zero as a whole, of which cbi_is is 0, has each member's zero.
         rows = [f"if (cbi_at->cbi_is != {index}) if (cbi_at->cbi_is) cbi_other_kind();"] * (way != "put") + [f"cbi_at->cbi_is = {index};"] * (way != "get")
         cast = f"({word.strip()})(void *)" if stored and not isinstance(member.type, Array) else ""
-        return what + ";", f"{what} {{ {' '.join(rows)} return {cast}{'&' * (not isinstance(member.type, Array))}cbi_at->{name}; }}"
+        return Template(f"cbi_{way}_{struct.tag}_{name}", what + ";", f"{what} {{ {' '.join(rows)} return {cast}{'&' * (not isinstance(member.type, Array))}cbi_at->{name}; }}")
 
     # Memory of the library.
 
@@ -248,12 +269,12 @@ class Objects(Cells):
         """Memory of so many bytes. What is to be held says how many cells it is."""
         whole = "cbi_malloc" if self.program.keeps_sizes else "malloc"
 
-        def made(type_: Optional[CType]) -> str:
+        def made(type_: Optional[CType]) -> Node:
             return self.made(type_, node, clear)
-        return Value(Pointer(VOID), f"{whole}({self.some(count, CHAR, node)})", POSTFIX, pure=False, fresh=made,
+        return Value(Pointer(VOID), Call(Pointer(VOID), whole, (self.some(count, CHAR, node),)), pure=False, fresh=made,
                      origin="unknown" if clear or self.program.keeps_sizes else None)
 
-    def made(self, type_: Any, node: Any, clear: bool) -> str:
+    def made(self, type_: Any, node: Any, clear: bool) -> Node:
         """A call that makes memory for objects of a type; `node` are the factors of its size in bytes."""
         program = self.program
         inner, per = innermost(type_)
@@ -261,15 +282,15 @@ class Objects(Cells):
             raise program.refuse(None, "an array at a struct's end that goes on behind it", "a pointer to memory of malloc", True)
         count = self.objects(type_, node)
         amount = self.some(count, type_, node)
-        maker = "cbi_malloc" if program.keeps_sizes else "malloc"
+        name, pointer = self.maker_name(inner), Pointer(type_)
+        new = Call(pointer, f"cbi_new_{name}", (count.code if per == 1 else Binary(UINT, "*", count.code, Number(INT, per)),))
         if clear or program.keeps_sizes:
-            program.makers.setdefault(self.maker_name(inner), inner)
-            objects = count.text if per == 1 else f"{count.at(TIMES)} * {per}"
-            return f"cbi_new_{self.maker_name(inner)}({objects})"
-        held: List[Any] = [*structs_in(type_)] or [self.maker_name(inner)]
-        program.later.append((held, f"cbi_new_{self.maker_name(inner)}({count.text if per == 1 else f'{count.at(TIMES)} * {per}'})", f"{maker}({amount})"))
-        program.makers_if.setdefault(self.maker_name(inner), inner)
-        return LATER.format(len(program.later) - 1)
+            program.makers.setdefault(name, inner)
+            return new
+        owners: List[Any] = [*structs_in(type_)] or [name]
+        program.later.append(Choice(owners, new, Call(pointer, "malloc", (amount,)), name))
+        program.makers_if.setdefault(name, inner)
+        return Later(pointer, len(program.later) - 1)
 
     def maker_name(self, type_: CType) -> str:
         if isinstance(type_, Struct):
@@ -278,18 +299,19 @@ class Objects(Cells):
             return "pointers"
         return "long" if is_long(type_) else self.base(type_)[0]
 
-    def some(self, count: Value, type_: CType, nodes: List[Any]) -> str:
+    def some(self, count: Value, type_: CType, nodes: List[Any]) -> Node:
         """How many cells are asked for as memory of so many objects. For none glibc gives memory too: then it is one cell."""
         program = self.program
         if program.keeps_sizes or program.in_prelude or count.constant or len(nodes) == 1 and self.is_some(nodes[0]):
             return self.amount(type_, count)
         if count.constant == 0:
-            return "1"
-        before = ""
+            return Number(INT, 1)
+        before: Optional[Node] = None
         if not count.pure:
             before, count = program.keep(count)
-        text = f"{self.amount(type_, count)} + ({count.at(EQUAL + 1)} == 0)"
-        return f"({before}, {text})" if before else text
+        is_none = Group(INT, Binary(INT, "==", held(count.code, EQUAL + 1), Number(INT, 0)))
+        code = Binary(UINT, "+", self.amount(type_, count), is_none)
+        return code if before is None else sequence(UINT, before, code)
 
     def is_some(self, node: Any) -> bool:
         """Whether a size isn't zero, as that of a text with its end isn't: `strlen(s) + 1`."""
@@ -299,15 +321,13 @@ class Objects(Cells):
         return any(kind(it) == "Constant" and self.program.value(it).constant for it in sides) and any(
             kind(it) == "FuncCall" and kind(it.name) == "ID" and it.name.name == "strlen" for it in sides)
 
-    def amount(self, type_: CType, count: Value) -> str:
+    def amount(self, type_: CType, count: Value) -> Node:
         per = cells(type_)
         inner = innermost(type_)[0]
         if per == 1:
-            return count.at(ADD)
-        word = f"sizeof(struct {inner.tag})" if isinstance(inner, Struct) and not isinstance(type_, Array) else str(per)
-        if count.constant == 1:
-            return word
-        return f"{count.at(TIMES)} * {word}"
+            return held(count.code, ADD)
+        each: Node = SizeOf(UINT, f"struct {inner.tag}") if isinstance(inner, Struct) and not isinstance(type_, Array) else Number(INT, per)
+        return each if count.constant == 1 else Binary(UINT, "*", count.code, each)
 
     def objects(self, type_: CType, nodes: List[Any]) -> Value:
         """How many objects of a type so many bytes are."""
@@ -334,7 +354,7 @@ class Objects(Cells):
             return whole
         if whole.constant is not None:
             return number(-(-whole.constant // size), UINT)
-        return Value(UINT, f"({whole.at(ADD)} + {size - 1}u) / {size}u", TIMES, pure=whole.pure)
+        return Value(UINT, Binary(UINT, "/", Binary(UINT, "+", whole.code, word(size - 1)), word(size)), pure=whole.pure, origin=ROUNDED)
 
     def product(self, values: List[Value]) -> Value:
         if not values:
@@ -349,83 +369,80 @@ class Objects(Cells):
 
     # What lives as long as the program, and functions.
 
-    def declare_static(self, symbol: Symbol, init: Any, node: Any) -> str:
+    def declare_static(self, symbol: Symbol, init: Any, node: Any) -> Optional[Declare]:
         """The declaration of a global; what it can't begin with in the text is stored at the program's start."""
         program, type_ = self.program, symbol.type
-        text = self.declare(type_, symbol.text)
+        head = self.declare(type_, symbol.text)
         self.static_cells += cells(type_)
         if self.static_cells > MOST_CELLS:
             raise program.refuse(node, f"more than {MOST_CELLS:,} scalars in variables that live as long as the program", "smaller arrays", True)
         if init is None:
-            return text + ";"
+            return Declare(head)
         place = self.variable(symbol)
         if isinstance(type_, (Array, Struct)) and (kind(init) == "InitList" or isinstance(type_, Array)):
             type_, found = program.leaves(type_, init)
             if set(found) == {()}:
-                return f"{text} = {program.string_text(found[()].node)};"
+                return Declare(head, String(type_, program.string_text(found[()].node)))
             flat = self.static_list(type_, found)
             if flat is not None:
-                return f"{text} = {{ {', '.join(flat)} }};" if flat else text + ";"
+                return Declare(head, Braces(type_, tuple(flat)) if flat else None)
             program.first.out.extend(program.assignments(place, found, node))
-            return text + ";"
+            return Declare(head)
         program.function.fresh_statement()
         value = program.value(init if kind(init) != "InitList" else init.exprs[0])
         if is_whole(type_):
             row = program.assigned(place, value, False, node) if is_long(type_) else self.copy(place, value, False, node)
-            program.first.out.append(row.text + ";")
-            return text + ";"
-        plain = self.plain(program.converted(value, type_, True, node))
-        if plain is not None:
-            return f"{text} = {plain};"
-        program.first.out.append(program.assigned(place, value, False, node).text + ";")
-        return text + ";"
+            program.first.out.append(Evaluate(row.code))
+            return Declare(head)
+        known = self.plain(program.converted(value, type_, True, node))
+        if known is not None:
+            return Declare(head, known)
+        program.first.out.append(Evaluate(program.assigned(place, value, False, node).code))
+        return Declare(head)
 
-    def plain(self, value: Value) -> Optional[str]:
+    def plain(self, value: Value) -> Optional[Node]:
         """A value as a global may begin with it."""
-        from cbi_port.lines import bare
         if value.null:
-            return "NULL" if isinstance(value.type, Pointer) and not to_function(value.type) and not self.in_bytes else "0"
+            return self.empty(value.type)
         if isinstance(value.type, Int) and value.constant is not None:
-            constant = value.constant
-            if constant == -(1 << 31):
-                return "2147483648u"
-            return f"{constant}u" if constant > 0x7fffffff else str(constant)
-        text = bare(value.text)
-        if isinstance(value.type, Pointer) and (to_function(value.type) and text.isdigit() or value.level == POSTFIX and re.fullmatch(r'"(?:[^"\\]|\\.)*"', text)):
-            return text
+            constant = -LEAST_INT if value.constant == LEAST_INT else value.constant
+            return Number(value.type, constant, constant > 0x7fffffff)
+        code = bare(value.code)
+        if isinstance(value.type, Pointer) and (to_function(value.type) and isinstance(code, Number) and not code.unsigned and (code.spelling or str(code.value)).isdigit() or isinstance(code, String)):
+            return replace(code, at=-1)
         return None
 
-    def static_list(self, type_: CType, found: Any) -> Optional[List[str]]:
+    def static_list(self, type_: CType, found: Any) -> Optional[List[Node]]:
         program = self.program
         if not isinstance(type_, Array) or isinstance(type_.of, (Array, Struct)) or is_long(type_.of):
             return None
         last = max((path[0] for path in found), default=-1)
         if last > 4 * len(found) + 64:
             return None
-        empty = "NULL" if isinstance(type_.of, (Pointer, List_)) and not to_function(type_.of) and not self.in_bytes else "0"
-        texts = [empty] * (last + 1)
+        items = [self.empty(type_.of)] * (last + 1)
         for path, leaf in found.items():
-            plain = self.plain(program.converted(program.value(leaf.node), type_.of, True, leaf.node))
-            if plain is None:
+            known = self.plain(program.converted(program.value(leaf.node), type_.of, True, leaf.node))
+            if known is None:
                 return None
-            texts[path[0]] = plain
-        return texts
+            items[path[0]] = known
+        return items
 
-    def take_parameter(self, symbol: Symbol) -> Tuple[str, List[str]]:
+    def take_parameter(self, symbol: Symbol) -> Tuple[str, List[Statement]]:
         """A parameter's name in the head, and what is done with it first."""
         if not is_whole(symbol.type):
             return symbol.text, []
         name = f"cbi_in_{symbol.text}"
-        self.program.function.fixed.append(self.declare(symbol.type, symbol.text) + ";")
-        if is_long(symbol.type):
-            return name, [f"cbi_long_copy(&{symbol.text}, {name}); "]
-        return name, [f"{self.copier(symbol.type)}(&{symbol.text}, {name}); "]
+        type_ = symbol.type
+        self.program.function.fixed.append(Declare(self.declare(type_, symbol.text)))
+        copier = "cbi_long_copy" if is_long(type_) else self.copier(type_)
+        return name, [Evaluate(Call(type_, copier, (Unary(type_, "&", Name(type_, symbol.text)), Name(type_, name))))]
 
     def begin_function(self, symbol: Symbol, body: Any) -> None:
         pass
 
-    def entry(self, body: Any) -> str:
-        return ""
+    def entry(self, body: Any) -> List[Statement]:
+        """What a function does first."""
+        return []
 
     def finish(self, helpers: Any) -> None:
         pass
@@ -445,9 +462,9 @@ class Objects(Cells):
             rows += f"cbi_words[{index}] = malloc({len(text) + 1}); cbi_spell(cbi_words[{index}], {text}, cbi_length({text}) + 1, 1); "
         return ", ".join([str(len(texts)), "cbi_words", f"cbi_words + {len(texts) + 1}"][:count]), rows
 
-    def word_of_main(self, number: str) -> str:
+    def word_of_main(self, number: Node) -> Node:
         """One of the words of the input's first line."""
-        return f"cbi_words[{number}]"
+        return Index(Pointer(CHAR), Name(Pointer(Pointer(CHAR)), "cbi_words"), number)
 
 
 def quoted(word: str) -> str:

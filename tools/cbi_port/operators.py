@@ -3,8 +3,9 @@ from typing import Any, Optional
 
 from cbi_port.conversions import number
 from cbi_port.expressions import LONG_NAMES, Expressions
+from cbi_port.nodes import COND, Binary, Call, Unary, held
 from cbi_port.types import INT, UINT, Int, Void, common, is_float, is_long, is_pointer, spelled
-from cbi_port.values import COND, LEVELS, POSTFIX, SHIFT, UNARY, Value
+from cbi_port.values import Value
 
 
 def divided(left: int, right: int) -> int:
@@ -37,16 +38,14 @@ class Operators(Expressions):
         if sign in ("&&", "||"):
             return self.joined(node, sign)
         left, right = self.value(node.left), self.value(node.right)
-        at = self.pieces_between(node.right, sign)
+        at = self.sign_before(node.right, sign)
         return self.operated(sign, left, right, node, at)
 
     def joined(self, node: Any, sign: str) -> Value:
         left = self.truth(self.value(node.left))
         live = left.constant is None or bool(left.constant) == (sign == "&&")
         right = self.truth(self.if_live(node.right, True, live))
-        level = LEVELS[sign]
-        at = self.pieces_between(node.right, sign)
-        text = f"{left.at(level)} {at}{sign} {right.at(level + 1)}"
+        code = Binary(INT, sign, left.code, right.code, self.sign_before(node.right, sign))
         constant = None
         if left.constant is not None and bool(left.constant) == (sign == "||"):
             constant = int(bool(left.constant))
@@ -54,9 +53,9 @@ class Operators(Expressions):
             constant = int(bool(right.constant))
         if constant is not None and left.pure:
             return number(constant)
-        return Value(INT, text, level, None, left.pure and right.pure)
+        return Value(INT, code, None, left.pure and right.pure)
 
-    def operated(self, sign: str, left: Value, right: Value, node: Any, at: str = "") -> Value:
+    def operated(self, sign: str, left: Value, right: Value, node: Any, at: int = -1) -> Value:
         """An operator's value; both operands are evaluated."""
         if isinstance(left.type, Void) or isinstance(right.type, Void):
             raise self.refuse(node, f"`{sign}` of a `void`", "a function that returns a value, or the call as a statement of its own")
@@ -80,8 +79,7 @@ class Operators(Expressions):
             return self.of_width(self.long_operated(sign, left, right, type_), sign, left, right)
         if self.wraps(type_) and sign in "+-*":
             return self.wrapped_around(self.operated(sign, self.converted(left, UINT), self.converted(right, UINT), node, at))
-        level = LEVELS[sign]
-        return Value(type_, f"{left.at(level)} {at}{sign} {right.at(level + 1)}", level, None, left.pure and right.pure)
+        return Value(type_, Binary(type_, sign, left.code, right.code, at), None, left.pure and right.pure)
 
     def of_width(self, found: Value, sign: str, left: Value, right: Value) -> Value:
         """gcc reckons with bit-fields of more than 32 bits in their own width."""
@@ -95,10 +93,10 @@ class Operators(Expressions):
         name = LONG_NAMES[sign]
         if sign in "+-*/%" and not type_.signed or sign in "+-*" and self.wraps(type_):
             name = {"add": "plus", "sub": "less", "mul": "times", "div": "over", "rem": "rest"}[name]
-        text = f"cbi_long_{name}(&{self.temporary('long')}, {self.long_text(left)}, {self.long_text(right)})"
-        return Value(type_, text, POSTFIX, None, left.pure and right.pure)
+        code = Call(type_, f"cbi_long_{name}", (self.long_room(type_), self.long_code(left), self.long_code(right)))
+        return Value(type_, code, None, left.pure and right.pure)
 
-    def shifted(self, sign: str, left: Value, right: Value, at: str) -> Value:
+    def shifted(self, sign: str, left: Value, right: Value, at: int) -> Value:
         type_ = left.type
         if is_long(right.type):
             right = self.converted(right, INT)
@@ -108,28 +106,24 @@ class Operators(Expressions):
                 return number(found, type_)
         if is_long(type_):
             name = {"<<": "shl", ">>": "sar" if type_.signed else "shr"}[sign]
-            text = f"cbi_long_{name}(&{self.temporary('long')}, {self.long_text(left)}, {self.converted(right, INT, True).at(COND)})"
-            shifted = Value(type_, text, POSTFIX, None, left.pure and right.pure)
+            code = Call(type_, f"cbi_long_{name}", (self.long_room(type_), self.long_code(left), held(self.converted(right, INT, True).code, COND)))
+            shifted = Value(type_, code, None, left.pure and right.pure)
             return shifted if left.wide is None else self.cut_long(shifted, left.wide)
         if self.wraps(type_) and sign == "<<":
             return self.wrapped_around(self.shifted(sign, self.converted(left, UINT), right, at))
-        return Value(type_, f"{left.at(SHIFT)} {at}{sign} {right.at(SHIFT + 1)}", SHIFT, None, left.pure and right.pure)
+        return Value(type_, Binary(type_, sign, left.code, right.code, at), None, left.pure and right.pure)
 
-    def ordered(self, sign: str, left: Value, right: Value, type_: Int, at: str) -> Value:
+    def ordered(self, sign: str, left: Value, right: Value, type_: Int, at: int) -> Value:
         pure = left.pure and right.pure
         if left.constant is not None and right.constant is not None:
             a, b = type_.wrap(left.constant), type_.wrap(right.constant)
             return number(int({"<": a < b, ">": a > b, "<=": a <= b, ">=": a >= b, "==": a == b, "!=": a != b}[sign]))
-        level = LEVELS[sign]
         if is_long(type_):
-            one, other = (self.long_text(self.converted(it, type_)) for it in (left, right))
-            if sign in ("==", "!="):
-                text = f"cbi_long_same({one}, {other})"
-                return Value(INT, text if sign == "==" else f"!{text}", POSTFIX if sign == "==" else UNARY, None, pure)
-            name = "cbi_long_before" if type_.signed else "cbi_long_below"
-            text = f"{name}({one}, {other})" if sign in ("<", ">=") else f"{name}_turned({one}, {other})"
-            return Value(INT, text if sign in "<>" else f"!{text}", POSTFIX if sign in "<>" else UNARY, None, pure)
-        return Value(INT, f"{left.at(level)} {at}{sign} {right.at(level + 1)}", level, None, pure)
+            one, other = [self.long_code(self.converted(it, type_)) for it in (left, right)]
+            name = "same" if sign in ("==", "!=") else ("before" if type_.signed else "below") + "_turned" * (sign not in ("<", ">="))
+            call = Call(INT, f"cbi_long_{name}", (one, other))
+            return Value(INT, call if sign in ("==", "<", ">") else Unary(INT, "!", call), None, pure)
+        return Value(INT, Binary(INT, sign, left.code, right.code, at), None, pure)
 
     def with_pointer(self, sign: str, left: Value, right: Value, node: Any) -> Value:
         if sign in ("+", "-") and is_pointer(left.type) and isinstance(right.type, Int):

@@ -2,16 +2,16 @@
 from typing import Any, List
 
 from cbi_port import forms
+from cbi_port.constants import bytes_of, characters_of, written_name
 from cbi_port.conversions import number
 from cbi_port.declarations import Declarations
-from cbi_port.constants import bytes_of, characters_of, written_name
 from cbi_port.floats import Floats
-from cbi_port.lines import mark
+from cbi_port.nodes import Index, Number, marked
 from cbi_port.scopes import Symbol
 from cbi_port.trees import kind
-from cbi_port.types import (CHAR, INT, LLONG, LONG, UCHAR, UINT, ULLONG, ULONG, Array, CType, Function, Int, Pointer, Struct, Void, is_complete,
-                            is_float, is_long, is_pointer, size_of, spelled)
-from cbi_port.values import POSTFIX, Place, Value
+from cbi_port.types import (CHAR, INT, LLONG, LONG, UCHAR, UINT, ULLONG, ULONG, Array, CType, Function, Int, Pointer, Struct, Void, is_complete, is_float,
+                            is_long, is_pointer, size_of, spelled)
+from cbi_port.values import Place, Value, retyped
 
 
 class Places(Floats, Declarations):
@@ -19,7 +19,7 @@ class Places(Floats, Declarations):
 
     def of_Constant(self, node: Any, used: bool) -> Value:
         text = node.value
-        at = mark(self.place_of(node))
+        at = self.place_of(node)
         if node.type == "string" and node.value[0] == "L":
             place = self.wide_string(node)
             return self.model.load(place, node)
@@ -27,14 +27,14 @@ class Places(Floats, Declarations):
             if forms.names_arguments(node.value) and not self.in_prelude:
                 raise self.refuse(node, "a form that names its arguments by number", "arguments in the form's order")
             value = self.model.string(self.string_text(node), size_of(self.string_type(node)))
-            return value._replace(text=at + value.text if not self.model.in_bytes else value.text)
+            return value._replace(code=marked(value.code, at)) if not self.model.in_bytes else value
         if "'" in text:
             return self.character(node, text, at)
         if any(word in node.type for word in ("float", "double")) or not text.lower().startswith("0x") and ("." in text or "e" in text.lower()):
             return self.float_constant(node, text)
         return self.integer(text, at, node)
 
-    def integer(self, text: str, at: str, node: Any) -> Value:
+    def integer(self, text: str, at: int, node: Any) -> Value:
         digits = text.rstrip("uUlL")
         suffix = text[len(digits):].lower()
         try:
@@ -52,18 +52,16 @@ class Places(Floats, Declarations):
             if type_.rank >= least and value <= type_.most:
                 if is_long(type_):
                     return number(value, type_)
-                spelling = digits + ("u" if not type_.signed else "")
-                if digits.lower().startswith("0b"):
-                    spelling = str(value) + ("u" if not type_.signed else "")
-                return Value(type_, at + spelling, POSTFIX, value, null=value == 0)
+                spelling = str(value) if digits.lower().startswith("0b") else digits
+                return Value(type_, Number(type_, value, not type_.signed, spelling + "u" * (not type_.signed), at), value, null=value == 0)
         return number(ULLONG.wrap(value), ULLONG)
 
-    def character(self, node: Any, text: str, at: str) -> Value:
+    def character(self, node: Any, text: str, at: int) -> Value:
         data = bytes_of(text)
         if len(data) == 1:
             value = CHAR.wrap(data[0])
             if len(text) == 3 and 32 <= ord(text[1]) < 127 or len(text) == 4 and text[2] in "ntrabfv\\'\"?0":
-                return Value(INT, at + text, POSTFIX, value, null=value == 0)
+                return Value(INT, Number(INT, value, False, text, at), value, null=value == 0)
             return number(value)
         value = 0
         for byte in data:
@@ -104,7 +102,7 @@ class Places(Floats, Declarations):
             if not is_pointer(value.type):
                 raise self.refuse(node, f"`*` of a `{spelled(value.type)}`", "a pointer there: `&` of the object, or a cast of an address to a pointer")
             if isinstance(value.type.to, Function):
-                return Place(value.type.to, value.text, value.level, value.pure)
+                return Place(value.type.to, retyped(value.type.to, value.code), value.pure)
             return self.model.target(value, node)
         if what == "ArrayRef":
             return self.element_place(node)
@@ -116,14 +114,14 @@ class Places(Floats, Declarations):
             return self.wide_string(node)
         if what == "Constant" and node.type == "string":
             value = self.value(node)
-            return self.model.target(value, node)._replace(type=self.string_type(node), pointer="flat", text=value.text, level=value.level)
+            return self.model.target(value, node)._replace(type=self.string_type(node), pointer=None, flat=True, code=value.code)
         if what == "UnaryOp" and node.op in ("__real__", "__extension__"):
             return self.place(node.expr)
         if what == "FuncCall" and kind(node.name) == "ID" and node.name.name == "__cbi_generic":
             return self.place(self.selected(node, node.args.exprs))
         value = self.value(node)
         if isinstance(value.type, Struct):
-            return self.model.target(value._replace(type=Pointer(value.type)), node)
+            return self.model.target(value.as_type(Pointer(value.type)), node)
         raise self.refuse(node, "no place where one must stand", "a variable, an element or a member")
 
     def named_place(self, node: Any) -> Place:
@@ -143,7 +141,7 @@ class Places(Floats, Declarations):
         if symbol.kind == "function":
             self.use(symbol)
             value = self.model.function(symbol, node)
-            return Place(symbol.type, value.text, value.level)
+            return Place(symbol.type, retyped(symbol.type, value.code))
         if symbol.kind == "refused":
             raise self.follow(node)
         if symbol.kind == "type":
@@ -152,8 +150,7 @@ class Places(Floats, Declarations):
             raise self.missing(node, node.name)
         self.use(symbol)
         place = self.model.variable(symbol)._replace(quals=symbol.quals)
-        at = mark(self.place_of(node))
-        return place._replace(text=at + place.text) if not place.pointer else place
+        return place._replace(code=marked(place.code, self.place_of(node))) if place.pointer is None and not place.flat else place
 
     def element_place(self, node: Any) -> Place:
         base, index = node.name, node.subscript
@@ -180,7 +177,7 @@ class Places(Floats, Declarations):
             raise self.refuse(node, "`[]` without a pointer", "an array or a pointer, and a number")
         index = self.index(index)
         if not self.model.in_bytes and not isinstance(pointer.type.to, (Array, Void)) and is_complete(pointer.type.to):
-            return Place(pointer.type.to, f"{pointer.at(POSTFIX)}[{index.text}]", POSTFIX, pointer.pure and index.pure, quals=pointer.type.quals)
+            return Place(pointer.type.to, Index(pointer.type.to, pointer.code, index.code), pointer.pure and index.pure, quals=pointer.type.quals)
         return self.model.target(self.model.add(pointer, index, "+", node), node)
 
     def index(self, value: Value) -> Value:

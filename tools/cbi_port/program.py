@@ -1,23 +1,26 @@
 """Whole programs (C99 6.9): linkage, definitions, and the text that all of it becomes."""
 import re
+from dataclasses import replace
 from typing import Any, Dict, List, Optional, Sequence, Set, Tuple
 
 from cbi_port import Ported, forms
+from cbi_port.blocks import Declare
 from cbi_port.body import Body
 from cbi_port.bounds import BoundedBytes
 from cbi_port.bytes import Bytes
+from cbi_port.functions import Functions
 from cbi_port.helpers import Helpers
-from cbi_port.library import Library
-from cbi_port.lines import Refusal, Sheet, Token, bare, mark
+from cbi_port.late import Choice
+from cbi_port.lines import Refusal, Sheet, Token
+from cbi_port.names import names_of
 from cbi_port.objects import Objects
 from cbi_port.reader import HEADERS, Unit, prelude_index, read_prelude
 from cbi_port.scopes import TAKEN, Names, Scope, Symbol, plain_name
 from cbi_port.system import Named, asked
-from cbi_port.trees import declared_outside, gives_value, holds_open, kind, names_under_address
+from cbi_port.trees import kind
+from cbi_port.types import INT, VOID, Array, CType, Function, Int, Struct, is_complete, spelled
 from cbi_port.unions import Unions
-from cbi_port.unwinding import Unwinding
-from cbi_port.wrappers import OBJECT, Wrappers
-from cbi_port.types import INT, VOID, Array, CType, Function, Int, Pointer, Struct, Void, is_complete, is_whole, spelled, to_function
+from cbi_port.wrappers import Wrappers
 
 MODELS: Dict[str, Any] = {"cells": Objects, "bytes": BoundedBytes, "flat": Bytes}
 WRAPS = "signed integers wrap where they overflow (--wrap), as gcc's -fwrapv has it"
@@ -30,7 +33,7 @@ def prelude_text(name: str) -> str:
     return plain if plain.startswith("cbi_") else ("cbi_own_" if name.startswith("__") else "cbi_") + plain
 
 
-class Program(Unwinding, Library):
+class Program(Functions):
     """A translation of files into one text, with one model of memory."""
 
     def __init__(self, units: Sequence[Unit], tokens: List[Token], memory: str, args: Any, stderr: bool, named: Named = (), wrap: bool = False) -> None:
@@ -67,11 +70,11 @@ class Program(Unwinding, Library):
         self.sort_call = self.sort_call_with = ""
         self.union_helpers: Set[Any] = set()
         self.unions = Unions(self)
-        self.later: List[Any] = []
+        self.later: List[Choice] = []
         self.from_generic: List[int] = []
         self.to_generic: List[int] = []
         self.fresh_types: Set[str] = set()
-        self.globals_text: List[str] = []
+        self.globals: List[Declare] = []     # those that stand on the first line
         self.library_names: Set[str] = set()
         self.wrappers: Dict[str, Symbol] = {}
         self.makers_of_text = Wrappers(self)
@@ -252,115 +255,18 @@ class Program(Unwinding, Library):
             raise self.refuse_type(node, f"`{symbol.name}` of the type {spelled(symbol.type)}", symbol.type)
         outer, self.function, self.begins = self.function, self.first, True
         try:
-            text = self.model.declare_static(symbol, init, node)
+            found = self.model.declare_static(symbol, init, node)
         finally:
             self.function, self.begins = outer, False
-        if text:
-            self.place_global(text, symbol)
+        if found is not None:
+            self.place_global(found, symbol)
 
-    def place_global(self, text: str, symbol: Symbol) -> None:
+    def place_global(self, found: Declare, symbol: Symbol) -> None:
         token = self.tokens[symbol.at] if 0 <= symbol.at < len(self.tokens) else None
         if self.in_prelude or token is None or token.file != self.sheet.first:
-            self.globals_text.append(text)
+            self.globals.append(found)
         else:
-            self.sheet.put(token.file, mark(symbol.at) + text)
-
-    # Functions.
-
-    def function_number(self, symbol: Symbol) -> int:
-        self.use(symbol)
-        if symbol not in self.function_numbers:
-            self.function_numbers[symbol] = len(self.function_numbers) + 1
-            self.count("functions with an address")
-        return self.function_numbers[symbol]
-
-    def define(self, symbol: Symbol, item: Any, unit: Unit) -> None:
-        """Writes a function's definition."""
-        self.unit = unit
-        type_ = symbol.type
-        self.function = body = Body(symbol.name, type_.result)
-        self.scope = Scope(self.scopes[unit.file])
-        if symbol.object is not None:
-            self.scope.names[OBJECT] = Symbol(OBJECT, "type", symbol.object)
-        body.addressed = names_under_address(item)
-        body.outer_names = declared_outside(item.body)
-        self.last_place = max(self.place_of(item.decl), 0)
-        names, entry = self.parameters(item, type_)
-        self.prepare(item)
-        main = symbol.name == "main" and symbol.unit != "prelude"
-        if main and symbol.text == "main":
-            self.needs_init_at = len(body.out)
-        self.model.begin_function(symbol, body)
-        self.at_level = True
-        for inner in item.body.block_items or []:
-            self.level_statement(inner)
-        self.finish(item)
-        last = item.body.block_items[-1] if item.body.block_items else None
-        tail = self.model.leave("", None) if kind(last) != "Return" and (body.ends or self.model.in_bytes) else ""
-        if kind(last) != "Return" and not isinstance(type_.result, Void) and symbol.text != "main" and not gives_value(item.body):
-            tail = self.model.leave(self.nothing(type_.result), None)
-        if main and symbol.text != "main" and not isinstance(type_.result, Void) and kind(last) != "Return":
-            tail += " return 0;"
-        head = self.signature(symbol.text, self.defined_as(type_), type_.parameters, names) if not (main and symbol.text == "main") else "int main(void)"
-        begin = self.model.entry(body)
-        first = "\x05" if main and symbol.text == "main" else ""
-        text = f"{mark(self.place_of(item.decl))}{head} {mark(self.place_of(item.body))}{{ {first}{body.declarations()}{begin}{''.join(entry)}"
-        text += "".join(row + " " for row in body.first_rows) + " ".join(body.out) + f" {tail}" * bool(tail) + " }"
-        text = re.sub("\x06(\\d+)\x07", lambda it: body.leaves[int(it[1])][1 if body.frame else 0], text)
-        token = self.tokens[max(self.place_of(item.decl), 0)]
-        symbol.emitted = True
-        if symbol.unit == "prelude":
-            self.sheet.tail.append(bare(text))
-        elif symbol.object is not None or symbol in self.makers_of_text.known:
-            self.sheet.apart.append((token.file, text))
-        else:
-            self.sheet.put(token.file, text)
-
-    def nothing(self, result: CType) -> str:
-        """What a function returns that has no `return` with a value: its callers may hand on what they got."""
-        if is_whole(result):
-            return "return cbi_result;"
-        return "return NULL;" if isinstance(result, Pointer) and not to_function(result) and not self.model.in_bytes else "return 0;"
-
-    def defined_as(self, type_: Function) -> Function:
-        return type_
-
-    def parameters(self, item: Any, type_: Function) -> Tuple[List[str], List[str]]:
-        names: List[str] = []
-        entry: List[str] = []
-        args = item.decl.type.args
-        nodes = [it for it in args.params if kind(it) != "EllipsisParam"] if args is not None else []
-        if len(nodes) == 1 and not type_.parameters:
-            nodes = []
-        for index, (node, inner) in enumerate(zip(nodes, type_.parameters)):
-            name = getattr(node, "name", None) or f"cbi_unnamed_{index}"
-            if isinstance(inner, Struct) and not inner.complete:
-                raise self.refuse_type(node, f"a parameter of type {spelled(inner)}", inner)
-            symbol = Symbol(name, "variable", inner, self.local_name(name) if not name.startswith("cbi_unnamed") else name)
-            if kind(node) == "Decl" and kind(node.type) in ("PtrDecl", "TypeDecl"):
-                symbol.quals = self.quals_of(node.type)
-            self.scope.names[name] = symbol
-            text, rows = self.model.take_parameter(symbol)
-            names.append(text)
-            entry.extend(rows)
-        self.open_parameters({it.name: it for it in item.param_decls or []}, nodes)
-        return names, entry
-
-    def open_parameters(self, behind: Dict[str, Any], nodes: Sequence[Any]) -> None:
-        """Finds out the lengths in the types of parameters, as the function begins (6.9.1p10)."""
-        for node in nodes:
-            decl = behind.get(node.name, node) if getattr(node, "name", None) else node
-            type_ = decl.type if kind(decl) in ("Decl", "Typename") else None
-            if kind(type_) == "ArrayDecl":
-                if type_.dim is not None and self.known(type_.dim) is None and not (kind(type_.dim) == "ID" and type_.dim.name == "*"):
-                    value = self.value(type_.dim)
-                    if not value.pure:
-                        self.put(value.text + ";", decl)
-                type_ = type_.type
-            if type_ is not None and holds_open(type_):
-                found = self.resolve(type_)
-                symbol = self.scope.names[decl.name]
-                symbol.type = Pointer(found) if type_ is not decl.type else found
+            self.sheet.put(token.file, replace(found, at=symbol.at))
 
     def run(self) -> Ported:
         """The whole translation; `self.problems` has what can't be kept."""
@@ -455,7 +361,7 @@ class Program(Unwinding, Library):
         while more:
             more = False
             self.plan_helpers()
-            self.makers_of_text.generic_ones()
+            self.makers_of_text.generic_ones(names_of(*self.sheet.every()))
             for symbol, item, unit in list(self.waiting):
                 if symbol.used and id(item) not in done:
                     done.add(id(item))
@@ -478,7 +384,7 @@ class Program(Unwinding, Library):
                     self.begin_static(symbol, symbol.init, symbol.node)
             for _, (_, type_, kinds) in list(self.dispatchers.items()):
                 before = sum(symbol.used for symbol, _, _ in self.waiting)
-                self.dispatch_text("", type_, kinds)
+                self.dispatched("", type_, kinds)
                 more = more or before != sum(symbol.used for symbol, _, _ in self.waiting)
         for symbol in list(self.externals.values()) if not self.partial else []:
             if symbol.kind == "variable" and symbol.used and not symbol.defined:

@@ -3,7 +3,7 @@ import re
 from typing import Any, Optional, Sequence
 
 from cbi_port import forms
-from cbi_port.cells import like_char
+from cbi_port.alike import like_char
 from cbi_port.trees import kind
 from cbi_port.types import Array, Int, is_float, is_pointer, spelled
 from cbi_port.values import Value

@@ -26,12 +26,13 @@ class Symbol:
         self.type: Any = type_     # a CType
         self.outer = False         # stands outside functions, or lives as long
         self.static = False
-        self.memory = ""           # its first byte's number, where memory is kept as bytes
+        self.memory: Any = None    # its first byte's number, where memory is kept as bytes
         self.defined = False
         self.node: Any = None
         self.init: Any = None
         self.unit = ""
         self.pointer = ""          # a local name that points to what it is
+        self.kept: Any = None      # the node that has it, where it has no name of its own
         self.declared = False      # its declaration stands in the text
         self.used = False
         self.emitted = False

@@ -2,13 +2,15 @@
 
 That is done where nothing can see the difference: no object of the function has an address, and each parameter is one scalar.
 """
-from typing import Any, Dict, Iterator, List
+from typing import Any, Dict, Iterator, List, Tuple
 
+from cbi_port.blocks import Block, Break, While
 from cbi_port.jumps import Jumps
+from cbi_port.nodes import Name, Number, spot
 from cbi_port.scopes import Symbol
 from cbi_port.trees import LOOPS, kind
-from cbi_port.types import CType, Int, Pointer, Void, is_whole
-from cbi_port.values import Place
+from cbi_port.types import INT, CType, Int, Pointer, Void, is_whole
+from cbi_port.values import Place, Value
 
 
 def within(node: Any) -> Iterator[Any]:
@@ -57,12 +59,13 @@ class Tails(Jumps):
         if body.tails:
             self.count("functions with tail calls")
             body.loops.append("loop")
-            self.put("while (1) {")
+            body.done, body.out = body.out, []
 
     def finish(self, item: Any) -> None:
         super().finish(item)
         if self.function.tails:
-            self.put("break; }")
+            body = self.function
+            body.out = [*body.done, While(Number(INT, 1), Block((*body.out, Break())))]
 
     def tails_of(self, item: Any) -> Dict[int, Any]:
         """The calls in place of which the function may begin again, by their statements."""
@@ -120,14 +123,17 @@ class Tails(Jumps):
         self.lead(call)
         arguments = call.args.exprs if call.args is not None else []
         values = [self.converted(self.value(it), symbol.type, True, it) for it, symbol in zip(arguments, self.function.parameters)]
-        changed = [(symbol, value) for symbol, value in zip(self.function.parameters, values) if value.text != symbol.text]
-        self.put("{", node)
+        changed = [(symbol, value) for symbol, value in zip(self.function.parameters, values) if value.code != Name(symbol.type, symbol.text) or spot(value.code) >= 0]
+        self.add(Block(self.function.gathered(lambda: self.rounds_again(changed, node)), self.place_of(node)))
+        return True
+
+    def rounds_again(self, changed: List[Tuple[Symbol, Value]], node: Any) -> None:
+        """Gives the parameters that change their values, and goes to the next round."""
         if len(changed) > 1:
             kept = [(symbol, self.keep(value)) for symbol, value in changed]
-            self.put(" ".join(row + ";" for _, (row, _) in kept), node)
+            for _, (row, _) in kept:
+                self.do(row, node)
             changed = [(symbol, value) for symbol, (_, value) in kept]
         for symbol, value in changed:
-            self.put(self.assigned(Place(symbol.type, symbol.text), value, False, node).text + ";", node)
+            self.do(self.assigned(Place(symbol.type, Name(symbol.type, symbol.text)), value, False, node).code, node)
         self.st_Continue(node)
-        self.put("}")
-        return True

@@ -62,8 +62,8 @@ class Pointer(NamedTuple):
 
 
 class Length(NamedTuple):
-    """How many elements an array has where the program finds it out: the text that has the number."""
-    text: str
+    """How many elements an array has where the program finds it out: the node that has the number."""
+    code: Any
 
 
 class Array(NamedTuple):
@@ -224,16 +224,16 @@ def has_open(type_: CType) -> bool:
     return is_open(type_) or isinstance(type_, (Array, Pointer)) and has_open(type_.of if isinstance(type_, Array) else type_.to)
 
 
-def spread(type_: CType) -> Tuple[CType, int, List[str]]:
-    """What an array holds at last, how many of it, and the texts of the counts that the program finds out."""
-    count, texts = 1, []
+def spread(type_: CType) -> Tuple[CType, int, List[Any]]:
+    """What an array holds at last, how many of it, and the nodes of the counts that the program finds out."""
+    count, lengths = 1, []
     while isinstance(type_, Array):
         if isinstance(type_.count, Length):
-            texts.append(type_.count.text)
+            lengths.append(type_.count.code)
         else:
             count *= int(type_.count or 0)
         type_ = type_.of
-    return type_, count, texts
+    return type_, count, lengths
 
 
 def is_complete(type_: CType) -> bool:

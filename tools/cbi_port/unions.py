@@ -1,11 +1,10 @@
 """Unions (C99 6.7.2.1p14) where a cell keeps what was stored in it: those whose members are used by their names alone, each for what was stored in it."""
-import re
-from typing import Any, Dict, List, Set, Tuple
+from typing import Any, Dict, Iterator, List, Set, Tuple
 
-from cbi_port.lines import Refusal, bare
+from cbi_port.lines import Refusal
+from cbi_port.nodes import Name, Node, Part, Unary, bare, walk
 from cbi_port.types import Array, CType, Int, Member, Pointer, Struct, is_float, spread
 
-WORD = re.compile(r"\w+")
 # What is done with a member; an array is touched where an element of it is read or stored.
 STORED, READ, CHANGED, TOUCHED = "stored", "read", "changed", "touched"
 HELPERS = {STORED: "put", READ: "get", CHANGED: "use", TOUCHED: "put"}  # the function that gives the member's place
@@ -20,6 +19,20 @@ def has_number(type_: CType) -> bool:
     """Whether a number is in it, which another member might show in its own way."""
     type_ = innermost(type_)
     return isinstance(type_, Int) or isinstance(type_, Struct) and any(has_number(member.type) for member in type_.members)
+
+
+def object_of(pointer: Node) -> Node:
+    """What a pointer points to."""
+    pointer = bare(pointer)
+    return bare(pointer.operand) if isinstance(pointer, Unary) and pointer.sign == "&" else Unary(None, "*", pointer)
+
+
+def outer_objects(whole: Node) -> Iterator[Node]:
+    """An object, and those that it is a member of."""
+    yield whole
+    while isinstance(whole, Part):
+        whole = object_of(whole.base) if whole.arrow else bare(whole.base)
+        yield whole
 
 
 class Unions:
@@ -59,11 +72,11 @@ class Unions:
         """Whether a member is a place of its own in the text."""
         return self.has_tag(union) and not isinstance(member.type, Array) and member.bits is None or self.may_be_named(union)
 
-    def note(self, union: Struct, name: str, pointer: str, what: str) -> None:
+    def note(self, union: Struct, name: str, pointer: Node, what: str) -> None:
         """What is done with a member: at the end it is known whether each that is read was stored, too."""
         if self.program.function.quiet or self.has_tag(union):
             return
-        last, way = self.program.function.last_member, bare(pointer)
+        last, way = self.program.function.last_member, pointer
         if what in (READ, CHANGED) and last.get(way, name) != name:
             self.other.setdefault(union, (self.program.last_place, name))
         if what in (STORED, TOUCHED):
@@ -72,16 +85,16 @@ class Unions:
         if what in (READ, CHANGED):
             self.places.setdefault((union, name), self.program.last_place)
 
-    def forget(self, pointer: str) -> None:
+    def forget(self, pointer: Node) -> None:
         """A union that was stored as a whole, or within one, has what the other one had."""
-        known, way = self.program.function.last_member, bare(pointer)
-        for it in [it for it in known if it.startswith(way)]:
+        known, whole = self.program.function.last_member, object_of(pointer)
+        for it in [it for it in known if whole in outer_objects(object_of(it))]:
             del known[it]
 
-    def moved(self, variable: str) -> None:
+    def moved(self, variable: Node) -> None:
         """A variable has another value, so that a way through it leads elsewhere."""
-        known, name = self.program.function.last_member, bare(variable)
-        for it in [it for it in known if name in WORD.findall(it)]:
+        known, variable = self.program.function.last_member, bare(variable)
+        for it in [it for it in known if isinstance(variable, Name) and variable.name in {inner.name for inner in walk(it) if isinstance(inner, Name)}]:
             del known[it]
 
     def problems(self) -> List[Refusal]:

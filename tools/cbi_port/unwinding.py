@@ -5,13 +5,15 @@ leaves the order of operands open; where it doesn't (`&&`, `||`, `?:` and commas
 """
 from typing import Any, Dict, List, Optional, Sequence, Set
 
+from cbi_port.blocks import Block, Continue, Evaluate, If, Return, Statement
 from cbi_port.lines import Refusal
 from cbi_port.long_jumps import CALLING_BACK, JUMPS, MARK, Reach, called_name, holds_jump, marks_in, may_jump, reach_of, within
+from cbi_port.nodes import Assign, Binary, Call, Group, Name, Node, Number, Part, Unary
 from cbi_port.reader import HEADERS
 from cbi_port.tails import Tails
 from cbi_port.trees import LOOPS, is_statements, kind
 from cbi_port.types import INT, VOID, CType, Int, Pointer, Struct, Void, is_long, is_whole, to_function
-from cbi_port.values import ASSIGN, COND, POSTFIX, UNARY, Value
+from cbi_port.values import Value
 
 # What a statement evaluates first.
 FIRST = {"If": "cond", "Switch": "cond", "Return": "expr", "Decl": "init"}
@@ -31,9 +33,9 @@ class Unwinding(Tails):
     units: Sequence[Any]
     words: Set[str]
     reach: Reach
-    last_room = ""
+    last_room: Any = None       # where the last call puts what it gives
 
-    def nothing(self, result: CType) -> str:
+    def nothing(self, result: CType) -> Statement:
         raise NotImplementedError
 
     def find_jumps(self) -> None:
@@ -66,13 +68,10 @@ class Unwinding(Tails):
 
     # Statements.
 
-    def body(self, node: Any) -> None:
+    def body(self, node: Any) -> Statement:
         if not self.function.jumps or kind(node) == "Compound":
-            super().body(node)
-            return
-        self.put("{")
-        self.statement(node)
-        self.put("}")
+            return super().body(node)
+        return Block(self.gathered(node))
 
     def statement(self, node: Any) -> None:
         what = kind(node)
@@ -115,7 +114,7 @@ class Unwinding(Tails):
             self.lead_operands([child for _, child in node.children()])
         if may_jump(node, self.reach):
             self.function.replaced[id(node)] = self.led(self.value(node), node)
-            self.put(self.test(), node)
+            self.add(self.test(self.place_of(node)))
 
     def lead_operands(self, items: List[Any]) -> None:
         """The operands from left to right: what does something comes before a call on its right that a jump may leave."""
@@ -128,28 +127,31 @@ class Unwinding(Tails):
     def led(self, value: Value, node: Any) -> Value:
         """Puts a call, and gives its value from where that is kept."""
         if isinstance(value.type, Void):
-            self.put(value.text + ";", node)
-            return Value(VOID, "0")
+            self.do(value.code, node)
+            return Value(VOID, Number(VOID, 0))
         if isinstance(value.type, Struct):
-            self.put(value.text + ";", node)
-            return Value(value.type, f"({self.last_room})", POSTFIX)
-        text, kept = self.keep(value)
-        self.put(text + ";", node)
+            self.do(value.code, node)
+            return Value(value.type, Group(value.type, self.last_room))
+        code, kept = self.keep(value)
+        self.do(code, node)
         return kept
 
-    def room(self, type_: Any) -> str:
+    def room(self, type_: Any) -> Node:
         self.last_room = super().room(type_)
         return self.last_room
 
     def lead_joined(self, node: Any) -> None:
         """`&&` and `||`: the right side is evaluated in a statement of its own."""
-        name = self.function.lasting("int") + ".value"
-        self.lead_calls(node.left)
-        self.put(f"{name} = {self.truth(self.value(node.left), True).at(ASSIGN)};", node)
-        self.put(f"if ({'' if node.op == '&&' else '!'}{name}) {{", node)
-        self.lead_calls(node.right)
-        self.put(f"{name} = {self.truth(self.value(node.right), True).at(ASSIGN)}; }}", node)
-        self.function.replaced[id(node)] = Value(INT, name)
+        room = self.lasting_scalar(INT, "int")
+        self.lead_side(node.left, room, node)
+        rows = self.function.gathered(lambda: self.lead_side(node.right, room, node))
+        self.add(If(room if node.op == "&&" else Unary(INT, "!", room), Block(rows), None, self.place_of(node)))
+        self.function.replaced[id(node)] = Value(INT, room)
+
+    def lead_side(self, side: Any, room: Node, node: Any) -> None:
+        """Keeps whether one side of `&&` or `||` isn't zero."""
+        self.lead_calls(side)
+        self.do(Assign(INT, room, self.truth(self.value(side), True).code), node)
 
     def lead_choice(self, node: Any) -> None:
         """`?:`: each arm is evaluated in a statement of its own."""
@@ -157,35 +159,43 @@ class Unwinding(Tails):
         type_: Any = self.type_of(node)
         if isinstance(type_, Struct) or is_whole(type_) and not is_long(type_):
             raise self.refuse(node, "a struct that a call gives which `longjmp` may leave, in an arm of `?:`", "an `if`")
-        name = "" if isinstance(type_, Void) else self.room_for(type_)
-        self.put(f"if ({self.truth(self.value(node.cond)).at(COND)}) {{", node)
-        for arm, end in ((node.iftrue, "} else {"), (node.iffalse, "}")):
-            self.lead_calls(arm)
-            value = self.value(arm, not isinstance(type_, Void))
-            text = value.text if not name else f"cbi_long_copy(&{name}, {self.long_text(self.converted(value, type_))})" if is_long(type_) else (
-                f"{name} = {self.converted(value, type_, True, node).at(ASSIGN)}")
-            self.put(("" if not name and value.pure else text + "; ") + end, node)
-        self.function.replaced[id(node)] = Value(VOID, "0") if not name else Value(type_, f"&{name}", UNARY) if is_long(type_) else Value(type_, name)
+        room = None if isinstance(type_, Void) else self.room_for(type_)
+        condition = self.truth(self.value(node.cond)).code
+        arms = [Block(self.function.gathered(lambda: self.lead_arm(arm, type_, room, node))) for arm in (node.iftrue, node.iffalse)]
+        self.add(If(condition, arms[0], arms[1], self.place_of(node)))
+        self.function.replaced[id(node)] = Value(VOID, Number(VOID, 0)) if room is None else Value(type_, room)
 
-    def room_for(self, type_: Any) -> str:
-        """A name that holds a scalar."""
+    def lead_arm(self, arm: Any, type_: Any, room: Optional[Node], node: Any) -> None:
+        """Keeps the value of an arm of `?:`."""
+        self.lead_calls(arm)
+        value = self.value(arm, not isinstance(type_, Void))
+        code = value.code if room is None else Call(type_, "cbi_long_copy", (room, self.long_code(self.converted(value, type_)))) if is_long(type_) else (
+            Assign(type_, room, self.converted(value, type_, True, node).code))
+        if room is not None or not value.pure:
+            self.do(code, node)
+
+    def room_for(self, type_: Any) -> Node:
+        """A place that holds a scalar for as long as the function runs."""
         if is_long(type_):
-            return self.function.lasting("long")
+            return Unary(type_, "&", Name(type_, self.function.lasting("long")))
         if isinstance(type_, Pointer) and not to_function(type_):
-            return self.function.lasting("unsigned") + ".value" if self.model.in_bytes else self.function.lasting(self.model.spell(type_))
-        return self.function.lasting("unsigned" if isinstance(type_, Int) and not type_.signed and type_.rank >= 3 else "int") + ".value"
+            return self.lasting_scalar(type_, "unsigned") if self.model.in_bytes else Name(type_, self.function.lasting(self.model.base(type_)))
+        return self.lasting_scalar(type_, "unsigned" if isinstance(type_, Int) and not type_.signed and type_.rank >= 3 else "int")
 
-    def test(self) -> str:
+    def test(self, at: int) -> Statement:
         """What stands behind a call: where a jump goes on in this function it does, and else the function returns."""
-        body, rows = self.function, []
+        body = self.function
+        rows: List[Statement] = []
+        to, given = (Part(INT, Name(INT, "cbi_jumps"), word) for word in ("to", "value"))
         for number in range(1, body.marks + 1):
             mark, came = (self.scope.find(f"cbi_{word}_{number}") for word in ("mark", "came"))
             assert mark is not None and came is not None
-            segment = self.label_segment(f"cbi_back_{number}")
-            rows.append(f"if (cbi_jumps.to == {mark.text}) {{ {came.text} = cbi_jumps.value; cbi_jumps.to = 0; {body.flat} = {segment}; continue; }} ")
-        nothing = "return;" if isinstance(body.result, Void) else self.nothing(body.result)
-        last = "abort(); " if body.name == "main" else ""
-        return f"if (cbi_jumps.to) {{ {''.join(rows)}{last}{self.model.leave(nothing, None)} }}"
+            sets = [Assign(INT, Name(INT, came.text), given), Assign(INT, to, Number(INT, 0)), self.next_is(self.label_segment(f"cbi_back_{number}"))]
+            rows.append(If(Binary(INT, "==", to, Name(INT, mark.text)), Block((*map(Evaluate, sets), Continue()))))
+        if body.name == "main":
+            rows.append(Evaluate(Call(VOID, "abort", ())))
+        rows.append(self.model.leave(Return() if isinstance(body.result, Void) else self.nothing(body.result), None))
+        return If(to, Block(tuple(rows)), None, at)
 
     # Expressions.
 
@@ -196,11 +206,10 @@ class Unwinding(Tails):
     def of_FuncCall(self, node: Any, used: bool) -> Value:
         name = called_name(node)
         if name == MARK:
-            return Value(INT, "cbi_jump_mark()", POSTFIX, pure=False)
+            return Value(INT, Call(INT, "cbi_jump_mark", ()), pure=False)
         if name in JUMPS and name not in self.reach.defined and not self.in_prelude:
             arguments: List[Any] = node.args.exprs if node.args is not None else []
             if len(arguments) != 2:
                 raise self.refuse(node, "a call with another number of arguments", "an argument for each parameter")
-            number, given = (self.converted(self.value(it), INT, True, node).at(ASSIGN) for it in arguments)
-            return Value(VOID, f"cbi_jump({number}, {given})", POSTFIX, pure=False)
+            return Value(VOID, Call(VOID, "cbi_jump", tuple(self.converted(self.value(it), INT, True, node).code for it in arguments)), pure=False)
         return super().of_FuncCall(node, used)

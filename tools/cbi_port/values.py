@@ -1,54 +1,48 @@
-"""What an expression of the text is while it grows: values, places, and how tightly a text holds together."""
+"""What an expression of the text is while it grows: values and places, each with the node of the typed tree that has it."""
 from typing import Any, Callable, NamedTuple, Optional
 
+from cbi_port.nodes import Converted, Node, Number
 from cbi_port.types import PLAIN, CType, Member, Quals
-
-COMMA, ASSIGN, COND, OR, AND, BITOR, XOR, BITAND, EQUAL, ORDER, SHIFT, ADD, TIMES, UNARY, POSTFIX = range(15)
-LEVELS = {"||": OR, "&&": AND, "|": BITOR, "^": XOR, "&": BITAND, "==": EQUAL, "!=": EQUAL, "<": ORDER, ">": ORDER,
-          "<=": ORDER, ">=": ORDER, "<<": SHIFT, ">>": SHIFT, "+": ADD, "-": ADD, "*": TIMES, "/": TIMES, "%": TIMES}
 
 
 class Value(NamedTuple):
     """A value of a type. A struct, a union and a number of 64 bits are handed on by where they lie.
 
-    `constant` is its number where that is known. `raw` is a text that is zero where the value is. `fresh` gives
-    the text for memory of the library that is to hold objects of a type. `null` is a null pointer constant.
+    `constant` is its number where that is known. `raw` is a node that is zero where the value is. `fresh` gives
+    the node for memory of the library that is to hold objects of a type. `null` is a null pointer constant.
     """
     type: Any                   # a CType: what it is is asked where it is used
-    text: str
-    level: int = POSTFIX
+    code: Node
     constant: Optional[int] = None
     pure: bool = True
     bits: Optional[int] = None
-    raw: Optional[str] = None
-    fresh: Optional[Callable[[Optional[CType]], str]] = None
+    raw: Optional[Node] = None
+    fresh: Optional[Callable[[Optional[CType]], Node]] = None
     null: bool = False
     origin: Any = None
     wide: Optional[int] = None  # the width of a bit-field of more than 32 bits, in which gcc reckons
 
-    def at(self, level: int) -> str:
-        """The text as an operand that wants to be held together as tightly as `level`."""
-        return self.text if self.level >= level else f"({self.text})"
+    def as_type(self, type_: Any) -> "Value":
+        """The value in a type that is kept in the same way."""
+        return self._replace(type=type_, code=retyped(type_, self.code))
 
 
 class Place(NamedTuple):
-    """Where an object lies: `text` is a left side, or, in `memory`, the number of its first byte.
+    """Where an object lies: `code` is a left side, or, in `memory`, the number of its first byte.
 
-    `pointer` is a text that points there, where one is at hand. `stored` where a pointer lies as `void *`.
+    `pointer` is a node that points there, where one is at hand. An array that is `flat` is handed on by a pointer to its first element.
+    `stored` where a pointer lies as `void *`.
     """
     type: Any                   # a CType
-    text: str
-    level: int = POSTFIX
+    code: Node
     pure: bool = True
     memory: bool = False
     member: Optional[Member] = None
-    pointer: Optional[str] = None
+    pointer: Optional[Node] = None
+    flat: bool = False
     stored: bool = False
     union: Any = None
     quals: Quals = PLAIN
-
-    def at(self, level: int) -> str:
-        return self.text if self.level >= level else f"({self.text})"
 
 
 class Leaf(NamedTuple):
@@ -57,15 +51,12 @@ class Leaf(NamedTuple):
     node: Any
 
 
-def lead(text: str) -> str:
-    """The first character that is no mark."""
-    at = 0
-    while text[at:at + 1] == "\x01":
-        at = text.index("\x02", at) + 1
-    return text[at:at + 1]
+def retyped(type_: Any, code: Node) -> Node:
+    """A node in a type that is kept in the same way."""
+    return code if code.type == type_ else Converted(type_, code)
 
 
-def prefixed(sign: str, text: str, level: int) -> str:
-    """A prefix operator before an operand; two signs are kept apart."""
-    operand = text if level >= UNARY else f"({text})"
-    return sign + (" " if sign[-1:] == lead(operand) and sign[-1:] in "+-&" else "") + operand
+def word(value: int) -> Number:
+    """A number of 32 bits without a sign, as the text writes it."""
+    from cbi_port.types import UINT
+    return Number(UINT, value, True)

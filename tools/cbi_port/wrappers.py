@@ -6,12 +6,12 @@ at its calls alone. A copy holds it by pointers to that type; all copies stand o
 import copy
 from typing import Any, Callable, Dict, List, NamedTuple, Optional, Set, Tuple
 
-from cbi_port.lines import mark
+from cbi_port.nodes import Call, Node
 from cbi_port.objects import goes_on, is_sum
 from cbi_port.scopes import Symbol
 from cbi_port.trees import kind, without_casts
-from cbi_port.types import CType, Function, Pointer, Void, is_pointer, spelled
-from cbi_port.values import ASSIGN, POSTFIX, Value
+from cbi_port.types import CType, Function, Pointer, Void, spelled
+from cbi_port.values import Value
 
 MAKERS = {"malloc", "calloc", "realloc"}
 OBJECT = "cbi_object"  # how a copy names the type of what it holds
@@ -188,21 +188,19 @@ class Wrappers:
         if len(arguments) != len(type_.parameters):
             raise program.refuse(node, f"{len(arguments)} arguments where {len(type_.parameters)} are wanted", "an argument for each parameter")
         values = [program.value(without_casts(it) if name in wrapper.held else it) for it, name in zip(arguments, wrapper.parameters)]
-        at = mark(program.place_of(node))
 
-        def text(name: str, function: Function) -> str:
-            given = [program.passed(value, it, node).at(ASSIGN) for value, it in zip(values, function.parameters)]
-            return f"{at}{name}({', '.join(given)})"
+        def call(made: Symbol) -> Node:
+            given = [program.passed(value, it, node).code for value, it in zip(values, made.type.parameters)]
+            return Call(made.type.result, made.text, tuple(given), made, program.place_of(node))
 
-        def fresh(to: Optional[CType]) -> str:
+        def fresh(to: Optional[CType]) -> Node:
             if to is not None and goes_on(to) and any(is_sum(it) for it in arguments):
                 raise program.refuse(node, "an array at a struct's end that goes on behind it", "a pointer to memory of malloc", True)
-            made = self.copy_for(wrapper, to)
-            return text(made.text, made.type)
+            return call(self.copy_for(wrapper, to))
         noted = len(program.to_generic)
-        generic = text(symbol.text, type_)
+        generic = call(symbol)
         del program.to_generic[noted:]
-        return Value(Pointer(Void()), generic, POSTFIX, pure=False, fresh=fresh)
+        return Value(Pointer(Void()), generic, pure=False, fresh=fresh)
 
     def copy_for(self, wrapper: Wrapper, to: Any) -> Symbol:
         """The copy that makes memory for objects of a type."""
@@ -238,11 +236,10 @@ class Wrappers:
                 child.type.type.type.names = [OBJECT]
             self.retype(inner, held)
 
-    def generic_ones(self) -> None:
-        """Says which wrappers are called where no type is known: these stay as they are."""
+    def generic_ones(self, names: Set[str]) -> None:
+        """Says which wrappers are called where no type is known: these stay as they are. `names` are those that the text has so far."""
         for symbol in self.known:
-            if not symbol.used and self.program.sheet.mentions(symbol.text):
-                symbol.used = True
+            symbol.used = symbol.used or symbol.text in names
 
 
 def replace(node: Any, name: str, child: Any) -> None:

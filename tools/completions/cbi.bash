@@ -73,7 +73,7 @@ _cbi_explain() {
 }
 
 _cbi_port() {
-    _cbi_options '-I -D -U -include -o --args --file --stderr --memory --wrap --quiet --check --cflags --inputs --tool --turns --version --help'
+    _cbi_options '-I -D -U -include -o --args --file --stderr --memory --wrap --quiet --dump-typed --check --cflags --inputs --tool --turns --version --help'
 }
 
 complete -o filenames -F _cbi cbi
