@@ -24,7 +24,6 @@ SECONDS = 60             # for a run with marks
 MOST_TURNS = 100000000   # of `cbi run`; a mark is a call, and takes one
 MARKS_A_TURN = 8         # so many more turns has a run that hangs
 NEVER = 2147483647
-PORTED_MAIN = "cbi_user_main"
 # Traps of which sanitizers know more than a line, where the object is from, and how they name them.
 OF_MEMORY = {"trapped 6": ("overflow", "underflow", "out of bounds"), "trapped 7": ("use-after", "null"), "trapped 10": ("free",)}
 # Traps that they don't see. The others they see, and are asked where the marks say nothing.
@@ -127,11 +126,6 @@ class Tracer:
                 os.remove(path)
 
 
-def author_name(function: str) -> str:
-    """What the author calls a function: the port gives `main` another name where it has arguments."""
-    return "main" if function == PORTED_MAIN else function
-
-
 class Places:
     """The places of a traced run as its author knows them."""
 
@@ -141,7 +135,7 @@ class Places:
     def call(self, line: int, function: str) -> Optional[Call]:
         """A line of the user's own; none where the port added it."""
         spot = self.where.spot(line, function) if line else None
-        return None if spot is None or spot.added else call_at(self.where, spot.file, spot.line, author_name(function))
+        return None if spot is None or spot.added else call_at(self.where, spot.file, spot.line, self.where.called(function))
 
     def calls(self) -> List[Call]:
         """The active calls, the innermost first."""
@@ -189,7 +183,7 @@ def last_site(hunt: Hunt, path: str, where: Where) -> List[Call]:
     if last is None or last >= len(sites):
         return []
     spot = where.spot(sites[last].line, sites[last].function)
-    return [] if spot.added else [call_at(where, spot.file, spot.line, author_name(sites[last].function))]
+    return [] if spot.added else [call_at(where, spot.file, spot.line, where.called(sites[last].function))]
 
 
 def kind_of(ran: Ran) -> Optional[Tuple[str, Optional[Wrong]]]:

@@ -4,6 +4,7 @@ import re
 from typing import Any, Dict, List, Sequence, Set, Tuple
 
 from cbi_port import Ported
+from cbi_port.authors import names_of, notes_in
 from cbi_port.lines import Refusal, bare
 from cbi_port.types import CType, Pointer, Struct, Void, is_long, is_whole, to_function
 
@@ -92,7 +93,8 @@ class Helpers:
         added = sorted(set(re.findall(r"\b(cbi_\w+)\([^;{]*\) \{", " ".join(sheet.tail))) | set(program.added))
         if wrapped:
             added.append("main")
-        return Ported(text.encode("latin-1"), lines, added, list(program.liberties), {name: count for name, count in program.counts.items() if name})
+        counts = {name: count for name, count in program.counts.items() if name}
+        return Ported(text.encode("latin-1"), lines, added, list(program.liberties), counts, names_of(program.names.authors, text), notes_in(sheet.notes, program.tokens))
 
     def mentioned(self, struct: Struct, body: str) -> bool:
         return True

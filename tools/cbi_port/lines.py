@@ -5,6 +5,8 @@ from typing import Dict, List, NamedTuple, Sequence, Tuple
 from cbi_port import Line, Problem
 
 MARK = re.compile("\x01(\\d+)\x02")
+NOTE = "note "   # how the kind of a token begins that says what the author wrote (authors.py)
+OTHER = re.compile("[^\x00-\x7f]")
 
 
 class Token(NamedTuple):
@@ -61,7 +63,8 @@ class Sheet:
         self.parts[file].pop()
 
     def laid(self) -> Tuple[str, List[Line]]:
-        """The whole text, and whose its lines are."""
+        """The whole text, and whose its lines are; `notes` has where notes stand: line, column and token."""
+        self.notes: List[Tuple[int, int, int]] = []
         out: List[str] = []
         lines: List[Line] = []
         now = ["".join(text + " " for text in self.head)]
@@ -79,6 +82,9 @@ class Sheet:
                     now.append(text[place:found.start()])
                     place = found.end()
                     token = self.tokens[int(found[1])]
+                    if token.kind.startswith(NOTE):
+                        self.notes.append((len(lines) + 1, len(OTHER.sub("", "".join(now))), int(found[1])))
+                        continue
                     if token.file != file or token.line <= at:
                         continue
                     if not used and at == 1:

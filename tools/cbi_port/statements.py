@@ -37,7 +37,7 @@ class Statements(Initialisers):
                 self.statement(inner)
 
     def put(self, text: str, node: Any = None) -> None:
-        self.function.put((mark(self.place_of(node)) if node is not None else "") + text)
+        self.function.put((mark(self.place_of(node)) + self.head_note(node) if node is not None else "") + text)
 
     def st_expression(self, node: Any) -> None:
         self.function.whole = node
@@ -255,7 +255,7 @@ class Statements(Initialisers):
         self.scope.names[node.name] = symbol
 
     def local_static(self, node: Any, type_: CType) -> None:
-        symbol = Symbol(node.name, "variable", type_, self.names.take(f"{self.function.name}_{node.name}"))
+        symbol = Symbol(node.name, "variable", type_, self.names.take(f"{self.function.name}_{node.name}", node.name))
         symbol.outer = symbol.static = True
         symbol.align, symbol.quals = self.said_alignment(node), self.quals_of(node.type)
         symbol.at = self.place_of(node)

@@ -1,0 +1,89 @@
+"""What the author wrote where the text has something of the tool's own: his names, and his expressions and conditions at calls and statements of the text."""
+import re
+from typing import Any, Dict, List
+
+from cbi_port import Note
+from cbi_port.declarations import Context
+from cbi_port.lines import NOTE, Token, mark
+from cbi_port.trees import kind
+from cbi_port.types import Int, Pointer, is_whole, to_function
+from cbi_port.values import UNARY, Value
+
+# A call that a text begins with, behind marks and casts.
+CALL = re.compile("((?:\x01\\d+\x02|\\((?:int|char|unsigned)\\))*)([A-Za-z_]\\w*)(?=\\()")
+HEADS = {"If": "if", "While": "while", "DoWhile": "do", "For": "for"}
+TRUTHS = {"==", "!=", "<", ">", "<=", ">=", "&&", "||"}
+# What gives bits without their sign.
+BITS = {f"cbi_{what}_{size}" for what in ("load", "store") for size in ("byte", "half", "word")}
+MOST = 400   # characters of an expression
+
+
+class Authors(Context):
+    """Leaves notes in the text: marks of tokens that say what the author wrote there."""
+
+    def note(self, node: Any, what: str, text: str) -> str:
+        """The mark of a note; none where the text isn't the author's."""
+        at = self.place_of(node)
+        if self.in_prelude or self.function.quiet or not 0 <= at < len(self.tokens) or "__cbi_" in text or "cbi_" in text or len(text) > MOST:
+            return ""
+        token = self.tokens[at]
+        self.tokens.append(Token(f"{NOTE}{what}", text, token.file, token.line))
+        return mark(len(self.tokens) - 1)
+
+    def noted(self, node: Any, value: Value) -> Value:
+        """A value with a note of its expression, where it is a call that has none yet."""
+        found = CALL.match(value.text) if value.level >= UNARY else None
+        if found is None or self.is_noted(found[1]):
+            return value
+        said = self.note(node, kind_of(node, value, found[2]), written(node))
+        if not said:
+            return value
+        raw = CALL.match(value.raw) if value.raw else None
+        return value._replace(text=placed(value.text, found.end(1), said), raw=placed(value.raw or "", raw.end(1), said) if raw else value.raw)
+
+    def is_noted(self, marks: str) -> bool:
+        last = re.search("\x01(\\d+)\x02$", marks)
+        return last is not None and self.tokens[int(last[1])].kind.startswith(NOTE)
+
+    def head_note(self, node: Any) -> str:
+        """The mark of a statement's first word: that of the author, whose condition may stand the other way round in the text."""
+        if kind(node) not in HEADS or kind(node) == "If" and kind(node.cond) == "ID" and node.cond.name.startswith("cbi_again"):
+            return ""
+        at = self.place_of(node)
+        word = self.tokens[at].text if 0 <= at < len(self.tokens) else ""
+        turned = kind(node) == "If" and word in ("while", "do", "for")
+        return self.note(node, "turned" if turned else "head", word) if word in HEADS.values() else ""
+
+
+def placed(text: str, at: int, said: str) -> str:
+    return text[:at] + said + text[at:]
+
+
+def written(node: Any) -> str:
+    """An expression on one line, as the parser has it."""
+    from pycparser.c_generator import CGenerator
+    return " ".join(str(CGenerator().visit(node)).split())
+
+
+def kind_of(node: Any, value: Value, name: str) -> str:
+    """What the value says: of a call, of what is stored or loaded, or whether something is true."""
+    what = kind(node)
+    doing = "call" if what == "FuncCall" else "store" if what == "Assignment" or what == "UnaryOp" and node.op in ("++", "--", "p++", "p--") else "value"
+    if doing == "value" and (what == "BinaryOp" and node.op in TRUTHS or what == "UnaryOp" and node.op == "!"):
+        return "truth"
+    if is_whole(value.type):
+        return f"{doing} object"
+    if isinstance(value.type, Pointer) and not to_function(value.type):
+        return f"{doing} pointer"
+    return f"{doing} {'bits' if name in BITS and isinstance(value.type, Int) else 'number'}"
+
+
+def names_of(authors: Dict[str, str], text: str) -> Dict[str, str]:
+    """The names of the tool's that stand in a text, with the author's."""
+    words = set(re.findall(r"[A-Za-z_]\w*", text))
+    return {name: authors[name] for name in sorted(authors) if name in words and authors[name] != name}
+
+
+def notes_in(places: List[Any], tokens: List[Token]) -> List[Note]:
+    """The notes by line and column."""
+    return [Note(line, column, tokens[at].kind[len(NOTE):], tokens[at].text) for line, column, at in places]
