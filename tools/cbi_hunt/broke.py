@@ -2,7 +2,9 @@
 
 `broken_at` is for any failing input, `broke_of` for the one that a hunt tells.
 """
+import itertools
 import os
+import re
 import subprocess
 from typing import List, NamedTuple, Optional, Tuple
 
@@ -143,9 +145,12 @@ class Places:
         return [call for call in found if call]
 
     def inside(self) -> str:
-        """The function of the port's own in which the run is, where it is in one, as the author calls it."""
-        last = self.traced.functions[self.traced.state.frames[-1].function]
-        return last[len("cbi_"):] if last in self.where.added and last.startswith("cbi_") else ""
+        """The function of the port's own in which the run is, as the author calls it, where it is in one that he called by its name."""
+        names = [self.traced.functions[frame.function] for frame in self.traced.state.frames]
+        own = list(itertools.takewhile(self.where.added.__contains__, reversed(names)))
+        called = re.sub("^cbi_", "", self.where.called(own[-1])) if own else ""
+        word = re.compile(rf"\b{called}\b")
+        return called if called and any(word.search(line) for lines in self.where.files.values() for line in lines) else ""
 
     def before(self) -> Optional[Call]:
         """The last statement that was done where no active call is."""

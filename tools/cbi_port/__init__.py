@@ -19,8 +19,8 @@ class Line(NamedTuple):
 class Note(NamedTuple):
     """What the author wrote at a token of the text, which is found by its line and the bytes of ASCII before it there.
 
-    `kind` is `head` for the first word of a statement with a condition, `turned` where the text has the condition the other way round, `truth` for a comparison,
-    or else for a call of the text two words: `call`, `value` or `store` for what the author wrote there, and `number`, `pointer`, `bits` or `object` for what is
+    `kind` is `head` for the first word of a statement with a condition, `turned` where the text has the condition the other way round, `case` for a label of a
+    `switch`, `truth` for a comparison, or else for a call of the text two words: `call`, `value` or `store` for what the author wrote there, and `number`, `pointer`, `bits` or `object` for what is
     seen of it: a number, an address, whether it is 0, nothing.
     """
     line: int

@@ -1,6 +1,6 @@
 """What the author wrote where the text has something of the tool's own: his names, and his expressions and conditions at calls and statements of the text."""
 import re
-from typing import Any, Dict, List
+from typing import Any, Dict, List, Sequence
 
 from cbi_port import Note
 from cbi_port.declarations import Context
@@ -15,6 +15,7 @@ HEADS = {"If": "if", "While": "while", "DoWhile": "do", "For": "for"}
 TRUTHS = {"==", "!=", "<", ">", "<=", ">=", "&&", "||"}
 # What gives bits without their sign.
 BITS = {f"cbi_{what}_{size}" for what in ("load", "store") for size in ("byte", "half", "word")}
+BY_POINTER = "cbi_call_"
 MOST = 400   # characters of an expression
 
 
@@ -38,6 +39,8 @@ class Authors(Context):
         said = self.note(node, kind_of(node, value, found[2]), written(node))
         if not said:
             return value
+        if kind(node) == "FuncCall" and kind(node.name) == "ID" and found[2].startswith("cbi_") and not found[2].startswith(BY_POINTER):
+            self.names.authors.setdefault(found[2], node.name.name)
         raw = CALL.match(value.raw) if value.raw else None
         return value._replace(text=placed(value.text, found.end(1), said), raw=placed(value.raw or "", raw.end(1), said) if raw else value.raw)
 
@@ -46,13 +49,18 @@ class Authors(Context):
         return last is not None and self.tokens[int(last[1])].kind.startswith(NOTE)
 
     def head_note(self, node: Any) -> str:
-        """The mark of a statement's first word: that of the author, whose condition may stand the other way round in the text."""
-        if kind(node) not in HEADS or kind(node) == "If" and kind(node.cond) == "ID" and node.cond.name.startswith("cbi_again"):
+        """The mark of a statement's first word: that of the author, whose condition may stand the other way round in the text. One that is constant has none."""
+        if kind(node) not in HEADS or kind(node.cond) == "Constant" or kind(node.cond) == "ID" and node.cond.name.startswith("cbi_again"):
             return ""
         at = self.place_of(node)
         word = self.tokens[at].text if 0 <= at < len(self.tokens) else ""
         turned = kind(node) == "If" and word in ("while", "do", "for")
         return self.note(node, "turned" if turned else "head", word) if word in HEADS.values() else ""
+
+
+    def case_note(self, labels: Sequence[Any]) -> str:
+        """The mark of a test that asks for labels of a `switch`."""
+        return self.note(labels[0], "case", ": ".join(f"case {written(it.expr)}" if kind(it) == "Case" else "default" for it in labels))
 
 
 def placed(text: str, at: int, said: str) -> str:
@@ -80,10 +88,19 @@ def kind_of(node: Any, value: Value, name: str) -> str:
 
 def names_of(authors: Dict[str, str], text: str) -> Dict[str, str]:
     """The names of the tool's that stand in a text, with the author's."""
-    words = set(re.findall(r"[A-Za-z_]\w*", text))
-    return {name: authors[name] for name in sorted(authors) if name in words and authors[name] != name}
+    found = {word: spelled(authors.get(word, word)) for word in sorted(set(re.findall(r"[A-Za-z_]\w*", text)))}
+    return {name: author for name, author in found.items() if author != name}
+
+
+def spelled(text: str) -> str:
+    """A piece of the text in the author's letters: names have theirs by their numbers, and strings are bytes."""
+    named = re.sub("_u([0-9a-f]{4,6})_", lambda it: chr(int(it[1], 16)).encode("utf-8").decode("latin-1"), text)
+    try:
+        return named.encode("latin-1").decode("utf-8")
+    except UnicodeError:
+        return named
 
 
 def notes_in(places: List[Any], tokens: List[Token]) -> List[Note]:
     """The notes by line and column."""
-    return [Note(line, column, tokens[at].kind[len(NOTE):], tokens[at].text) for line, column, at in places]
+    return [Note(line, column, tokens[at].kind[len(NOTE):], spelled(tokens[at].text)) for line, column, at in places]

@@ -72,7 +72,7 @@ def main() -> int:
     if said.o:
         with open(said.o, "wb") as out:
             out.write(ported.text)
-        with open(said.o + ".lines", "w") as out_map:
+        with open(said.o + ".lines", "w", encoding="utf-8", newline="\n") as out_map:
             out_map.write(ported.map_text())
     elif not said.check:
         sys.stdout.flush()

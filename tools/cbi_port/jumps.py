@@ -242,7 +242,7 @@ class Jumps(Statements):
         for case in cases:
             if kind(case) == "Case":
                 self.function.fresh_statement()
-                self.put(f"if {self.label_test(held, case, [])} {self.jump(self.function.case_segments[id(case)])}")
+                self.put(f"{self.case_note([case])}if {self.label_test(held, case, [])} {self.jump(self.function.case_segments[id(case)])}")
         self.put(self.jump(default))
         self.function.loops.append(("flat", self.outer_again(), end))
         self.level_statement(node.stmt)

@@ -417,7 +417,7 @@ class Statements(Initialisers):
             if default and not later:
                 test = "" if index else "if (1) "
             else:
-                test = f"if ({self.group_test(held, labels, later)}) "
+                test = f"{self.case_note(labels)}if ({self.group_test(held, labels, later)}) "
             self.put(f"{mark(self.place_of(labels[0]))}{word}{test}{{")
             self.grouped(rest, ("chain",))
             self.put("}")
@@ -463,7 +463,7 @@ class Statements(Initialisers):
             test = self.group_test(held, labels, every if default else [])
             if index - 1 in falls:
                 test = f"{on} | ({test})"
-            self.put(f"{mark(self.place_of(labels[0]))}if ({test}) {{" + (f" {on} = 1;" if index in falls else ""))
+            self.put(f"{mark(self.place_of(labels[0]))}{self.case_note(labels)}if ({test}) {{" + (f" {on} = 1;" if index in falls else ""))
             self.grouped(rest, ("once", again, used))
             self.put("}")
         self.put("} while (0);")

@@ -6,8 +6,9 @@ from cbi_show.source import ASSIGNMENTS, BYTES_READ, NUMBERS, POINTERS, Fact, So
 from cbi_show.where import OF_PORT, Where
 
 HEADS = ("if", "while", "for", "do")
-JUMPS = "cbi_jumps"     # what the port asks behind a call that `longjmp` may have left
+LEFT = "if (cbi_jumps.to)"   # what the port asks behind a call that `longjmp` may have left
 AROUND = 40             # lines that an expression may go on behind its first one
+MOST_SWITCH = 1000      # lines that a `switch` may have
 # What is known of a number of which the text has the bits alone: whether it is 0.
 BITS = {"<=": "0", "==": "0", ">": "other than 0", "!=": "other than 0"}
 VALUES: Dict[str, Dict[str, str]] = {"object": {}, "bits": BITS, "pointer": POINTERS}
@@ -35,13 +36,27 @@ class Authors:
         for place, token in enumerate(compiled.tokens):
             self.tokens.setdefault(token.line, []).append(place)
 
+    def own(self, place: int, site: Site) -> bool:
+        """Whether a site on a line of the author's is the port's own: it looks at a name, a call or a condition that he didn't write."""
+        spot, word = self.where.spot(site.line, site.function), site.names[0]
+        if site.scheme == "pairs":
+            return any(self.where.called(name).startswith(OF_PORT) for name in site.names)
+        source = self.files[spot.file]
+        if place in self.noted or self.same_word(place, source, spot.line, site) is not None:
+            return False
+        if site.scheme == "returns":
+            return word.startswith(OF_PORT)
+        if word in HEADS:
+            return self.compiled.head(place) != LEFT and (bool(self.where.notes) or source.labels_on(spot.line) is None)
+        return not source.words_on(spot.line, self.compiled.word(place))
+
     def fact(self, place: int, site: Site, text: str) -> Fact:
-        """A predicate of the site at a place of the compiled text, whose line is the author's."""
+        """A predicate of a site that isn't the port's own, at a place of the compiled text."""
         spot = self.where.spot(site.line, site.function)
         source, note = self.files[spot.file], self.noted.get(place)
         line = clipped((self.where.text(spot) or "").strip())
         if site.scheme == "returns":
-            code = source.found(note.text, spot.line, spot.line + AROUND) if note else None
+            code = self.expression(note, source, spot.line) if note else None
             return returned_by(note, code or self.same_call(place, site, source) or "", site, text, line, self.compiled)
         if site.scheme == "pairs":
             return Fact(with_character("pairs", self.named(text)), f"after {clipped(self.assignment(place, source, spot.line, site)) or line}")
@@ -54,13 +69,19 @@ class Authors:
             theirs = self.same_head(place, note, source, spot.line, site)
             truth = {"true": "false", "false": "true"}[truth] if note.kind == "turned" else truth
             return source.branch(theirs, note.text, truth) if theirs is not None else Fact(line, f"(a condition there) is {truth}")
-        if word in HEADS and JUMPS in self.compiled.head(place):
+        if word in HEADS and self.compiled.head(place) == LEFT:
             return Fact(line, "is left by longjmp" if truth == "true" else "is not left by longjmp")
-        case = source.cases_on(spot.line) if word == "if" else None
-        if case:
-            return Fact(case, f"is {truth}")
-        same = self.same_word(place, source, spot.line, site) if not (word in HEADS and self.where.notes) else None
+        labels = source.found(note.text, spot.line, spot.line + MOST_SWITCH, False) if note else None
+        labels = labels or (source.labels_on(spot.line) if word == "if" else None)
+        if labels:
+            return Fact(clipped(labels), f"is {truth}")
+        same = self.same_word(place, source, spot.line, site)
         return source.branch(same, word, truth) if same is not None else Fact(line, f"(a condition there) is {truth}")
+
+    def expression(self, note: Noted, source: Source, line: int) -> Optional[str]:
+        """The author's expression; of an assignment with a macro in its value what stands behind the same left side."""
+        found = source.found(note.text, line, line + AROUND)
+        return found or (source.found_assignment(note.text, line, line + AROUND) if note.kind.startswith("store") else None)
 
     # Places in the author's file
 
@@ -75,8 +96,10 @@ class Authors:
         return ours[theirs.index(place)] if len(ours) == len(theirs) else None
 
     def same_word(self, place: int, source: Source, line: int, site: Site) -> Optional[int]:
-        """The place in the author's file of the word at a place, whose lines were made of this line; none where these have other words of it."""
+        """The place in the author's file of the word at a place, whose lines were made of this line; none where these have other words of it, or where the porter would have left a note."""
         word = self.compiled.word(place)
+        if word in HEADS and self.where.notes:
+            return None
         ours = source.words_on(line, self.where.called(word)) or (source.words_on(line, word[len(OF_PORT):]) if word.startswith(OF_PORT) else [])
         theirs = [at for at in self.theirs(site) if self.compiled.word(at) == word]
         if len(ours) != len(theirs) and word in ASSIGNMENTS:
@@ -103,9 +126,6 @@ class Authors:
 def returned_by(note: Optional[Noted], code: str, site: Site, text: str, line: str, compiled: Source) -> Fact:
     """What a call of the text gave: what the author's call, expression or assignment did."""
     relation = text.split(" ")[-2]
-    if note is None and not code:
-        pointer = compiled.gives_pointer(site.names[0])
-        return Fact(line, "is reached" if pointer else f"(a value there) is {NUMBERS[relation]}")
     doing, _, what = (note.kind if note else "call " + ("pointer" if compiled.gives_pointer(site.names[0]) else "number")).partition(" ")
     code = clipped(code)
     place = "" if code else {"call": "(a call there) ", "store": "(an assignment there) "}.get(doing, "(a value there) ")

@@ -4,7 +4,7 @@ A site knows its token by its place among the tokens (docs/reference/LANGUAGE.md
 isn't the one that was compiled, the tokens don't fit, and nothing is said of it.
 """
 import re
-from typing import TYPE_CHECKING, Dict, List, NamedTuple, Optional, Sequence
+from typing import TYPE_CHECKING, Callable, Dict, Iterator, List, NamedTuple, Optional, Sequence, Tuple
 
 from cbi_show.files import Site, printable_character
 
@@ -12,7 +12,7 @@ if TYPE_CHECKING:
     from cbi_port import Note
 
 PIECE = re.compile(r"""(?P<blank>[\t-\r ]+ | /\*.*?\*/ | //[^\n]*) | (?P<directive>\#[^\n]*) |
-    (?P<token>[A-Za-z_]\w* | \d\w* | '(?:\\.|[^'\\\n])*' | "(?:\\.|[^"\\\n])*" | ->|\+\+|--|<<=|>>=|<<|>>|<=|>=|==|!=|&&|\|\||[-+*/%&^|]=|.)""",
+    (?P<token>[^\W\d]\w* | \d\w* | '(?:\\.|[^'\\\n])*' | "(?:\\.|[^"\\\n])*" | ->|\+\+|--|<<=|>>=|<<|>>|<=|>=|==|!=|&&|\|\||[-+*/%&^|]=|.)""",
                    re.DOTALL | re.VERBOSE)
 OPENING, CLOSING = "([{", ")]}"
 ASSIGNMENTS = {"=", "*=", "/=", "%=", "+=", "-=", "<<=", ">>=", "&=", "^=", "|="}
@@ -48,6 +48,11 @@ class Fact(NamedTuple):
 
 def clipped(text: str, most: int = MOST_TEXT) -> str:
     return text if len(text) <= most else text[:most - 2] + ".."
+
+
+def may_be(word: str, ours: str) -> bool:
+    """Whether a word may be what a macro becomes that the author wrote: a constant in place of a name."""
+    return word == ours or re.match(r"[\d'\"]", word) is not None and re.match("[A-Za-z_]", ours) is not None
 
 
 class Source:
@@ -178,6 +183,10 @@ class Source:
         if self.word(place) in ("++", "--"):
             after = re.match(r"[A-Za-z_]", self.word(place + 1)) and not re.match(r"[A-Za-z_]", self.word(place - 1))
             return self.between(place, place + 1) if after else self.between(place - 1, place)
+        return self.between(place - 1, self.end_of_assignment(place))
+
+    def end_of_assignment(self, place: int) -> int:
+        """The last place of the assignment that has an operator."""
         at, asked = place + 1, 0
         while at < len(self.tokens):
             word = self.word(at)
@@ -185,7 +194,7 @@ class Source:
             if word in (",", ";") or word in CLOSING or asked < 0:
                 break
             at = self.partner[at] + 1 if word in OPENING and at in self.partner else at + 1
-        return self.between(place - 1, at - 1)
+        return at - 1
 
     def gives_pointer(self, name: str) -> bool:
         """Whether a function of the text, or of the library, gives a pointer."""
@@ -209,15 +218,15 @@ class Source:
         """The places of a word on a line."""
         return [place for place, token in enumerate(self.tokens) if token.line == line and token.text == word]
 
-    def cases_on(self, line: int) -> Optional[str]:
-        """The labels of a `switch` that stand on a line, where nothing stands between them."""
-        found = self.words_on(line, "case")
-        at = found[0] if found else 0
+    def labels_on(self, line: int) -> Optional[str]:
+        """The labels of a `switch` that begin on a line, with those right behind them, where nothing else has one on it."""
+        found = [place for word in ("case", "default") for place in self.words_on(line, word)]
+        at = min(found, default=0)
         end = -1
-        while found and self.word(at) == "case":
+        while found and self.word(at) in ("case", "default"):
             end = next((place for place in range(at, len(self.tokens)) if self.word(place) == ":"), -1)
             at = end + 1
-        return clipped(self.between(found[0], end - 1)) if found and found[-1] < end else None
+        return self.between(min(found), end - 1) if found and max(found) < end else None
 
     def places_at(self, notes: "Sequence[Note]") -> List[Optional[int]]:
         """The token at the line and column of each note; a column counts what is ASCII."""
@@ -232,14 +241,31 @@ class Source:
                 known[token.line, len(before) if before.isascii() else sum(letter.isascii() for letter in before)] = place
         return [known.get((note.line, note.column)) for note in notes]
 
-    def found(self, text: str, first: int, last: int) -> Optional[str]:
-        """An expression as it stands on these lines, whatever parentheses it has there."""
+    def found(self, text: str, first: int, last: int, macros: bool = True) -> Optional[str]:
+        """An expression as it stands on these lines, whatever parentheses it has there; else, where it may have `macros`, the one there that has names in place of constants."""
         words = [piece[0] for piece in PIECE.finditer(text) if piece["token"] and piece["token"] not in "()"]
         ours = [place for place, token in enumerate(self.tokens) if first <= token.line <= last and token.text not in "()"]
-        for start in range(len(ours) - len(words) + 1 if words else 0):
-            if all(self.word(place) == word for place, word in zip(ours[start:start + len(words)], words)):
-                return self.whole(ours[start], ours[start + len(words) - 1])
+        for same in (str.__eq__, *[may_be] * macros):
+            found = [self.whole(*ends) for ends in self.ends_of(words, ours, same)]
+            if found and (same is str.__eq__ or len(set(found)) == 1):
+                return found[0]
         return None
+
+    def ends_of(self, words: List[str], ours: List[int], same: Callable[[str, str], bool]) -> Iterator[Tuple[int, int]]:
+        """The first and the last place of each row of these words among some places."""
+        for start in range(len(ours) - len(words) + 1 if words else 0):
+            if all(same(word, self.word(place)) for place, word in zip(ours[start:start + len(words)], words)):
+                yield ours[start], ours[start + len(words) - 1]
+
+    def found_assignment(self, text: str, first: int, last: int) -> Optional[str]:
+        """The one assignment on these lines to what this one assigns to."""
+        words = [piece[0] for piece in PIECE.finditer(text) if piece["token"] and piece["token"] not in "()"]
+        sign = next((at for at, word in enumerate(words) if word in ASSIGNMENTS), None)
+        if sign is None:
+            return None
+        ours = [place for place, token in enumerate(self.tokens) if first <= token.line <= last and token.text not in "()"]
+        ends = list(self.ends_of(words[:sign + 1], ours, str.__eq__))
+        return self.whole(ends[0][0], self.end_of_assignment(ends[0][1])) if len(ends) == 1 else None
 
     def whole(self, first: int, last: int) -> str:
         """The text from one token to another, with the parentheses that are open there."""

@@ -3,7 +3,7 @@ import os
 from typing import TYPE_CHECKING, Dict, FrozenSet, List, NamedTuple, Optional, Sequence, Tuple
 
 import cbi_show.files
-from cbi_show.files import Fault, Site
+from cbi_show.files import Fault
 
 if TYPE_CHECKING:
     from cbi_port import Note
@@ -37,10 +37,6 @@ class Where(NamedTuple):
     def called(self, name: str) -> str:
         """What the author calls it."""
         return self.names.get(name, name)
-
-    def owns(self, site: Site) -> bool:
-        """Whether a site compares something of the port's own, on whatever line."""
-        return self.lines is not None and site.scheme == "pairs" and any(self.called(name).startswith(OF_PORT) for name in site.names)
 
     def text(self, spot: Spot) -> Optional[str]:
         """The line at a spot; none where it isn't there, or is none of a person's."""

@@ -55,7 +55,9 @@ class Wording:
     def spot(self, site: Site) -> Spot:
         """The place of a site as a person knows it."""
         spot = self.where.spot(site.line, site.function)
-        return Spot(self.where.main, site.line, True) if self.where.owns(site) else spot
+        place = self.source.place_of(site) if self.source and self.authors and not spot.added else None
+        own = self.authors and place is not None and self.where.text(spot) is not None and self.authors.own(place, site)
+        return Spot(self.where.main, site.line, True) if own else spot
 
     def only_at(self, site: Site, text: str) -> List[int]:
         """The lines of the file of the site that run only where this is true."""
