@@ -107,7 +107,7 @@ class Programs(Case):
             self.assertEqual(ported.lines[number - 1], cbi_port.Line(name, number, False))
             for word in set(re.findall(r"\bprintf\(\"[^\"]*\"", row)):
                 self.assertIn(word, rows[number - 1])
-        self.assertEqual(cbi_port.read_map(ported.map_text()), (ported.lines, ported.added))
+        self.assertEqual(cbi_port.read_map(ported.map_text()), (ported.lines, ported.added, ported.names, ported.notes))
 
 
     def test_lines_of_copies(self):
@@ -357,7 +357,7 @@ class Command(Case):
         self.assertIn("ported: 1 typedef, 2 library functions", err)
         self.call("cbi-port", "a.c", "-o", "b.c")
         self.assertEqual(self.read("b.c").decode(), out)
-        lines, added = cbi_port.read_map(self.read("b.c.lines").decode())
+        lines, added, _, _ = cbi_port.read_map(self.read("b.c.lines").decode())
         self.assertEqual(lines[4], cbi_port.Line("a.c", 5, False))
         self.assertIn("cbi_printf", added)
         self.write("in/x", "A")

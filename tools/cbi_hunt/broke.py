@@ -2,7 +2,9 @@
 
 `broken_at` is for any failing input, `broke_of` for the one that a hunt tells.
 """
+import itertools
 import os
+import re
 import subprocess
 from typing import List, NamedTuple, Optional, Tuple
 
@@ -24,7 +26,6 @@ SECONDS = 60             # for a run with marks
 MOST_TURNS = 100000000   # of `cbi run`; a mark is a call, and takes one
 MARKS_A_TURN = 8         # so many more turns has a run that hangs
 NEVER = 2147483647
-PORTED_MAIN = "cbi_user_main"
 # Traps of which sanitizers know more than a line, where the object is from, and how they name them.
 OF_MEMORY = {"trapped 6": ("overflow", "underflow", "out of bounds"), "trapped 7": ("use-after", "null"), "trapped 10": ("free",)}
 # Traps that they don't see. The others they see, and are asked where the marks say nothing.
@@ -127,11 +128,6 @@ class Tracer:
                 os.remove(path)
 
 
-def author_name(function: str) -> str:
-    """What the author calls a function: the port gives `main` another name where it has arguments."""
-    return "main" if function == PORTED_MAIN else function
-
-
 class Places:
     """The places of a traced run as its author knows them."""
 
@@ -141,7 +137,7 @@ class Places:
     def call(self, line: int, function: str) -> Optional[Call]:
         """A line of the user's own; none where the port added it."""
         spot = self.where.spot(line, function) if line else None
-        return None if spot is None or spot.added else call_at(self.where, spot.file, spot.line, author_name(function))
+        return None if spot is None or spot.added else call_at(self.where, spot.file, spot.line, self.where.called(function))
 
     def calls(self) -> List[Call]:
         """The active calls, the innermost first."""
@@ -149,9 +145,12 @@ class Places:
         return [call for call in found if call]
 
     def inside(self) -> str:
-        """The function of the port's own in which the run is, where it is in one, as the author calls it."""
-        last = self.traced.functions[self.traced.state.frames[-1].function]
-        return last[len("cbi_"):] if last in self.where.added and last.startswith("cbi_") else ""
+        """The function of the port's own in which the run is, as the author calls it, where it is in one that he called by its name."""
+        names = [self.traced.functions[frame.function] for frame in self.traced.state.frames]
+        own = list(itertools.takewhile(self.where.added.__contains__, reversed(names)))
+        called = re.sub("^cbi_", "", self.where.called(own[-1])) if own else ""
+        word = re.compile(rf"\b{called}\b")
+        return called if called and any(word.search(line) for lines in self.where.files.values() for line in lines) else ""
 
     def before(self) -> Optional[Call]:
         """The last statement that was done where no active call is."""
@@ -189,7 +188,7 @@ def last_site(hunt: Hunt, path: str, where: Where) -> List[Call]:
     if last is None or last >= len(sites):
         return []
     spot = where.spot(sites[last].line, sites[last].function)
-    return [] if spot.added else [call_at(where, spot.file, spot.line, author_name(sites[last].function))]
+    return [] if spot.added else [call_at(where, spot.file, spot.line, where.called(sites[last].function))]
 
 
 def kind_of(ran: Ran) -> Optional[Tuple[str, Optional[Wrong]]]:

@@ -239,7 +239,7 @@ def hanging_places(hunt: Hunt, program: Program, wording: Wording) -> List[Hangi
         last = repeater.run(full, hunt.inputs.paths[place]).last
         if last is not None:
             site = program.sites[last]
-            spot = wording.where.spot(site.line, site.function)
-            found[Hanging("" if spot.added else spot.file, 0 if spot.added else spot.line, site.function, wording.statement(site), 0)] += 1
+            spot = wording.spot(site)
+            found[Hanging("" if spot.added else spot.file, 0 if spot.added else spot.line, wording.where.called(site.function), wording.statement(site), 0)] += 1
     repeater.close()
     return [one._replace(times=times) for one, times in found.most_common()]

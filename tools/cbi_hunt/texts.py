@@ -94,7 +94,7 @@ def map_beside(text: str, kept: Kept) -> List[str]:
     if not os.path.exists(path):
         return []
     try:
-        lines, _ = cbi_port.read_map(files.decoded(files.read_bytes(path)))
+        lines = cbi_port.read_map(files.decoded(files.read_bytes(path))).lines
     except (ValueError, IndexError):
         return [f"{path} is no map of lines, so lines are those of {text}"]
     if len(lines) != len(files.read_bytes(text).splitlines()):

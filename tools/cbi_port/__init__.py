@@ -16,6 +16,27 @@ class Line(NamedTuple):
     added: bool
 
 
+class Note(NamedTuple):
+    """What the author wrote at a token of the text, which is found by its line and the bytes of ASCII before it there.
+
+    `kind` is `head` for the first word of a statement with a condition, `turned` where the text has the condition the other way round, `case` for a label of a
+    `switch`, `truth` for a comparison, or else for a call of the text two words: `call`, `value` or `store` for what the author wrote there, and `number`, `pointer`, `bits` or `object` for what is
+    seen of it: a number, an address, whether it is 0, nothing.
+    """
+    line: int
+    column: int
+    kind: str
+    text: str
+
+
+class Map(NamedTuple):
+    """What the file `OUT.c.lines` has; `names` has the author's name for each of the tool's."""
+    lines: List[Line]
+    added: List[str]
+    names: Dict[str, str]
+    notes: List[Note]
+
+
 class Problem(NamedTuple):
     """What is refused: where, which construct, and what to write in its place."""
     file: str
@@ -40,19 +61,23 @@ class Missing(Exception):
 
 
 class Ported(NamedTuple):
-    """`lines` has one entry for each line of `text`; `added` are the names of functions that the tool added. `typed` has the rows of the typed tree."""
+    """`lines` has one entry for each line of `text`; `added` are the names of functions that the tool added; `names` and `notes` are as in `Map`. `typed` has the rows of the typed tree."""
     text: bytes
     lines: List[Line]
     added: List[str]
     liberties: List[str]
     counts: Dict[str, int]
+    names: Dict[str, str] = {}
+    notes: Sequence[Note] = ()
     typed: Callable[[], Iterator[str]] = lambda: iter(())
 
     def map_text(self) -> str:
         """The map as the file `OUT.c.lines` has it (docs/PORTING.md)."""
         files = list(dict.fromkeys(line.file for line in self.lines if not line.added))
         numbers = {name: number for number, name in enumerate(files, 1)}
-        rows = ["cbi-lines 1", f"files {len(files)}", *files, f"functions {len(self.added)}", *self.added]
+        rows = ["cbi-lines 2", f"files {len(files)}", *files, f"functions {len(self.added)}", *self.added]
+        rows += [f"names {len(self.names)}", *(f"{name} {author}" for name, author in self.names.items())]
+        rows += [f"notes {len(self.notes)}", *(f"{note.line} {note.column} {note.kind}: {note.text}" for note in self.notes)]
         rows += [f"lines {len(self.lines)}"]
         rows += ["added" if line.added else f"{numbers[line.file]} {line.line}" for line in self.lines]
         return "\n".join(rows + ["end"]) + "\n"
@@ -72,10 +97,10 @@ def singular(name: str) -> str:
     return name
 
 
-def read_map(text: str) -> "Tuple[List[Line], List[str]]":
-    """The lines and the added functions of a map file; ValueError where it is none."""
+def read_map(text: str) -> Map:
+    """A map file of the form 2, or of the form 1, which has no names and no notes; ValueError or IndexError where it is none."""
     rows = text.split("\n")
-    if rows[0] != "cbi-lines 1" or rows[-2:] != ["end", ""]:
+    if rows[0] not in ("cbi-lines 1", "cbi-lines 2") or rows[-2:] != ["end", ""]:
         raise ValueError("no map of lines")
     at = 1
 
@@ -87,14 +112,28 @@ def read_map(text: str) -> "Tuple[List[Line], List[str]]":
         at += 1 + int(count)
         return rows[at - int(count):at]
     files, added = part("files"), part("functions")
-    lines = []
-    for row in part("lines"):
-        if row == "added":
-            lines.append(Line("", 0, True))
-        else:
-            file, line = row.split(" ")
-            lines.append(Line(files[int(file) - 1], int(line), False))
-    return lines, added
+    first = rows[0].endswith("1")
+    names = {} if first else dict(pair(row) for row in part("names"))
+    notes = [] if first else [note_of(row) for row in part("notes")]
+    return Map([line_of(row, files) for row in part("lines")], added, names, notes)
+
+
+def pair(row: str) -> Tuple[str, str]:
+    name, author = row.split(" ")
+    return name, author
+
+
+def note_of(row: str) -> Note:
+    place, _, text = row.partition(": ")
+    line, column, kind = place.split(" ", 2)
+    return Note(int(line), int(column), kind, text)
+
+
+def line_of(row: str, files: Sequence[str]) -> Line:
+    if row == "added":
+        return Line("", 0, True)
+    file, line = row.split(" ")
+    return Line(files[int(file) - 1], int(line), False)
 
 
 def for_preprocessor(chosen: argparse.Namespace) -> List[str]:

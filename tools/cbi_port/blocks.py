@@ -76,6 +76,7 @@ class If(Statement):
     other: Optional[Statement] = None
     at: int = field(default=-1, compare=False)
     else_at: int = field(default=-1, compare=False)
+    note: int = field(default=-1, compare=False)
 
 
 @dataclass(frozen=True)
@@ -84,6 +85,7 @@ class While(Statement):
     condition: Node
     body: Statement
     at: int = field(default=-1, compare=False)
+    note: int = field(default=-1, compare=False)
 
 
 @dataclass(frozen=True)
@@ -92,6 +94,7 @@ class Do(Statement):
     body: Statement
     condition: Node
     at: int = field(default=-1, compare=False)
+    note: int = field(default=-1, compare=False)
 
 
 @dataclass(frozen=True)
@@ -102,6 +105,7 @@ class For(Statement):
     step: Optional[Node]
     body: Statement
     at: int = field(default=-1, compare=False)
+    note: int = field(default=-1, compare=False)
 
 
 @dataclass(frozen=True)

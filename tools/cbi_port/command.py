@@ -54,7 +54,7 @@ def put(said: argparse.Namespace, ported: Ported) -> None:
     if said.o:
         with open(said.o, "wb") as out:
             out.write(ported.text)
-        with open(said.o + ".lines", "w") as out_map:
+        with open(said.o + ".lines", "w", encoding="utf-8", newline="\n") as out_map:
             out_map.write(ported.map_text())
     if said.dump_typed:
         for row in ported.typed():

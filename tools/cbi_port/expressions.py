@@ -23,7 +23,7 @@ class Expressions(Places):
         if at >= 0:
             self.last_place = at
         try:
-            return getattr(self, "of_" + kind(node), self.of_other)(node, used)
+            return self.noted(node, getattr(self, "of_" + kind(node), self.of_other)(node, used))
         finally:
             self.last_place = outer
 

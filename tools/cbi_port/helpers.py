@@ -6,6 +6,7 @@ from typing import Any, Dict, List, Sequence, Set, Tuple
 
 from cbi_port import Ported
 from cbi_port.alike import cells
+from cbi_port.authors import authored, notes_in
 from cbi_port.blocks import Definition, Evaluate, Head, Statement, Template
 from cbi_port.dump import dumped
 from cbi_port.late import decided
@@ -81,7 +82,8 @@ class Helpers:
         added = sorted({name for name in map(name_of, sheet.tail) if name.startswith("cbi_")} | set(program.added))
         if any(name_of(it) == "main" for it in sheet.tail):
             added.append("main")
-        return Ported(text.encode("latin-1"), lines, added, list(program.liberties), {name: count for name, count in program.counts.items() if name},
+        counts = {name: count for name, count in program.counts.items() if name}
+        return Ported(text.encode("latin-1"), lines, added, list(program.liberties), counts, authored(program.names.authors, text), notes_in(sheet.notes, program.tokens),
                       lambda: dumped(sheet.users(), program.tokens))
 
     def beginning(self) -> List[Statement]:
@@ -201,7 +203,6 @@ class Helpers:
         return f"*({to}) = *({from_});"
 
     def per(self, type_: CType) -> int:
-        from cbi_port.alike import cells
         return cells(type_)
 
     def maker(self, name: str, type_: CType) -> Template:

@@ -61,9 +61,9 @@ class Jumps(Switches):
         """Says which segment is next."""
         return Assign(INT, self.function.flat, Number(INT, number))
 
-    def parted(self, condition: Node, yes: int, no: int, at: int) -> None:
-        """Says which of two segments is next."""
-        self.add(If(condition, Evaluate(self.next_is(yes)), Evaluate(self.next_is(no)), at))
+    def parted(self, condition: Node, yes: int, no: int, node: Any) -> None:
+        """Says which of two segments is next by the condition of a statement."""
+        self.add(self.headed(If(condition, Evaluate(self.next_is(yes)), Evaluate(self.next_is(no)), self.place_of(node)), node))
 
     def label_segment(self, name: str) -> int:
         owner = self.label_owner
@@ -167,7 +167,7 @@ class Jumps(Switches):
         self.lead(node.cond)
         value = self.truth(self.value(node.cond))
         dead = self.function.dead
-        self.parted(value.code, yes, no if node.iffalse is not None else end, self.place_of(node))
+        self.parted(value.code, yes, no if node.iffalse is not None else end, node)
         self.segment(yes, False)
         self.function.dead = dead + (value.constant == 0)
         self.level_statement(node.iftrue)
@@ -182,7 +182,7 @@ class Jumps(Switches):
     def cut_While(self, node: Any) -> None:
         test, begin, end = self.new_segment(), self.new_segment(), self.new_segment()
         self.segment(test)
-        self.parted(self.condition(node.cond), begin, end, self.place_of(node))
+        self.parted(self.condition(node.cond), begin, end, node)
         self.segment(begin, False)
         self.round(node.stmt, test, end)
         self.add(self.jump(test))
@@ -198,7 +198,7 @@ class Jumps(Switches):
         self.segment(begin)
         self.round(node.stmt, test, end)
         self.segment(test)
-        self.add(If(self.condition(node.cond), self.jump(begin), None, self.place_of(node)))
+        self.add(self.headed(If(self.condition(node.cond), self.jump(begin), None, self.place_of(node)), node))
         self.segment(end)
 
     def cut_For(self, node: Any) -> None:
@@ -208,7 +208,7 @@ class Jumps(Switches):
             self.level_statement(node.init)
         self.segment(test)
         if node.cond is not None:
-            self.parted(self.condition(node.cond), begin, end, self.place_of(node))
+            self.parted(self.condition(node.cond), begin, end, node)
             self.segment(begin, False)
         self.round(node.stmt, step, end)
         self.segment(step)
@@ -248,7 +248,7 @@ class Jumps(Switches):
         for case in cases:
             if kind(case) == "Case":
                 self.function.fresh_statement()
-                self.add(If(self.label_test(held, case, []).inner, self.jump(self.function.case_segments[id(case)])))
+                self.add(If(self.label_test(held, case, []).inner, self.jump(self.function.case_segments[id(case)]), note=self.case_note([case])))
         self.add(self.jump(default))
         self.function.loops.append(("flat", self.outer_again(), end))
         self.level_statement(node.stmt)

@@ -4,6 +4,8 @@ from typing import Any, Dict, Iterator, List, NamedTuple, Sequence, Tuple
 from cbi_port import Line, Problem
 from cbi_port.writer import outer, plain
 
+NOTE = "note "   # how the kind of a token begins that says what the author wrote (authors.py)
+
 
 class Token(NamedTuple):
     kind: str
@@ -54,7 +56,8 @@ class Sheet:
         return [tree for trees in self.parts.values() for tree in trees] + [tree for _, tree in self.apart]
 
     def laid(self) -> Tuple[str, List[Line]]:
-        """The whole text, and whose its lines are."""
+        """The whole text, and whose its lines are; `notes` has where notes stand: line, bytes of ASCII before it there, and token."""
+        self.notes: List[Tuple[int, int, int]] = []
         out: List[str] = []
         lines: List[Line] = []
         now = ["".join(text + " " for text in self.head)]
@@ -72,6 +75,9 @@ class Sheet:
                         now.append(piece)
                         continue
                     token = self.tokens[piece]
+                    if token.kind.startswith(NOTE):
+                        self.notes.append((len(lines) + 1, sum(map(str.isascii, "".join(now))), piece))
+                        continue
                     if token.file != file or token.line <= at:
                         continue
                     if not used and at == 1:

@@ -195,8 +195,8 @@ def declared_int(name: str, coord: Any) -> Any:
 
 
 def number_of(jump: Any, coord: Any) -> Any:
-    """Where a `jmp_buf` has its number."""
-    return c_ast.ArrayRef(c_ast.StructRef(jump, "->", c_ast.ID("registers", coord), coord), c_ast.Constant("int", "0", coord), coord)
+    """Where a `jmp_buf` has its number, at no place of the author's."""
+    return c_ast.ArrayRef(c_ast.StructRef(jump, "->", c_ast.ID("registers", coord), coord), c_ast.Constant("int", "0", coord))
 
 
 def one(coord: Any) -> Any:

@@ -136,6 +136,7 @@ class Call(Node):
     arguments: Tuple[Node, ...]
     symbol: Any = None
     at: int = field(default=-1, compare=False)
+    note: int = field(default=-1, compare=False)    # the token that says what the author wrote (authors.py)
 
 
 @dataclass(frozen=True)

@@ -2,6 +2,7 @@
 from typing import Any, List
 
 from cbi_port import forms
+from cbi_port.authors import Authors
 from cbi_port.constants import bytes_of, characters_of, written_name
 from cbi_port.conversions import number
 from cbi_port.declarations import Declarations
@@ -14,7 +15,7 @@ from cbi_port.types import (CHAR, INT, LLONG, LONG, UCHAR, UINT, ULLONG, ULONG, 
 from cbi_port.values import Place, Value, retyped
 
 
-class Places(Floats, Declarations):
+class Places(Authors, Floats, Declarations):
     """What stands for a value by itself, and where objects lie."""
 
     def of_Constant(self, node: Any, used: bool) -> Value:

@@ -296,6 +296,7 @@ class Program(Functions):
         again = sum(1 for token in self.tokens if token.text == "main" and token.kind == "name" and any(token.file == unit.file for unit in self.units)) > 1
         if symbol.type.parameters or again or self.exit_functions or not isinstance(symbol.type.result, Int) or symbol.type.result.size != 4 or not symbol.type.result.signed:
             symbol.text = "cbi_user_main"
+            self.names.authors[symbol.text] = "main"
 
     def translate(self, unit: Unit) -> None:
         """Writes a file's globals and functions in their order."""

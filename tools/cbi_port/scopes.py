@@ -72,14 +72,18 @@ class Names:
 
     def __init__(self) -> None:
         self.used: Set[str] = set(TAKEN)
+        self.authors: Dict[str, str] = {}  # what the author calls it that has a name of the tool's
 
-    def take(self, wanted: str) -> str:
-        wanted = wanted.replace("$", "_")[:48]
+    def take(self, wanted: str, author: str = "") -> str:
+        """A name like this one; `author` is what the author calls the thing, where that isn't what is wanted."""
+        author, wanted = author or wanted, wanted.replace("$", "_")[:48]
         name, count = wanted, 1
         while name in self.used:
             count += 1
             name = f"{wanted}_{count}"
         self.used.add(name)
+        if not author.startswith("cbi_"):
+            self.authors[name] = author
         return name
 
     def may_be_local(self, name: str) -> bool:

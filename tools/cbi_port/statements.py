@@ -121,7 +121,7 @@ class Statements(Initialisers):
                 then = Block(then.items if isinstance(then, Rows) else (then,))
             other = self.body(node.iffalse)
         self.function.dead -= dead[1]
-        self.add(If(value.code, then, other, self.place_of(node)))
+        self.add(self.headed(If(value.code, then, other, self.place_of(node)), node))
 
     def holds_if(self, node: Any) -> bool:
         """Whether an `else` behind the statement would be taken by an `if` in it."""
@@ -133,13 +133,13 @@ class Statements(Initialisers):
 
     def st_While(self, node: Any) -> None:
         condition = self.condition(node.cond)
-        self.add(While(condition, self.loop(node.stmt), self.place_of(node)))
+        self.add(self.headed(While(condition, self.loop(node.stmt), self.place_of(node)), node))
 
     def st_DoWhile(self, node: Any) -> None:
         body = self.loop(node.stmt)
         if kind(node.stmt) != "Compound":
             body = Block(body.items if isinstance(body, Rows) else (body,))
-        self.add(Do(body, self.condition(node.cond), self.place_of(node)))
+        self.add(self.headed(Do(body, self.condition(node.cond), self.place_of(node)), node))
 
     def loop(self, node: Any) -> Statement:
         """The body of a loop."""
@@ -169,7 +169,7 @@ class Statements(Initialisers):
         self.function.fresh_statement()
         step = self.value(node.next, False) if node.next is not None else None
         at = self.place_of(node)
-        self.add(For(first, condition, step.code if step is not None and not step.pure else None, self.loop(node.stmt), at))
+        self.add(self.headed(For(first, condition, step.code if step is not None and not step.pure else None, self.loop(node.stmt), at), node))
 
     def st_Return(self, node: Any) -> None:
         function = self.function
@@ -264,7 +264,7 @@ class Statements(Initialisers):
         self.scope.names[node.name] = symbol
 
     def local_static(self, node: Any, type_: CType) -> None:
-        symbol = Symbol(node.name, "variable", type_, self.names.take(f"{self.function.name}_{node.name}"))
+        symbol = Symbol(node.name, "variable", type_, self.names.take(f"{self.function.name}_{node.name}", node.name))
         symbol.outer = symbol.static = True
         symbol.align, symbol.quals = self.said_alignment(node), self.quals_of(node.type)
         symbol.at = self.place_of(node)

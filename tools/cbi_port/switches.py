@@ -137,16 +137,17 @@ class Switches(Statements):
 
     def chain(self, groups: List[Tuple[List[Any], List[Any]]], held: Value) -> None:
         """Branches of one `if`."""
-        found: List[Tuple[Optional[Node], Statement, int]] = []
+        found: List[Tuple[Optional[Node], Statement, int, int]] = []
         for index, (labels, rest) in enumerate(groups):
             default = any(kind(label) == "Default" for label in labels)
             later = [label for others, _ in groups[index + 1:] for label in others]
             test = (None if index else Number(INT, 1)) if default and not later else self.group_test(held, labels, later)
-            found.append((test, Block(self.function.gathered(lambda: self.grouped(rest, ("chain",)))), self.place_of(labels[0])))
+            note = -1 if default and not later else self.case_note(labels)
+            found.append((test, Block(self.function.gathered(lambda: self.grouped(rest, ("chain",)))), self.place_of(labels[0]), note))
         whole: Optional[Statement] = None
         behind = -1
-        for index, (test, rows, at) in reversed(list(enumerate(found))):
-            whole = rows if test is None else If(test, rows, whole, -1 if index else at, behind)
+        for index, (test, rows, at, note) in reversed(list(enumerate(found))):
+            whole = rows if test is None else If(test, rows, whole, -1 if index else at, behind, note)
             behind = at
         if whole is not None:
             self.add(whole)
@@ -195,7 +196,7 @@ class Switches(Statements):
                 test = Binary(INT, "|", on, Group(INT, test))
             rows = self.function.gathered(lambda: self.grouped(rest, ("once", again, used)))
             falling = [Evaluate(Assign(INT, on, Number(INT, 1)))] if index in falls and on is not None else []
-            rounds.append(If(test, Block((*falling, *rows)), None, self.place_of(labels[0])))
+            rounds.append(If(test, Block((*falling, *rows)), None, self.place_of(labels[0]), note=self.case_note(labels)))
         for name in (again if used else None, on):
             if name is not None:
                 self.do(Assign(INT, name, Number(INT, 0)))

@@ -218,7 +218,7 @@ class Wrappers:
         symbol, pointer = wrapper.symbol, Pointer(to)
         parameters = tuple(pointer if name in wrapper.held else it for name, it in zip(wrapper.parameters, symbol.type.parameters))
         word = "".join(letter if letter.isalnum() else "p" if letter == "*" else "_" for letter in spelled(to).replace("struct ", "").replace(" ", ""))
-        made = Symbol(symbol.name, "function", Function(pointer, parameters, False, True), self.program.names.take(f"{symbol.text}_{word}"))
+        made = Symbol(symbol.name, "function", Function(pointer, parameters, False, True), self.program.names.take(f"{symbol.text}_{word}", symbol.name))
         made.outer = made.static = made.defined = True
         made.unit, made.object = symbol.unit, to
         made.node = copy.deepcopy(wrapper.item)

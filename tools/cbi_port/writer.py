@@ -86,7 +86,7 @@ FORMS: Dict[Any, Callable[[Any], List[Piece]]] = {
     nodes.Assign: lambda it: [*written(it.target), f" {it.sign} ", *operand(it.value, ASSIGN)],
     nodes.Comma: lambda it: arguments(it.parts),
     nodes.Group: lambda it: ["(", *written(it.inner), ")"],
-    nodes.Call: lambda it: [it.name + "(", *arguments(it.arguments), ")"],
+    nodes.Call: lambda it: [*marks(it.note), it.name + "(", *arguments(it.arguments), ")"],
     nodes.Index: lambda it: [*operand(it.base, POSTFIX), "[", *written(it.index), "]"],
     nodes.Part: lambda it: [*operand(it.base, POSTFIX), ("->" if it.arrow else ".") + it.name],
     nodes.SizeOf: lambda it: [f"sizeof({it.word})"],
@@ -142,7 +142,7 @@ STATEMENTS: Dict[Any, Callable[[Any], List[Piece]]] = {
 
 def statement(it: Any) -> List[Piece]:
     """The text of a statement."""
-    return marks(getattr(it, "at", -1)) + STATEMENTS[type(it)](it)
+    return marks(getattr(it, "at", -1)) + marks(getattr(it, "note", -1)) + STATEMENTS[type(it)](it)
 
 
 def joined(rows: Sequence[blocks.Statement]) -> List[Piece]:

@@ -169,7 +169,7 @@ def reached(seen: Seen, wording: Wording) -> Iterator[Stated]:
         if told and far:
             at = f" at {wording.where.named(told.spot)}" if told.fact.code else ""
             fact = Fact(clipped((wording.where.text(far[0].spot) or "").strip()), f"runs only where {told.fact.past()}{at}")
-            yield Stated(Found(predicate, site.function, site.line, *counts, strength, wording.numbered[predicate][1]), Told(fact, far[0].spot, far[0].function))
+            yield Stated(Found(predicate, site.function, site.line, *counts, strength, wording.numbered[predicate][1]), Told(fact, far[0].spot, wording.where.called(far[0].function)))
 
 
 def left_out_of(table: Table) -> int:

@@ -83,7 +83,7 @@ def near_items(shown: Shown, view: View, rows: Iterable[int], here: Set[Spot]) -
         said = escaped(near.fact.text())
         if near.predicate in rows:
             said = f"<a href=#p{near.predicate}>{said}</a>"
-        function = "" if near.function == shown.row.function else f" of {code(near.function)}"
+        function = "" if near.function == shown.function else f" of {code(near.function)}"
         place = f", {line_link(near.spot, view.where, here)}{function}" if near.spot else ""
         yield f"<li>{said}{place}, by {near.fall / 1000000:.3f}</li>"
 
@@ -91,7 +91,7 @@ def near_items(shown: Shown, view: View, rows: Iterable[int], here: Set[Spot]) -
 def row_lines(shown: Shown, view: View, rows: Iterable[int], here: Set[Spot]) -> Iterator[str]:
     row = shown.row
     yield f'<article class="row" id="p{row.predicate}" aria-label="Row {row.rank}"><div>{row.rank}</div>'
-    yield f"<div><h4>{fact(shown.fact)}</h4><div>{line_link(shown.spot, view.where, here)} of {code(row.function)}; {cbi_show.told.likely(shown, view)}</div>"
+    yield f"<div><h4>{fact(shown.fact)}</h4><div>{line_link(shown.spot, view.where, here)} of {code(shown.function)}; {cbi_show.told.likely(shown, view)}</div>"
     said = [cbi_show.told.counts(shown), cbi_show.told.ended_of_row(shown), cbi_show.told.inputs_of_row(shown, view)]
     yield f'<div class="quiet">{escaped(" ".join(capital(text) + "." for text in said if text))}</div>'
     yield f"<details><summary>Numbers of row {row.rank}</summary>"

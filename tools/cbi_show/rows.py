@@ -42,8 +42,9 @@ class Near(NamedTuple):
 
 
 class Shown(NamedTuple):
-    """A row as it is shown. `by_chance` is how many predicates chance alone would make look as strong, where that is known."""
+    """A row as it is shown. `function` is what the author calls that of the row; `by_chance` is how many predicates chance alone would make look as strong, where that is known."""
     row: Row
+    function: str
     fact: Fact
     spot: Spot
     source: Optional[str]
@@ -211,9 +212,11 @@ def near_of(card: Optional[Card], wording: Wording, rows: Dict[int, Row]) -> Lis
     """What falls with a row, with function and line where the program or the ranking tells them."""
     found = []
     for predicate, fall, text in card.near if card else []:
-        place = wording.site(predicate) or rows.get(predicate)
+        site = wording.site(predicate)
+        place = site or rows.get(predicate)
         fact = wording.fact(predicate, place.scheme if place else "", text)
-        found.append(Near(predicate, fall, fact, place.function if place else None, wording.where.spot(place.line, place.function) if place else None))
+        spot = wording.spot(site) if site else wording.where.spot(place.line, place.function) if place else None
+        found.append(Near(predicate, fall, fact, wording.where.called(place.function) if place else None, spot))
     return found
 
 
@@ -300,10 +303,10 @@ def shown_of(row: Row, most: int, given: Given, wording: Wording, seen: Optional
     card = given.cards.get(row.predicate)
     truth = seen.truths[row.predicate] if seen else Truth(card.failing, card.successful, {}, []) if card else None
     first = card.first if card else truth.runs[0] if truth and truth.runs else None
-    spot = given.where.spot(row.line, row.function)
     chance = seen.chances[row.predicate] if seen else None
     site = wording.site(row.predicate)
+    spot = wording.spot(site) if site else given.where.spot(row.line, row.function)
     told = wording.told(site, row.text) if site and spot.added else None
     fact, spot = (told.fact, told.spot) if told else (wording.fact(row.predicate, row.scheme, row.text), spot)
-    shown = Shown(row, fact, spot, given.where.text(spot), bands(row, most), truth, first, near_of(card, wording, rows), chance)
+    shown = Shown(row, told.function if told else given.where.called(row.function), fact, spot, given.where.text(spot), bands(row, most), truth, first, near_of(card, wording, rows), chance)
     return shown._replace(bands=doubted(shown.bands)) if shown.weak() else shown

@@ -177,8 +177,8 @@ def result_of_row(shown: Shown, view: View) -> Dict[str, Any]:
     row = shown.row
     said = [f"{shown.text}: {counts(shown)}", likely(shown, view)] + [text for text in (ended_of_row(shown),) if text]
     text = ". ".join(text[0].upper() + text[1:] if place else text for place, text in enumerate(said)) + "."
-    one = result(view, row.scheme, level_of(shown), row.importance / 10000, text, shown.spot, row.function)
-    one["partialFingerprints"] = hashed(row.scheme, row.function, row.text, (shown.source or "").strip())
+    one = result(view, row.scheme, level_of(shown), row.importance / 10000, text, shown.spot, shown.function)
+    one["partialFingerprints"] = hashed(row.scheme, shown.function, row.text, (shown.source or "").strip())
     one["properties"] = {"predicate": row.predicate, "importance": row.importance}
     related = [{"id": number, "physicalLocation": place_of(view, near.spot), "message": {"text": f"falls with it: {near.fact.text()}"}}
                for number, near in enumerate(shown.near, 1) if near.spot and not near.spot.added]

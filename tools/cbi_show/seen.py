@@ -96,7 +96,7 @@ class Reading:
         self.outcomes: Dict[int, str] = {}
         self.inputs: Tuple[Set[int], Set[int]] = (set(), set())
         self.at: Dict[str, Counts[Tuple[str, Spot]]] = {"fail": Counter(), "pass": Counter()}
-        self.spots = {site.number: (site.function, asked.where.spot(site.line, site.function)) for site in program.sites}
+        self.spots = {site.number: (asked.where.called(site.function), asked.where.spot(site.line, site.function)) for site in program.sites}
         observed: Set[int] = set()
         for run in read_collection(collection):
             outcome = ending_of(run.outcome, asked.by_status and run.label == "fail")

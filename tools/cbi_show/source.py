@@ -4,12 +4,15 @@ A site knows its token by its place among the tokens (docs/reference/LANGUAGE.md
 isn't the one that was compiled, the tokens don't fit, and nothing is said of it.
 """
 import re
-from typing import Dict, List, NamedTuple, Optional
+from typing import TYPE_CHECKING, Callable, Dict, Iterator, List, NamedTuple, Optional, Sequence, Tuple
 
 from cbi_show.files import Site, printable_character
 
+if TYPE_CHECKING:
+    from cbi_port import Note
+
 PIECE = re.compile(r"""(?P<blank>[\t-\r ]+ | /\*.*?\*/ | //[^\n]*) | (?P<directive>\#[^\n]*) |
-    (?P<token>[A-Za-z_]\w* | \d\w* | '(?:\\.|[^'\\\n])*' | "(?:\\.|[^"\\\n])*" | ->|\+\+|--|<<=|>>=|<<|>>|<=|>=|==|!=|&&|\|\||[-+*/%&^|]=|.)""",
+    (?P<token>[^\W\d]\w* | \d\w* | '(?:\\.|[^'\\\n])*' | "(?:\\.|[^"\\\n])*" | ->|\+\+|--|<<=|>>=|<<|>>|<=|>=|==|!=|&&|\|\||[-+*/%&^|]=|.)""",
                    re.DOTALL | re.VERBOSE)
 OPENING, CLOSING = "([{", ")]}"
 ASSIGNMENTS = {"=", "*=", "/=", "%=", "+=", "-=", "<<=", ">>=", "&=", "^=", "|="}
@@ -17,8 +20,9 @@ ASSIGNMENTS = {"=", "*=", "/=", "%=", "+=", "-=", "<<=", ">>=", "&=", "^=", "|="
 BEFORE_OPERAND = {",", ";", "?", ":", "return", "else", "do"} | ASSIGNMENTS
 HEADS = {"if", "while", "for", "switch"}
 MOST_TEXT = 60
-# How names begin that the porter gives: to functions of the library, and to those that go through all functions that a pointer may stand for.
-OF_PORT, CALL = "cbi_", "cbi_call_"
+# How the names begin of functions that go through all those that a pointer may stand for.
+CALL = "cbi_call_"
+BYTES_READ = ("getchar", "getc", "fgetc")   # they return a byte or EOF
 # An expression that may be called as it stands.
 POSTFIX = r"[\w.\[\]]+(->[\w.\[\]]+)*"
 
@@ -39,11 +43,16 @@ class Fact(NamedTuple):
         return " ".join(part for part in (self.code, self.says) if part)
 
     def past(self) -> str:
-        return re.sub(r"\bis (true|false)$", r"was \1", self.text())
+        return Fact(self.code, re.sub(r"(^|\) )is ", r"\1was ", self.says)).text()
 
 
 def clipped(text: str, most: int = MOST_TEXT) -> str:
     return text if len(text) <= most else text[:most - 2] + ".."
+
+
+def may_be(word: str, ours: str) -> bool:
+    """Whether a word may be what a macro becomes that the author wrote: a constant in place of a name."""
+    return word == ours or re.match(r"[\d'\"]", word) is not None and re.match("[A-Za-z_]", ours) is not None
 
 
 class Source:
@@ -174,6 +183,10 @@ class Source:
         if self.word(place) in ("++", "--"):
             after = re.match(r"[A-Za-z_]", self.word(place + 1)) and not re.match(r"[A-Za-z_]", self.word(place - 1))
             return self.between(place, place + 1) if after else self.between(place - 1, place)
+        return self.between(place - 1, self.end_of_assignment(place))
+
+    def end_of_assignment(self, place: int) -> int:
+        """The last place of the assignment that has an operator."""
         at, asked = place + 1, 0
         while at < len(self.tokens):
             word = self.word(at)
@@ -181,7 +194,7 @@ class Source:
             if word in (",", ";") or word in CLOSING or asked < 0:
                 break
             at = self.partner[at] + 1 if word in OPENING and at in self.partner else at + 1
-        return self.between(place - 1, at - 1)
+        return at - 1
 
     def gives_pointer(self, name: str) -> bool:
         """Whether a function of the text, or of the library, gives a pointer."""
@@ -201,30 +214,80 @@ class Source:
         place = self.place_of(site)
         return plain_fact(site.scheme, text) if place is None else self.fact_at(place, site, text, self)
 
-    def same_word(self, line: int, other: "Source", lines: List[int], place: int) -> Optional[int]:
-        """The place in this text of the word at a place of another one, whose lines were made of this line; none where these have other words of it."""
-        word = other.word(place)
-        ours = [at for at, token in enumerate(self.tokens) if token.line == line and token.text == word]
-        if not ours and word.startswith(OF_PORT):
-            ours = [at for at, token in enumerate(self.tokens) if token.line == line and token.text == word[len(OF_PORT):]]
-        theirs = [at for at, token in enumerate(other.tokens) if token.line in lines and token.text == word]
-        if len(ours) != len(theirs) and word in ASSIGNMENTS:
-            # A port may assign more on a line than the person did: only what is given to the same variable is compared.
-            ours, theirs = ([at for at in found if text.word(at - 1) == other.word(place - 1)] for text, found in ((self, ours), (other, theirs)))
-        return ours[theirs.index(place)] if len(ours) == len(theirs) and place in theirs else None
+    def words_on(self, line: int, word: str) -> List[int]:
+        """The places of a word on a line."""
+        return [place for place, token in enumerate(self.tokens) if token.line == line and token.text == word]
 
-    def case_on(self, line: int) -> Optional[str]:
-        """The one case of a `switch` that stands on a line."""
-        found = [at for at, token in enumerate(self.tokens) if token.line == line and token.text == "case"]
-        end = next((at for at in range(found[0], len(self.tokens)) if self.word(at) == ":"), None) if len(found) == 1 else None
-        return clipped(self.between(found[0], end - 1)) if end is not None else None
+    def labels_on(self, line: int) -> Optional[str]:
+        """The labels of a `switch` that begin on a line, with those right behind them, where nothing else has one on it."""
+        found = [place for word in ("case", "default") for place in self.words_on(line, word)]
+        at = min(found, default=0)
+        end = -1
+        while found and self.word(at) in ("case", "default"):
+            end = next((place for place in range(at, len(self.tokens)) if self.word(place) == ":"), -1)
+            at = end + 1
+        return self.between(min(found), end - 1) if found and max(found) < end else None
+
+    def places_at(self, notes: "Sequence[Note]") -> List[Optional[int]]:
+        """The token at the line and column of each note; a column counts what is ASCII."""
+        starts, at = [0], -1
+        while (at := self.text.find("\n", at + 1)) >= 0:
+            starts.append(at + 1)
+        lines = {note.line for note in notes}
+        known = {}
+        for place, token in enumerate(self.tokens):
+            if token.line in lines:
+                before = self.text[starts[token.line - 1]:token.start]
+                known[token.line, len(before) if before.isascii() else sum(letter.isascii() for letter in before)] = place
+        return [known.get((note.line, note.column)) for note in notes]
+
+    def found(self, text: str, first: int, last: int, macros: bool = True) -> Optional[str]:
+        """An expression as it stands on these lines, whatever parentheses it has there; else, where it may have `macros`, the one there that has names in place of constants."""
+        words = [piece[0] for piece in PIECE.finditer(text) if piece["token"] and piece["token"] not in "()"]
+        ours = [place for place, token in enumerate(self.tokens) if first <= token.line <= last and token.text not in "()"]
+        for same in (str.__eq__, *[may_be] * macros):
+            found = [self.whole(*ends) for ends in self.ends_of(words, ours, same)]
+            if found and (same is str.__eq__ or len(set(found)) == 1):
+                return found[0]
+        return None
+
+    def ends_of(self, words: List[str], ours: List[int], same: Callable[[str, str], bool]) -> Iterator[Tuple[int, int]]:
+        """The first and the last place of each row of these words among some places."""
+        for start in range(len(ours) - len(words) + 1 if words else 0):
+            if all(same(word, self.word(place)) for place, word in zip(ours[start:start + len(words)], words)):
+                yield ours[start], ours[start + len(words) - 1]
+
+    def found_assignment(self, text: str, first: int, last: int) -> Optional[str]:
+        """The one assignment on these lines to what this one assigns to."""
+        words = [piece[0] for piece in PIECE.finditer(text) if piece["token"] and piece["token"] not in "()"]
+        sign = next((at for at, word in enumerate(words) if word in ASSIGNMENTS), None)
+        if sign is None:
+            return None
+        ours = [place for place, token in enumerate(self.tokens) if first <= token.line <= last and token.text not in "()"]
+        ends = list(self.ends_of(words[:sign + 1], ours, str.__eq__))
+        return self.whole(ends[0][0], self.end_of_assignment(ends[0][1])) if len(ends) == 1 else None
+
+    def whole(self, first: int, last: int) -> str:
+        """The text from one token to another, with the parentheses that are open there."""
+        depth = least = 0
+        for place in range(first, last + 1):
+            depth += (self.word(place) == "(") - (self.word(place) == ")")
+            least = min(least, depth)
+        for _ in range(-least):
+            first -= self.word(first - 1) == "("
+        for _ in range(depth - least):
+            last += self.word(last + 1) == ")"
+        return self.between(first, last)
+
+    def call_at(self, place: int) -> str:
+        return self.between(place, self.partner.get(place + 1, place))
 
     def fact_at(self, place: int, site: Site, text: str, compiled: "Source") -> Fact:
         """A predicate in words, of the site that stands at a place; what a function gives is seen in the text that was compiled."""
         if site.scheme == "branches":
             return self.branch(place, site.names[0], text.split(" ")[-1])
         if site.scheme == "returns":
-            call = self.called_by_pointer(place) if self.word(place).startswith(CALL) else self.between(place, self.partner.get(place + 1, place))
+            call = self.called_by_pointer(place) if self.word(place).startswith(CALL) else self.call_at(place)
             return Fact(clipped(call), returned(text.split(" ")[-2], compiled.gives_pointer(site.names[0]), site.names[0]))
         return Fact(with_character("pairs", text), f"after {clipped(self.assignment(place))}")
 
@@ -257,6 +320,6 @@ POINTERS = {"<": "less than NULL", "<=": "NULL", ">": "a pointer, not NULL", ">=
 
 
 def returned(relation: str, pointer: bool, name: str) -> str:
-    if name == "getchar" and relation in ("<", ">="):
+    if name in BYTES_READ and relation in ("<", ">="):
         return "returned EOF" if relation == "<" else "returned a byte, not EOF"
     return f"returned {(POINTERS if pointer else NUMBERS)[relation]}"

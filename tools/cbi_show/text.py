@@ -43,7 +43,7 @@ def bar(bands: Bands) -> str:
 
 def text_of_row(shown: Shown, view: View, indent: str = "") -> Iterator[str]:
     row = shown.row
-    yield f"{indent}{row.rank:>3}. {view.where.named(shown.spot)}, {row.function}: {shown.text}"
+    yield f"{indent}{row.rank:>3}. {view.where.named(shown.spot)}, {shown.function}: {shown.text}"
     yield f"{indent}     {told.likely(shown, view)}"
     yield f"{indent}     [{bar(shown.bands)}] importance {row.importance / 1000000:.3f}"
     yield f"{indent}     {told.counts(shown)}"

@@ -304,7 +304,7 @@ def changed_near(spot: Spot, view: View) -> Optional[str]:
 
 def row_title(shown: Shown) -> str:
     """What is told of the first row, where there is the ranking alone."""
-    return f"{'Perhaps by chance, ' if shown.weak() else ''}{shown.spot.file}:{shown.spot.line} in {shown.row.function}: {shown.fact.past()}"
+    return f"{'Perhaps by chance, ' if shown.weak() else ''}{shown.spot.file}:{shown.spot.line} in {shown.function}: {shown.fact.past()}"
 
 
 def nothing_said(view: View) -> List[str]:

@@ -2,6 +2,7 @@
 import re
 from typing import Dict, FrozenSet, List, NamedTuple, Optional, Tuple
 
+from cbi_show.authors import Authors
 from cbi_show.files import Program, Site
 from cbi_show.reach import Reach
 from cbi_show.source import CALL, Fact, Source, plain_fact
@@ -24,7 +25,7 @@ class Wording:
     def __init__(self, source: Optional[List[str]], program: Optional[Program], where: Where):
         self.source = Source(source) if source else None
         self.where = where
-        self.files = {name: Source(lines) for name, lines in where.files.items()} if where.lines else {}
+        self.authors = Authors(self.source, where, {name: Source(lines) for name, lines in where.files.items()}) if self.source and where.lines else None
         self.numbered = program.numbered() if program else {}
         self.program = program
         self.calls: Dict[str, List[int]] = {}
@@ -42,29 +43,21 @@ class Wording:
         said = self.of_site(site, site.predicates()[0][0])
         return said.says[len("after "):] if said.says.startswith("after ") else said.code
 
-    def located(self, site: Site) -> Optional[Tuple[Source, int]]:
-        """The text that a person knows, and the place of the site's word in it: in the files that a text was ported from, where they have it."""
+    def of_site(self, site: Site, text: str) -> Fact:
         place = self.source.place_of(site) if self.source else None
         if self.source is None or place is None:
-            return None
-        spot = self.where.spot(site.line, site.function)
-        if spot.file in self.files and not spot.added and self.where.lines:
-            lines = [number for number, (file, line, added) in enumerate(self.where.lines, 1) if (file, line, added) == (spot.file, spot.line, False)]
-            theirs = self.files[spot.file].same_word(spot.line, self.source, lines, place)
-            if theirs is not None:
-                return self.files[spot.file], theirs
-        return self.source, place
-
-    def of_site(self, site: Site, text: str) -> Fact:
-        found = self.located(site)
-        if self.source is None or found is None:
             return plain_fact(site.scheme, text)
+        spot = self.spot(site)
+        if self.authors and not spot.added and self.where.text(spot) is not None:
+            return self.authors.fact(place, site, text)
+        return self.source.fact_at(place, site, text, self.source)
+
+    def spot(self, site: Site) -> Spot:
+        """The place of a site as a person knows it."""
         spot = self.where.spot(site.line, site.function)
-        if found[0] is self.source and spot.file in self.files and not spot.added:
-            case = self.files[spot.file].case_on(spot.line) if site.names[0] == "if" else None
-            if case:
-                return Fact(case, f"is {text.split(' ')[-1]}")
-        return found[0].fact_at(found[1], site, text, self.source)
+        place = self.source.place_of(site) if self.source and self.authors and not spot.added else None
+        own = self.authors and place is not None and self.where.text(spot) is not None and self.authors.own(place, site)
+        return Spot(self.where.main, site.line, True) if own else spot
 
     def only_at(self, site: Site, text: str) -> List[int]:
         """The lines of the file of the site that run only where this is true."""
@@ -79,16 +72,16 @@ class Wording:
 
     def told(self, site: Site, text: str) -> Optional[Told]:
         """A predicate in words, with its place; none where only what a port added has it."""
-        spot = self.where.spot(site.line, site.function)
+        spot = self.spot(site)
         if not spot.added:
-            return Told(self.of_site(site, text), spot, site.function)
+            return Told(self.of_site(site, text), spot, self.where.called(site.function))
         return self.call_told(site, text) if site.function.startswith(CALL) else None
 
     def left_out(self) -> FrozenSet[int]:
         """The sites of which nothing is told."""
         if not self.program or not self.where.lines:
             return frozenset()
-        added = [site for site in self.program.sites if self.where.spot(site.line, site.function).added]
+        added = [site for site in self.program.sites if self.spot(site).added]
         return frozenset(site.number for site in added if not site.function.startswith(CALL) or self.call_told(site, site.predicates()[0][0]) is None)
 
     def call_told(self, site: Site, text: str) -> Optional[Told]:
@@ -105,8 +98,8 @@ class Wording:
             callees = self.callees_of(site, text.endswith("true"))
             went = f"went to {' or '.join(callees)}" if len(callees) <= MOST_CALLEES else f"did not go to {self.callees_of(site, True)[0]}"
         else:
-            callees = [site.names[0]]
-            went = f"went to {site.names[0]}, which {self.source.fact_at(place, site, text, self.source).says}"
+            callees = [self.where.called(site.names[0])]
+            went = f"went to {callees[0]}, which {self.source.fact_at(place, site, text, self.source).says}"
         known = all(re.fullmatch(r"[A-Za-z_]\w*", callee) for callee in callees)
         return Told(Fact("", f"the call at {where} {went}"), spots[0], self.function_at(lines[0])) if callees and known else None
 
@@ -114,10 +107,10 @@ class Wording:
         """The function that a call went to where a branch is true, or those that are left where it is false."""
         branches = [one for one in self.program.sites if one.function == site.function and one.scheme == "branches"] if self.program else []
         behind = [site] if true else [one for one in branches if one.token > site.token]
-        return [self.source.callee_of(one.token) for one in behind] if self.source else []
+        return [self.where.called(self.source.callee_of(one.token)) for one in behind] if self.source else []
 
     def function_at(self, line: int) -> str:
         """The function of the text that a line is in, by the sites around it."""
         sites: Dict[int, str] = {site.line: site.function for site in self.program.sites if site.function not in self.where.added} if self.program else {}
         before = [other for other in sites if other <= line]
-        return sites[max(before)] if before else sites[min(sites)] if sites else ""
+        return self.where.called(sites[max(before)] if before else sites[min(sites)] if sites else "")
