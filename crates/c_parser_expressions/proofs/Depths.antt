@@ -5,10 +5,12 @@ use Rattle.std.specs.Option.{IsSome}
 use Rattle.c_syntax.specs.declared.token.Sign.{Sign}
 use Rattle.c_syntax.specs.declared.token.Sign.TheVariants as sign
 use Rattle.c_syntax.specs.declared.expr.PrefixOperator.{PrefixOperator}
+use Rattle.c_syntax.specs.declared.expr.PrefixOperator.TheVariants as prefix
 use Rattle.c_syntax.specs.Words.{Kinds, ExprTree}
 use Rattle.c_parser_expressions.specs.Reading.{Cursor, Read, first_kind, next_cursor, sign_at}
 use Rattle.c_parser_expressions.specs.Marks.{begins_with_sign}
-use Rattle.c_parser_expressions.specs.ExpressionParser.{Parsers, the_stars, parser_layer, no_parsers, deeper_than, unary_by, cast_by, level_by, chain_by, conditional_by}
+use Rattle.c_parser_expressions.specs.Operators.{is_step}
+use Rattle.c_parser_expressions.specs.ExpressionParser.{Parsers, the_stars, parser_layer, no_parsers, deeper_than, operand_by, unary_by, cast_by, level_by, chain_by, conditional_by}
 use Rattle.c_parser_expressions.specs.ExpressionParser.{assignment_by, whole_by, list_by, closed_list, assignment_sign, begins_choices, opens_type, prefix_at, postfix_sign_of}
 use Rattle.c_parser_expressions.specs.ExpressionParser.{postfix_sign, level_sign}
 use Rattle.c_parser_expressions.proofs.Heads.{sign_first, stands_some}
@@ -59,6 +61,19 @@ pub flat_unary : (d : ℕ) (c : Cursor) → d ≡ 0 → (deeper_than d).unary c 
 unfolding deeper_than no_parsers
 flat_unary zero c h = refl
 flat_unary (suc n) c h = absurd (omega arith)
+
+-- what an operator stands before
+pub operand_unary : (p : Parsers) (o : PrefixOperator) (c : Cursor) → is_step o ≡ true → operand_by p o c ≡ p.unary c
+unfolding operand_by
+operand_unary p prefix.Increment c h = refl
+operand_unary p prefix.Decrement c h = refl
+operand_unary p o c h = cc
+
+pub operand_cast : (p : Parsers) (o : PrefixOperator) (c : Cursor) → is_step o ≡ false → operand_by p o c ≡ p.cast c
+unfolding operand_by
+operand_cast p prefix.Increment c h = cc
+operand_cast p prefix.Decrement c h = cc
+operand_cast p o c h = refl
 
 -- a chain of the levels from one on
 pub chain_end : (level : ℕ) (operand : Cursor → Read ExprTree) (c : Cursor) → level ≡ 11 → chain_by (11 - level) operand c ≡ operand c

@@ -4,3 +4,4 @@ pub mod Steps
 pub mod Expressions
 pub mod ExpressionParser
 pub mod Views
+pub mod Operators

@@ -12,7 +12,7 @@ ghost use Rattle.c_parser_expressions.specs.ExpressionParser.{opens_type, prefix
 ghost use Rattle.c_parser_expressions.specs.Views.{plain_items, plain_operator_list, plain_link_list};
 
 use crate::cursor::Reader;
-use crate::signs::{assignment_sign, chooses, level_sign, postfix_sign, prefix_at};
+use crate::signs::{assignment_sign, chooses, is_step, level_sign, postfix_sign, prefix_at};
 use crate::stop::Stop;
 use crate::strings::strings;
 use crate::types::closed_type;
@@ -238,7 +238,7 @@ fn prefixed(
 
 /// What the operator stands before, one deeper.
 #[cycle(expression)]
-#[tactic(auto, using(crate::proofs::Depths::deeper_unary, crate::proofs::Depths::deeper_cast), unfolding(crate::specs::ExpressionParser::operand_by))]
+#[tactic(auto, using(crate::proofs::Depths::deeper_unary, crate::proofs::Depths::deeper_cast, crate::proofs::Depths::operand_unary, crate::proofs::Depths::operand_cast))]
 fn operand(
     alloc: Global,
     reader: &mut Reader<'_>,
@@ -248,10 +248,10 @@ fn operand(
     requires { 1 ≤ depth }
     ensures { Gives plain_expr result reader.new (operand_by (deeper_than depth) operator reader.old) }
 {
-    match operator {
-        PrefixOperator::Increment | PrefixOperator::Decrement => unary(alloc, reader, depth - 1),
-        _ => cast(alloc, reader, depth - 1),
+    if is_step(operator) {
+        return unary(alloc, reader, depth - 1);
     }
+    cast(alloc, reader, depth - 1)
 }
 
 /// `sizeof` of a type or of an expression. One in parentheses lies two deeper, a type doesn't.

@@ -2,6 +2,7 @@ ghost use Rattle.std.specs.Prelude.{◌≡◌, ◌≤◌};
 ghost use Rattle.c_syntax.specs.Words.{plain_expr, level_of, is_assignment, expression_rank, prefix_of};
 ghost use Rattle.c_syntax.specs.declared.token.TokenKind.TheVariants as kind;
 ghost use Rattle.c_parser_expressions.specs.ExpressionParser.{prefix_at, level_sign, postfix_sign, begins_choices, assignment_sign};
+ghost use Rattle.c_parser_expressions.specs.Operators.{is_step};
 
 use crate::cursor::Reader;
 use c_syntax::{Expr, PrefixOperator, Sign, TokenKind, Word};
@@ -93,6 +94,16 @@ pub(crate) fn prefix_at(reader: &Reader<'_>) -> Option<PrefixOperator>
     match reader.next() {
         Some(kind) => prefix_of(kind),
         None => None,
+    }
+}
+
+/// Whether the operator stands before a unary expression, and before no cast.
+pub(crate) fn is_step(operator: PrefixOperator) -> bool
+    ensures { result ≡ is_step operator }
+{
+    match operator {
+        PrefixOperator::Increment | PrefixOperator::Decrement => true,
+        _ => false,
     }
 }
 
