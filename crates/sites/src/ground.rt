@@ -23,7 +23,7 @@ pub struct Ground<'a> {
 }
 
 /// Where a site stands: the number of its function, its line and its token.
-#[derive(Clone, Copy, Debug, PartialEq, Eq)]
+#[derive(Clone, Copy)]
 pub struct Stand {
     pub function: u32,
     pub line: u32,

@@ -100,12 +100,11 @@ fn all_firsts(alloc: Global, variables: &[VariableEntry]) -> Result<Seq<u32>, Me
 pub fn noted_for(alloc: Global, checked: &Checked, schemes: Schemes) -> Result<Noted, Memory>
     ensures { IfOk result (IsNotedFor schemes (known_of checked.now) 0) }
 {
-    let near = Vec::new(alloc);
     if !schemes.pairs {
         return Ok(Noted {
             again: Seq::new(alloc),
             firsts: Seq::new(alloc),
-            near,
+            near: Vec::new(alloc),
             seen: 0,
         });
     }
@@ -114,7 +113,7 @@ pub fn noted_for(alloc: Global, checked: &Checked, schemes: Schemes) -> Result<N
     Ok(Noted {
         again,
         firsts,
-        near,
+        near: Vec::new(alloc),
         seen: 0,
     })
 }

@@ -1,5 +1,6 @@
-ghost use Rattle.std.specs.Prelude.{◌≡◌, ◌++◌, OnOk, option_map};
+ghost use Rattle.std.specs.Prelude.{◌≡◌, ◌++◌, ◌∷◌, [], OnOk, option_map};
 ghost use Rattle.c_syntax.specs.Plain.{plain_expr, plain_exprs, plain_links, plain_operators};
+ghost use Rattle.sites.specs.declared.spots.Spot.TheVariants as spot;
 ghost use Rattle.sites.specs.SitesAt.{spot_token};
 ghost use Rattle.sites.specs.Spots.{
   change_spots,
@@ -20,7 +21,7 @@ use cbi_base::{Memory, Name, Seq};
 use flow::BranchWord;
 
 /// What a function's body holds for its sites: the constructs at which sites may stand, by their tokens, and the constants.
-#[derive(Debug, Drop)]
+#[derive(Drop)]
 pub enum Spot {
     /// A condition has its truth.
     Branch { token: u32, word: BranchWord },
@@ -111,6 +112,28 @@ fn push_join(spots: &mut Seq<Spot>, token: u32, sign: Sign) -> Result<(), Memory
     spots.push(Spot::Branch { token, word })
 }
 
+/// Adds a branch.
+pub fn push_branch(spots: &mut Seq<Spot>, token: u32, word: BranchWord) -> Result<(), Memory>
+    ensures { OnOk result (spots.new ≡ spots.old ++ spot.Branch token word ∷ []) }
+{
+    spots.push(Spot::Branch { token, word })
+}
+
+/// Adds the call of the function with the name.
+fn push_call(spots: &mut Seq<Spot>, token: u32, name: &Name) -> Result<(), Memory>
+    ensures { OnOk result (spots.new ≡ spots.old ++ spot.Call token name.now ∷ []) }
+{
+    let name = name.try_clone()?;
+    spots.push(Spot::Call { token, name })
+}
+
+/// Adds a constant.
+fn push_constant(spots: &mut Seq<Spot>, value: i64) -> Result<(), Memory>
+    ensures { OnOk result (spots.new ≡ spots.old ++ spot.Constant value ∷ []) }
+{
+    spots.push(Spot::Constant { value })
+}
+
 /// Adds what an expression holds.
 #[cycle(push_expr)]
 pub fn push_expr(spots: &mut Seq<Spot>, expr: &Expr) -> Result<(), Memory>
@@ -135,11 +158,7 @@ pub fn push_expr(spots: &mut Seq<Spot>, expr: &Expr) -> Result<(), Memory>
             second,
         } => {
             push_expr(spots, condition)?;
-            let word = BranchWord::Question;
-            spots.push(Spot::Branch {
-                token: *token,
-                word,
-            })?;
+            push_branch(spots, *token, BranchWord::Question)?;
             push_expr(spots, first)?;
             push_expr(spots, second)
         }
@@ -168,14 +187,10 @@ pub fn push_expr(spots: &mut Seq<Spot>, expr: &Expr) -> Result<(), Memory>
             name,
             arguments,
         } => {
-            let name = name.try_clone()?;
-            spots.push(Spot::Call {
-                token: *token,
-                name,
-            })?;
+            push_call(spots, *token, name)?;
             push_exprs(spots, arguments.as_slice())
         }
-        Expr::Constant { value, .. } => spots.push(Spot::Constant { value: *value }),
+        Expr::Constant { value, .. } => push_constant(spots, *value),
         Expr::Paren { inner, .. } => push_expr(spots, inner),
         Expr::SizeOfType { .. } | Expr::Name { .. } | Expr::Strings { .. } => Ok(()),
         Expr::Null { .. } | Expr::EndOfFile { .. } => Ok(()),

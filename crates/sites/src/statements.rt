@@ -1,10 +1,9 @@
-ghost use Rattle.std.specs.Prelude.{◌≡◌, ◌++◌, ◌∷◌, [], OnOk, map, option_map};
+ghost use Rattle.std.specs.Prelude.{◌≡◌, ◌++◌, OnOk, map, option_map};
 ghost use Rattle.c_syntax.specs.Plain.{plain_declaration, plain_entries, plain_expr, plain_for_start, plain_initial, plain_start, plain_statement};
-ghost use Rattle.sites.specs.declared.spots.Spot.TheVariants as spot;
 ghost use Rattle.sites.specs.Bodies.{declaration_spots, entries_spots, for_spots, for_start_spots, initial_spots, start_spots, starts_spots, statement_spots};
 ghost use Rattle.sites.specs.Standing.{StandAtTokens};
 
-use crate::spots::{Spot, push_change, push_expr, push_exprs, push_part};
+use crate::spots::{Spot, push_branch, push_change, push_expr, push_exprs, push_part};
 use c_syntax::{Declaration, Entry, Expr, ForStart, Initial, Start, Statement};
 use cbi_base::{Memory, Seq};
 use flow::BranchWord;
@@ -74,13 +73,6 @@ fn push_for(spots: &mut Seq<Spot>, token: u32, condition: &Option<Expr>) -> Resu
         return Ok(());
     }
     push_branch(spots, token, BranchWord::For)
-}
-
-/// Adds the branch of a statement.
-fn push_branch(spots: &mut Seq<Spot>, token: u32, word: BranchWord) -> Result<(), Memory>
-    ensures { OnOk result (spots.new ≡ spots.old ++ spot.Branch token word ∷ []) }
-{
-    spots.push(Spot::Branch { token, word })
 }
 
 /// Adds what a statement holds.

@@ -1,6 +1,6 @@
-use Rattle.std.proofs.Common.{◌≡◌, ℕ, List, true, drop, sym, subst, ap, ◌∙◌, false}
+use Rattle.std.proofs.Common.{ℕ, List, drop, sym, subst, ap, ◌∙◌}
 use Rattle.std.specs.Prelude.{filter}
-use Rattle.std.proofs.lemmas.Bool.{false≢true, not-false as wanted}
+use Rattle.std.proofs.lemmas.Bool.{not-false as wanted}
 use Rattle.base_lists.proofs.Tests.{not_itself}
 use Rattle.c_types.specs.Answers.{known_of}
 use Rattle.sites.specs.Near.{AreEnough, first_from, has_scope_left}

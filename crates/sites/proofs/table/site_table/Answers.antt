@@ -1,4 +1,4 @@
-use Rattle.std.proofs.Common.{◌≡◌, ℕ, ◌+◌, ◌<◌, inl, inr, List, [], ◌∷◌, ◌++◌, length, get_or, map, drop, ◌∙◌, ap, sym, subst, arith, append_assoc, length-append}
+use Rattle.std.proofs.Common.{◌≡◌, ℕ, ◌+◌, ◌<◌, ◌≤◌, inl, inr, List, ◌∷◌, ◌++◌, length, get_or, map, drop, ◌∙◌, refl, ap, sym, subst, arith, append_assoc, length-append}
 use Rattle.std.specs.List.{All}
 use Rattle.std.proofs.lemmas.List.{append-nil, drop_all}
 use Rattle.c_syntax.specs.declared.tree.Item.{Item}
@@ -38,6 +38,15 @@ module _ (schemes : Schemes) (w : Walk) (noted : Noted) (functions : ℕ) (items
   then : (new : Noted) (more : ℕ) → IsNotedFor schemes w (begins_at (plain_item x)) new → more ≡ functions + length (defined_by (plain_item x)) →
       AreToCome schemes w new more rest
   then new more is as_many = subst (λ n. AreToCome schemes w new n rest) (sym as_many) (others schemes w noted functions (plain_item x) rest taken new is)
+
+-- where no item is left, what was found is all
+sites_whole : (schemes : Schemes) (w : Walk) (lines : List ℕ) (functions : ℕ) (sites all : List Site) (items : List Item) (at : ℕ) → length items ≤ at →
+    sites ++ items_sites w lines schemes functions (map plain_item (drop at items)) ≡ all → sites ≡ all
+sites_whole schemes w lines functions sites all items at end h =
+    sym (append-nil sites) ∙ ap (λ l. sites ++ items_sites w lines schemes functions (map plain_item l)) (sym (drop_all at items end)) ∙ h
+
+functions_whole : (functions all : List (List ℕ)) (items : List Item) (at : ℕ) → length items ≤ at → functions ++ defined_in (map plain_item (drop at items)) ≡ all → functions ≡ all
+functions_whole functions all items at end h = sym (append-nil functions) ∙ ap (λ l. functions ++ defined_in (map plain_item l)) (sym (drop_all at items end)) ∙ h
 
 pub add_item-requires-clause-tokens : goal.add_item-requires-clause-tokens
 add_item-requires-clause-tokens c =
@@ -91,12 +100,9 @@ returns-clause-too_many c is =
     let sites = c.loop-item.parts.sites in
     let functions = c.loop-item.parts.functions in
     let items = c.as_slice-item-items.result.now in
-    let dropped : drop c.loop-item.item-index items ≡ [] = drop_all c.loop-item.item-index items c.loop-item-test.false in
     let whole : sites ≡ sites_of tree known c.args.schemes =
-    sym (append-nil sites) ∙ ap (λ l. sites ++ items_sites known tree.lines c.args.schemes (length functions) (map plain_item l)) (sym dropped) ∙
-    c.loop-item.invariant.sites in
-    let named : functions ≡ functions_of tree =
-    sym (append-nil functions) ∙ ap (λ l. functions ++ defined_in (map plain_item l)) (sym dropped) ∙ c.loop-item.invariant.functions in
+    sites_whole c.args.schemes known tree.lines (length functions) sites _ items c.loop-item.item-index c.loop-item-test.false c.loop-item.invariant.sites in
+    let named : functions ≡ functions_of tree = functions_whole functions _ items c.loop-item.item-index c.loop-item-test.false c.loop-item.invariant.functions in
     let owners : All (λ (s : Site). s.function < length functions) sites =
     subst (All (λ (s : Site). s.function < length functions)) (sym whole) (owned known tree.lines c.args.schemes 0 (length functions) tree.items (omega
     (arith, ap length named))) in
@@ -104,3 +110,25 @@ returns-clause-too_many c is =
       | inl more ↦ subst (λ l. site_limit < length l) whole more
       | inr few ↦ absurd (false≢true (c.in-None.ensures.found.1 (record { few = few; owners = owners })))
     ]
+
+pub returns-in-Some-clause-table : goal.returns-in-Some-clause-table
+returns-in-Some-clause-table c =
+    let tree = tree_of c.args.checked.now in
+    c.in-Some.ensures.value.0
+    ∙ sites_whole c.args.schemes (known_of c.args.checked.now) tree.lines (length c.loop-item.parts.functions) c.loop-item.parts.sites _ c.as_slice-item-items.result.now
+    c.loop-item.item-index c.loop-item-test.false c.loop-item.invariant.sites
+
+pub returns-in-Some-clause-functions : goal.returns-in-Some-clause-functions
+returns-in-Some-clause-functions c =
+    c.in-Some.ensures.value.1
+    ∙ functions_whole c.loop-item.parts.functions _ c.as_slice-item-items.result.now c.loop-item.item-index c.loop-item-test.false c.loop-item.invariant.functions
+
+pub returns-in-Some-clause-refused : goal.returns-in-Some-clause-refused
+returns-in-Some-clause-refused c crowded =
+    let tree = tree_of c.args.checked.now in
+    let known = known_of c.args.checked.now in
+    let sites = c.loop-item.parts.sites in
+    let whole : sites ≡ sites_of tree known c.args.schemes =
+    sites_whole c.args.schemes known tree.lines (length c.loop-item.parts.functions) sites _ c.as_slice-item-items.result.now c.loop-item.item-index c.loop-item-test.false
+    c.loop-item.invariant.sites in
+    absurd (omega (arith, (c.in-Some.ensures.found.0 refl).few, subst (λ l. site_limit < length l) (sym whole) crowded))
