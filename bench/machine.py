@@ -84,7 +84,7 @@ def print_apart(tool: str) -> None:
         print("there is no nm: which functions stand outside the loop isn't told")
         return
     names = subprocess.run([nm, tool], stdout=subprocess.PIPE, check=True).stdout.decode("ascii", "replace")
-    apart = re.findall(r"\b(?:machine_strides|machine::strides|machine::several)::\S+", names)
+    apart = re.findall(r"\b(?:machine_strides|machine_steps::strides|machine_steps::several)::\S+", names)
     print("outside the loop:", " ".join(sorted(apart)) or "none")
 
 

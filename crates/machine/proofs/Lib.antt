@@ -1,13 +1,5 @@
-pub mod CallLemmas
-pub mod DoneLemmas
-pub mod StandingLemmas
-pub mod RowLemmas
 pub mod CountLemmas
-pub mod StartLemmas
 pub mod SeenLemmas
-pub mod WentLemmas
 pub mod ReachedLemmas
-pub mod StrideLemmas
 pub mod ToldLemmas
 pub mod GoingLemmas
-pub mod LookLemmas

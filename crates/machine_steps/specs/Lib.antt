@@ -1,0 +1,5 @@
+pub mod Entering
+pub mod Standing
+pub mod Begun
+pub mod Reached
+pub mod Strides
