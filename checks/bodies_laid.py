@@ -56,10 +56,10 @@ def without_code(lines: List[str], each: Function) -> None:
 
 
 def leave_out(place: str, every: Iterable[Function], kept: Set[str]) -> None:
-    """Leaves out the code and the proofs of all functions but these. What calls a function rests on its contract alone, so each goal of those that are kept stays as it is."""
+    """Leaves out the code and the proofs of all functions but these and those of traits, which a call of another function may need. What calls a function rests on its contract alone, so each goal of those that are kept stays as it is."""
     every = list(every)
     rings = {it.ring for it in every if it.path in kept}
-    left = [it for it in every if it.path not in kept and not is_declared_alone(it) and not (it.ring and it.ring in rings)]
+    left = [it for it in every if it.path not in kept and not it.of_trait and not is_declared_alone(it) and not (it.ring and it.ring in rings)]
     for path in sorted({it.file for it in left}):
         with open(os.path.join(place, path), encoding="utf-8") as it:
             lines = it.read().split("\n")

@@ -30,13 +30,14 @@ class Body(NamedTuple):
 
 
 class Function(NamedTuple):
-    """A function of a crate: its path below the crate as the prover writes it, its file, and its lines, from what stands behind the function before to its last; and its ring, of functions that call one another."""
+    """A function of a crate: its path below the crate as the prover writes it, its file, and its lines, from what stands behind the function before to its last; its ring, of functions that call one another; and whether it is one of a trait."""
     path: str
     file: str
     first: int
     last: int
     text: str
     ring: str = ""
+    of_trait: bool = False
 
 
 class Bad(Exception):
@@ -124,23 +125,24 @@ def functions(path: str, text: str) -> List[Function]:
     """The functions of a file of src/, in their order, each by its module."""
     module = module_of(path)
     lines = text.splitlines()
-    starts: List[Tuple[int, str, int]] = []
-    block = ""
+    starts: List[Tuple[int, str, int, bool]] = []
+    block, of_trait = "", False
     for number, line in enumerate(lines, 1):
         if line and not line.startswith((" ", "}")):
             opened = BLOCK.match(line)
             block = opened["name"] + (opened["of"] or "") if opened else block if line.startswith(("where", "{")) else ""
+            of_trait = bool(opened["of"]) if opened else of_trait
         found = FUNCTION.match(line)
         if found and len(found["margin"]) in (0, 4):
             inner = [block] if found["margin"] and block else []
-            starts.append((number, "::".join([*module, *inner, found["name"]]), len(found["margin"])))
+            starts.append((number, "::".join([*module, *inner, found["name"]]), len(found["margin"]), bool(inner) and of_trait))
     made: List[Function] = []
-    for (first, name, margin), (behind, _, _) in zip(starts, [*starts[1:], (len(lines) + 1, "", 0)]):
+    for (first, name, margin, trait), (behind, *_) in zip(starts, [*starts[1:], (len(lines) + 1, "", 0, False)]):
         ends = [at for at in range(first, behind) if lines[at - 1] == " " * margin + "}" or lines[at - 1].endswith(";") and at == first]
         last = ends[0] if ends else behind - 1
         start = made[-1].last + 1 if made else 1
         ring = RING.search("\n".join(lines[start - 1:first - 1]))
-        made.append(Function(name, path, start, last, "\n".join(lines[first - 1:last]), ring[1] if ring else ""))
+        made.append(Function(name, path, start, last, "\n".join(lines[first - 1:last]), ring[1] if ring else "", trait))
     return made
 
 

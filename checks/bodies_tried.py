@@ -173,7 +173,17 @@ def between(crate: str, changed: Set[str]) -> Set[str]:
 
 
 def look(root: str, libraries: str, each: Try, tools: Kit) -> Tuple[List[Outcome], str]:
-    """Tries the bodies, and gives what came of each and what the check said."""
+    """Tries the bodies, and gives what came of each and what the checks said. One that isn't refused beside others, in a crate of which much is left out, is tried in the whole crate alone."""
+    outcomes, said = look_once(root, libraries, each, tools, False)
+    for at, body in enumerate(each.bodies):
+        if outcomes[at].fault and fits(root, [body]):
+            (outcomes[at],), more = look_once(root, libraries, Try(each.crate, (body,)), tools, True)
+            said += more
+    return outcomes, said
+
+
+def look_once(root: str, libraries: str, each: Try, tools: Kit, whole: bool) -> Tuple[List[Outcome], str]:
+    """Tries the bodies in one check, in a copy of the whole crate or of what they need of it."""
     texts: Texts = {}
     try:
         for body in each.bodies:
@@ -187,9 +197,10 @@ def look(root: str, libraries: str, each: Try, tools: Kit) -> Tuple[List[Outcome
         every = crate_functions(root, each.crate, texts)
         names = sorted({name for body in each.bodies for name in body.refused})
         kept = set().union(*(looked_at(root, it, every) for it in each.bodies))
-        if "*" not in kept:
+        if not whole and "*" not in kept:
             leave_out(os.path.join(room, each.crate), every, kept)
-        offer_nothing(os.path.join(room, each.crate), each.crate, [it for it in every if any(is_named(it.path, name) for name in names)])
+        if not whole:
+            offer_nothing(os.path.join(room, each.crate), each.crate, [it for it in every if any(is_named(it.path, name) for name in names)])
         ran = subprocess.run(command(root, libraries, each, names, tools, sources), cwd=os.path.join(room, each.crate), stdin=subprocess.DEVNULL,
                              stdout=subprocess.PIPE, stderr=subprocess.STDOUT, universal_newlines=True, errors="replace", check=False)
     return judge(each, every, ran.stdout, ran.returncode), ran.stdout

@@ -79,6 +79,7 @@ class Reading(unittest.TestCase):
 
     def test_functions_have_the_prover_s_paths_and_all_their_lines(self) -> None:
         found = functions("src/two.rt", SOURCE)
+        self.assertEqual([it.of_trait for it in found], [False, True, False])
         self.assertEqual([(it.path, it.first, it.last) for it in found], [("two::Two::first", 1, 14), ("two::TwoFrom::from", 15, 20), ("two::twice", 21, 28)])
 
 
@@ -188,22 +189,21 @@ class Laid(unittest.TestCase):
     def test_the_code_of_what_is_looked_at_is_all_there_and_no_other(self) -> None:
         source = SOURCE + "\nconst fn fixed() -> u8 {\n    4\n}\n\nfn over() -> impl Iterator<Item = u8> {\n    make()\n}\n\npub trait Three {\n    fn third(&self) -> u8\n        ensures { result ≡ 3 };\n}\n"
         self.laid(source, ["two::twice"], {})
-        wanted = source.replace("        self.one\n", "loop {}\n").replace("        Two { one }\n", "loop {}\n")
-        self.assertEqual(self.code, wanted)
+        self.assertEqual(self.code, source.replace("        self.one\n", "loop {}\n"))
         self.laid(SOURCE.replace("        self.one\n", "        let one = self.one;\n\n        one\n"), ["two::twice"], {})
         self.assertIn("{\nloop {}\n\n\n    }\n", self.code)
 
     def test_the_proofs_of_what_is_looked_at_are_all_there_and_no_other(self) -> None:
         found = self.laid(SOURCE, ["two::twice"], {"two/twice/Answers.antt": "returns c = c\n", "two/Two/first/Answers.antt": "", "two/Two/first/Invariants.antt": "", "Low.antt": "law"})
-        self.assertEqual(sorted(found), ["Low.antt", "two/Two/first/Proof.antt", "two/TwoFrom/from/Proof.antt", "two/twice/Answers.antt"])
-        self.assertNotIn("_spec", found["two/Two/first/Proof.antt"] + found["two/TwoFrom/from/Proof.antt"])
+        self.assertEqual(sorted(found), ["Low.antt", "two/Two/first/Proof.antt", "two/twice/Answers.antt"])
+        self.assertNotIn("_spec", found["two/Two/first/Proof.antt"])
         self.assertIn("\nreturns c = c\n", found["two/twice/Answers.antt"])
         self.assertIn(f"pub {NO_GOAL} : {NO_GOAL}s.{NO_GOAL}\n", found["two/twice/Answers.antt"])
         self.assertIn(f"use Rattle.low.proofs.two.twice.Goals as {NO_GOAL}s\n", found["two/twice/Answers.antt"])
 
     def test_what_a_trait_declares_has_no_proof(self) -> None:
         source = SOURCE + "\npub trait Three {\n    fn third(&self) -> u8\n        ensures { result ≡ 3 };\n    fn fourth(&self);\n}\n\npub fn law()\n    ensures { Law }\n{}\n"
-        self.assertEqual(sorted(self.laid(source, ["two::twice"], {})), ["two/Two/first/Proof.antt", "two/TwoFrom/from/Proof.antt", "two/law/Proof.antt", "two/twice/Answers.antt"])
+        self.assertEqual(sorted(self.laid(source, ["two::twice"], {})), ["two/Two/first/Proof.antt", "two/law/Proof.antt", "two/twice/Answers.antt"])
 
     def test_a_file_brings_its_goals_in_once(self) -> None:
         brought = "use Rattle.low.proofs.two.twice.Goals as goal\n"
