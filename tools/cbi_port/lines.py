@@ -33,7 +33,7 @@ class Sheet:
     def __init__(self, tokens: Sequence[Token], first: str) -> None:
         self.tokens, self.first = tokens, first
         self.parts: Dict[str, List[Any]] = {first: []}
-        self.head: List[str] = []
+        self.head: List[Any] = []
         self.tail: List[Any] = []
         self.apart: List[Tuple[str, Any]] = []  # what has lines that another one has already, and their files
 
@@ -57,7 +57,7 @@ class Sheet:
         """The whole text, and whose its lines are."""
         out: List[str] = []
         lines: List[Line] = []
-        now = ["".join(text + " " for text in self.head)]
+        now = ["".join([plain(outer(tree)) + " " for tree in self.head])]
 
         def end(line: Line) -> None:
             out.append("".join(now).rstrip(" \t"))
