@@ -9,9 +9,10 @@ from looking import TOOLS, Case
 
 sys.path.insert(0, TOOLS)
 import cbi_port  # noqa: E402
-from cbi_port import builds, nodes  # noqa: E402
+from cbi_port import blocks, builds, late, nodes  # noqa: E402
+from cbi_port.names import names_of  # noqa: E402
 from cbi_port.types import INT  # noqa: E402
-from cbi_port.writer import text_of, written  # noqa: E402
+from cbi_port.writer import definition, plain, statement, text_of, written  # noqa: E402
 
 
 def builds_32():
@@ -58,6 +59,46 @@ def shape_read(tree):
     return (sign, *[shape_read(child) for _, child in tree.children()])
 
 
+def shape_of(it):
+    """What a statement of the typed tree says; blocks have a shape, and what has no text has none."""
+    if isinstance(it, blocks.Evaluate):
+        return shape(it.code)
+    if isinstance(it, blocks.Declare):
+        return ("Decl", it.object.name, it.object.stars, it.object.bounds, None if it.begin is None else shape(it.begin))
+    parts = {blocks.If: ("condition", "then", "other"), blocks.While: ("condition", "body"), blocks.Do: ("condition", "body"), blocks.For: ("first", "condition", "step", "body"),
+             blocks.Return: ("code",)}.get(type(it), ())
+    inner = [getattr(it, name) for name in parts]
+    rows = [None if part is None or isinstance(part, blocks.Empty) else shape(part) if isinstance(part, nodes.Node) else shape_of(part) for part in inner]
+    return (type(it).__name__, *rows, *map(shape_of, getattr(it, "items", ())))
+
+
+def shape_of_read(tree):
+    """The same of a statement that pycparser has read."""
+    what = type(tree).__name__
+    if what == "DeclList":
+        return shape_of_read(tree.decls[0])
+    if what == "Decl":
+        stars, bounds, inner = 0, (), tree.type
+        while type(inner).__name__ != "TypeDecl":
+            stars += type(inner).__name__ == "PtrDecl"
+            bounds += (int(inner.dim.value),) if type(inner).__name__ == "ArrayDecl" else ()
+            inner = inner.type
+        return ("Decl", tree.name, stars, bounds, None if tree.init is None else shape_read(tree.init))
+    names = {"If": ("cond", "iftrue", "iffalse"), "While": ("cond", "stmt"), "DoWhile": ("cond", "stmt"), "For": ("init", "cond", "next", "stmt"), "Return": ("expr",),
+             "Compound": (), "Break": (), "Continue": (), "EmptyStatement": ()}
+    if what not in names:
+        return shape_read(tree)
+    rows = [None if part is None or type(part).__name__ == "EmptyStatement" else shape_of_read(part) for part in (getattr(tree, name) for name in names[what])]
+    word = {"DoWhile": "Do", "Compound": "Block", "EmptyStatement": "Empty"}.get(what, what)
+    return (word, *rows, *map(shape_of_read, (tree.block_items or []) if what == "Compound" else []))
+
+
+def names_read(tree):
+    """The names in what pycparser has read, but those of members and of what a function has as its types."""
+    found = {tree.name} if type(tree).__name__ in ("ID", "Decl", "Struct") else set()
+    return found.union(*(names_read(child) for name, child in tree.children() if name != "field"))
+
+
 class Trees(Case):
     """The typed tree, and what is written of it."""
 
@@ -74,6 +115,48 @@ class Trees(Case):
             lambda: nodes.Behind(INT, chance.choice(["--", "++"]), name), lambda: nodes.Cast(INT, chance.choice(["int", "char"]), part()), lambda: nodes.Converted(INT, part()),
             lambda: nodes.Choice(INT, part(), part(), part()), lambda: nodes.Assign(INT, name, part(), chance.choice(["=", "+=", "<<="])), lambda: nodes.Comma(INT, (part(), part())),
             lambda: nodes.Call(INT, "f", (part(), part())), lambda: nodes.Index(INT, part(), part()), lambda: nodes.Part(INT, nodes.Group(INT, part()), "m", chance.random() < 0.5)])()
+
+    def statement(self, chance, depth):
+        """A statement by chance, within a loop."""
+        def part():
+            return self.statement(chance, depth - 1)
+
+        def code():
+            return self.made(chance, chance.randint(0, 2))
+        if depth == 0:
+            return chance.choice([lambda: blocks.Evaluate(code()), blocks.Empty, lambda: blocks.Return(code()), blocks.Return, blocks.Break, blocks.Continue])()
+        return chance.choice([
+            lambda: blocks.Block(tuple(part() for _ in range(chance.randint(0, 3)))), lambda: blocks.If(code(), blocks.Block((part(),)), part()), lambda: blocks.If(code(), part()),
+            lambda: blocks.While(code(), part()), lambda: blocks.Do(blocks.Block((part(), part())), code()), lambda: blocks.For(blocks.Empty(), None, code(), part()),
+            lambda: blocks.For(blocks.Declare(blocks.Declarator(INT, "int", 0, "d"), nodes.Number(INT, 1)), code(), None, part()),
+            lambda: blocks.Block((blocks.Declare(blocks.Declarator(INT, "struct s", 2, "e", (3, 4))), part()))])()
+
+    def test_what_is_written_of_statements_is_the_tree(self):
+        """Functions of statements by chance, pycparser reads as these; and the pass that finds names finds those that are read."""
+        from pycparser import c_parser
+        chance, parser = random.Random(11), c_parser.CParser()
+        parameters = tuple(blocks.Declarator(INT, "int", 0, name) for name in "abc")
+        for at in range(300):
+            items = (blocks.While(nodes.Number(INT, 1), blocks.Block(tuple(self.statement(chance, chance.randint(0, 4)) for _ in range(3)))),)
+            tree = blocks.Definition(blocks.Head(f"g_{at}", "struct t", 1, parameters), (), items, (blocks.Return(nodes.Name(INT, "a")),))
+            read = parser.parse(plain(definition(tree))).ext[0]
+            self.assertEqual([shape_of_read(it) for it in read.body.block_items], [*map(shape_of, items), ("Return", "a")], plain(definition(tree)))
+            self.assertEqual(names_of(tree) - {""}, names_read(read))
+
+    def test_what_was_left_open_is_decided(self):
+        """What a function does where it returns goes by whether it has objects in memory, and what begins at zero by whether it is copied."""
+        name, zero, more = (nodes.Name(INT, it) for it in ("a", "zero", "more"))
+        leaving = blocks.Leaving(blocks.Return(name), blocks.Block((blocks.Evaluate(zero), blocks.Return(name))), 7)
+        tree = blocks.Definition(blocks.Head("f", "int", 0, ()), (), (blocks.If(name, leaving),))
+        self.assertEqual([plain(definition(late.left(tree, framed))) for framed in (False, True)],
+                         ["int f(void) { if (a) return a; }", "int f(void) { if (a) { zero; return a; } }"])
+        self.assertIn(7, definition(late.left(tree, True)))
+        choices = [late.Choice(["s"], nodes.Later(INT, 1), more), late.Choice(["t"], zero, nodes.Null(INT)), late.Choice(["t"], blocks.Evaluate(zero), None)]
+        rows = blocks.Block((blocks.Evaluate(nodes.Later(INT, 0, 5)), blocks.Declare(blocks.Declarator(INT, "int", 0, "x"), None, blocks.Perhaps(2))))
+        due = {"": "{ more; int x; }", "s": "{ NULL; int x; }", "t": "{ more; int x; zero; }", "st": "{ zero; int x; zero; }"}
+        for copied, text in due.items():
+            self.assertEqual(plain(statement(late.decided(rows, choices, set(copied)))), text)
+        self.assertEqual(statement(late.decided(rows, choices, {"s"}))[2], 5)
 
     def test_what_is_written_is_the_tree(self):
         """What is written of 2,000 trees, pycparser reads as these: parentheses stand where C wants them, and signs are kept apart."""

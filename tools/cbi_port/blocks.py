@@ -166,9 +166,8 @@ class Record:
 
 @dataclass(frozen=True)
 class Template:
-    """A function or a global of the tool's own, which is given as text of the dialect: its head, and all of it."""
+    """A piece of the prelude that is kept as text of the dialect."""
     name: str
-    head: str
     text: str
 
 

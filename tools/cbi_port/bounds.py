@@ -4,7 +4,7 @@ An access to any other byte is trap 6, and trap 7 where the object's life has en
 """
 from typing import Any, Dict, List, Optional, Tuple
 
-from cbi_port.blocks import Evaluate, Statement
+from cbi_port.blocks import Declarator, Declare, Evaluate, Statement
 from cbi_port.byte_objects import BASE, FRAME, moved
 from cbi_port.bytes import Bytes, table
 from cbi_port.nodes import Assign, Binary, Call, Group, Index, Name, Node, Number, decimal
@@ -93,7 +93,7 @@ class BoundedBytes(Bytes):
                 continue
             for byte in range(at - BASE, at - BASE + size):
                 words[byte // 32] |= 1 << byte % 32
-        helpers.heads.insert(0, f"unsigned cbi_live[{self.words // 8}];")
+        helpers.heads.insert(0, Declare(Declarator(UINT, "unsigned", 0, "cbi_live", (self.words // 8,))))
         if words:
             helpers.heads.insert(1, table("cbi_image_live", words))
             self.begin("cbi_begin_image", "cbi_image_live", len(words))

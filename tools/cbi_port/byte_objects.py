@@ -341,9 +341,6 @@ class ByteObjects(Objects):
             return name, [Evaluate(stored.code)]
         return super().take_parameter(symbol)
 
-    def begin_function(self, symbol: Symbol, body: Any) -> None:
-        pass
-
     def entry(self, body: Any) -> List[Statement]:
         if not body.frame:
             return []

@@ -1,18 +1,28 @@
 """Memory as bytes: the library's functions of it, and what it begins with."""
 from typing import Any, Dict, List, Sequence, Tuple
 
-from cbi_port.blocks import Evaluate, Statement, Template
+from cbi_port.blocks import Declarator, Declare, Definition, Evaluate, Head, If, Record, Return, Statement
 from cbi_port.byte_objects import BASE, STACK, ByteObjects
 from cbi_port.images import runs
-from cbi_port.nodes import Binary, Call, Name, Node, Number
+from cbi_port.nodes import Assign, Binary, Braces, Call, Name, Node, Number, Part
 from cbi_port.types import CHAR, INT, UINT, VOID, Function, Pointer
 from cbi_port.values import Value, word
 
 
-def table(name: str, numbers: Sequence[int]) -> str:
+def table(name: str, numbers: Sequence[int]) -> Declare:
     """An array of numbers without signs."""
-    rows = [f"{number}u" if number > 0x7fffffff else str(number) for number in numbers]
-    return f"unsigned {name}[{len(rows)}] = {{ {', '.join(rows)} }};"
+    items = tuple(Number(UINT, number, number > 0x7fffffff) for number in numbers)
+    return Declare(Declarator(UINT, "unsigned", 0, name, (len(items),)), Braces(UINT, items))
+
+
+def head(name: str, result: str, *parameters: str) -> Head:
+    """The head of a function that takes numbers without signs."""
+    return Head(name, result, 0, tuple(Declarator(UINT, "unsigned", 0, it) for it in parameters))
+
+
+def number_function(name: str, number: int) -> Definition:
+    """A function that gives a number."""
+    return Definition(head(name, "unsigned"), (), (Return(word(number)),))
 
 
 class Bytes(ByteObjects):
@@ -82,31 +92,44 @@ class Bytes(ByteObjects):
         plain, handed = self.program.sort_call, self.program.sort_call_with
         if not plain and not handed:
             return
-        last = f"return {plain}(order, a, b);" if plain else "return 0;"
+        given = tuple(Name(UINT, it) for it in ("order", "a", "b"))
+        rows: List[Statement] = [Return(Call(INT, plain, given) if plain else Number(INT, 0))]
         if handed:
-            helpers.heads.append("struct cbi_handed { unsigned value; int is; }; struct cbi_handed cbi_with; void cbi_sort(unsigned at, unsigned count, unsigned size, unsigned order);")
-            last = f"if (cbi_with.is) return {handed}(order, a, b, cbi_with.value); {last}"
-            helpers.heads.append("void cbi_sort_with(unsigned at, unsigned count, unsigned size, unsigned order, unsigned with);")
-            helpers.tails.append(Template("cbi_sort_with", "", "void cbi_sort_with(unsigned at, unsigned count, unsigned size, unsigned order, unsigned with) { unsigned before = cbi_with.value; int was = cbi_with.is; "
-                                 "cbi_with.value = with; cbi_with.is = 1; cbi_sort(at, count, size, order); cbi_with.value = before; cbi_with.is = was; }"))
-        helpers.heads.append("int cbi_order(unsigned order, unsigned a, unsigned b);")
-        helpers.tails.append(Template("cbi_order", "", f"int cbi_order(unsigned order, unsigned a, unsigned b) {{ {last} }}"))
+            with_ = Name(UINT, "cbi_with")
+            value, is_ = Part(UINT, with_, "value"), Part(INT, with_, "is")
+            self.sort_with(helpers, value, is_)
+            rows.insert(0, If(is_, Return(Call(INT, handed, (*given, value)))))
+        helpers.add(Definition(head("cbi_order", "int", "order", "a", "b"), (), tuple(rows)))
 
-    def main_arguments(self, helpers: Any, count: int) -> Tuple[str, str]:
+    def sort_with(self, helpers: Any, value: Node, is_: Node) -> None:
+        """A sort that hands something to each comparison."""
+        at, count, size, order, with_ = names = tuple(Name(UINT, it) for it in ("at", "count", "size", "order", "with"))
+        before, was = Name(UINT, "before"), Name(INT, "was")
+        helpers.heads += [Record("cbi_handed", (Declarator(UINT, "unsigned", 0, "value"), Declarator(INT, "int", 0, "is"))),
+                          Declare(Declarator(UINT, "struct cbi_handed", 0, "cbi_with")), head("cbi_sort", "void", *(it.name for it in names[:4]))]
+        sets = [(value, with_), (is_, Number(INT, 1)), (value, before), (is_, was)]
+        rows: List[Statement] = [Evaluate(Assign(to.type, to, it)) for to, it in sets]
+        rows.insert(2, Evaluate(Call(VOID, "cbi_sort", (at, count, size, order))))
+        first = (Declare(Declarator(UINT, "unsigned", 0, "before"), value), Declare(Declarator(INT, "int", 0, "was"), is_))
+        helpers.add(Definition(head("cbi_sort_with", "void", *(it.name for it in names)), first, tuple(rows)))
+
+    def main_arguments(self, helpers: Any, count: int) -> Tuple[List[Node], List[Statement]]:
         if count == 0:
-            return "", ""
+            return [], []
         words = self.program.args
         if words == "first-line":
             at = self.words_room()
-            return ", ".join(["cbi_count", f"{at}u", f"{at + 4 * 66}u"][:count]), f"int cbi_count = cbi_first_line({at}u); "
+            begin = Declare(Declarator(INT, "int", 0, "cbi_count"), Call(INT, "cbi_first_line", (word(at),)))
+            return [Name(INT, "cbi_count"), word(at), word(at + 4 * 66)][:count], [begin]
         row = ["prog"] + list(words or [])
         at = self.static_room(4 * (len(row) + 2), 4)
-        for index, word in enumerate(row):
-            data = word.encode("utf-8") + b"\0"
+        for index, text in enumerate(row):
+            data = text.encode("utf-8") + b"\0"
             place = self.static_room(len(data), 1)
             self.write(place - BASE, data, None)
             self.write(at - BASE + 4 * index, place.to_bytes(4, "little"), None)
-        return ", ".join([str(len(row)), f"{at}u", f"{at + 4 * (len(row) + 1)}u"][:count]), ""
+        given: List[Node] = [Number(INT, len(row)), word(at), word(at + 4 * (len(row) + 1))]
+        return given[:count], []
 
     words_at = 0
 
@@ -131,12 +154,10 @@ class Bytes(ByteObjects):
             raise self.program.refuse(None, "more than two and a half megabytes of objects", "smaller arrays")
         data = self.image.rstrip(b"\0")
         words = runs([int.from_bytes(data[at:at + 4].ljust(4, b"\0"), "little") for at in range(0, len(data), 4)])
-        helpers.heads.insert(0, f"unsigned cbi_m[{self.words}];")
+        helpers.heads.insert(0, Declare(Declarator(UINT, "unsigned", 0, "cbi_m", (self.words,))))
         if words:
             helpers.heads.insert(1, table("cbi_image", words))
             self.begin("cbi_begin", "cbi_image", len(words))
-        helpers.heads.append("unsigned cbi_stack_begin(void); unsigned cbi_heap_begin(void); unsigned cbi_heap_end(void);")
-        helpers.tails.append(Template("cbi_stack_begin", "", f"unsigned cbi_stack_begin(void) {{ return {end}u; }}"))
-        helpers.tails.append(Template("cbi_heap_begin", "", f"unsigned cbi_heap_begin(void) {{ return {end + STACK}u; }}"))
-        helpers.tails.append(Template("cbi_heap_end", "", f"unsigned cbi_heap_end(void) {{ return {4 * self.words}u; }}"))
+        for name, at in (("cbi_stack_begin", end), ("cbi_heap_begin", end + STACK), ("cbi_heap_end", 4 * self.words)):
+            helpers.add(number_function(name, at))
         self.orders(helpers)

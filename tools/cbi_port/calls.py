@@ -1,14 +1,13 @@
 """Calls (C99 6.5.2.2), also by pointers, and arguments of which no parameter tells the type (7.15)."""
 from typing import Any, List, Optional, Sequence, Tuple
 
-from cbi_port.blocks import Block, Declarator, Definition, Evaluate, Head, If, Return, Statement
 from cbi_port.conversions import number
-from cbi_port.nodes import Binary, Call, Name, Node, Number
+from cbi_port.nodes import Call, Node
 from cbi_port.operators import Operators
 from cbi_port.scopes import BUILTIN, Symbol, plain_name
 from cbi_port.trees import kind
-from cbi_port.types import (DOUBLE, FLOAT, INT, UCHAR, UINT, VALIST, VOID, Array, CType, Function, Int, List_, Pointer, Quals, Struct, Void, exactly,
-                            is_float, is_long, is_pointer, is_whole, promoted, same, size_of, spelled)
+from cbi_port.types import (DOUBLE, FLOAT, INT, UINT, VOID, Array, CType, Function, Int, List_, Pointer, Quals, Struct, exactly, is_long, is_pointer,
+                            is_whole, promoted, size_of, spelled)
 from cbi_port.values import Value, retyped, word
 
 
@@ -133,71 +132,12 @@ class Calls(Operators):
         return Value(type_.result, Call(type_.result, name, tuple(given), None, self.place_of(node)), pure=False)
 
     def dispatcher(self, type_: Function, kinds: Sequence[CType]) -> str:
-        key = (self.head_of(type_.result), is_float(type_.result),
-               tuple((self.model.base(it), is_whole(it), is_float(it)) for it in kinds), type_.more)
-        if key not in self.dispatchers:
-            self.dispatchers[key] = (f"cbi_call_{len(self.dispatchers) + 1}", type_, list(kinds))
+        """The function for a kind of calls by pointers."""
+        before = len(self.dispatch.kinds)
+        name = self.dispatch.kind(type_, kinds)
+        if len(self.dispatch.kinds) > before:
             self.count("kinds of calls by pointers")
-        return self.dispatchers[key][0]
-
-    def head_of(self, result: CType) -> Tuple[str, int]:
-        """How the result of a function is spelled, and its stars."""
-        if is_whole(result):
-            return self.model.whole(result)
-        if result == UCHAR:
-            return "int", 0  # a char of the text has a sign
-        return self.model.base(result)
-
-    def parameter(self, type_: CType, name: str) -> Declarator:
-        base, stars = self.model.whole(type_) if is_whole(type_) else self.model.base(type_)
-        return Declarator(type_, base, stars, name)
-
-    def signature(self, name: str, type_: Function, kinds: Sequence[CType], names: Sequence[str], lead: Sequence[Declarator] = ()) -> Head:
-        """A function's head. What is handed on by its place is a pointer."""
-        rows = [self.parameter(type_.result, "cbi_result")] if is_whole(type_.result) else []
-        rows += [*lead, *(self.parameter(it, word) for it, word in zip(kinds, names))]
-        if type_.more:
-            rows.append(self.parameter(VALIST, "cbi_more"))
-        return Head(name, *self.head_of(type_.result), tuple(rows))
-
-    def dispatched(self, name: str, type_: Function, kinds: Sequence[CType]) -> Definition:
-        """The function that goes through all that a call by a pointer may be."""
-        names = [f"cbi_{place}" for place in range(len(kinds))]
-        function = Name(UINT if self.model.in_bytes else INT, "cbi_function")
-        head = self.signature(name, type_, kinds, names, [self.parameter(function.type, function.name)])
-        rows: List[Statement] = []
-        for symbol, index in self.function_numbers.items():
-            other = symbol.type
-            if not isinstance(other, Function) or other.more != type_.more or not self.takes_so_many(other, type_, kinds):
-                continue
-            if not isinstance(type_.result, Void) and (
-                    self.head_of(other.result) != self.head_of(type_.result) or is_float(other.result) != is_float(type_.result)):
-                continue
-            if any(is_whole(left) != is_whole(right) or is_whole(left) and not same(left, right) and not (is_long(left) and is_long(right) and is_float(left) == is_float(right))
-                   or not self.model.in_bytes and is_pointer(left) != is_pointer(right) or self.model.base(left) != self.model.base(right) and not (
-                       self.may_pass(right, left)) for left, right in zip(other.parameters, kinds)):
-                continue
-            if isinstance(type_.result, Void) and is_whole(other.result):
-                continue
-            given = [Name(it, word) for it, word in zip(kinds, names[:len(other.parameters)])]
-            more = [Name(VALIST, "cbi_more")] * type_.more
-            call = Call(type_.result, symbol.text, (*[Name(type_.result, "cbi_result")] * is_whole(type_.result), *given, *more), symbol)
-            symbol.used = True
-            test = Binary(INT, "==", function, Number(INT, index, self.model.in_bytes))
-            rows.append(If(test, Block((Evaluate(call), Return())) if isinstance(type_.result, Void) else Return(call)))
-        rows.append(Evaluate(Call(VOID, "cbi_no_function", (function,))))
-        return Definition(head, (), tuple(rows))
-
-    def takes_so_many(self, other: Function, type_: Function, kinds: Sequence[CType]) -> bool:
-        """Whether a function is called by so many arguments; one that isn't declared with its parameters leaves the last ones."""
-        return len(other.parameters) == len(kinds) or len(other.parameters) < len(kinds) and not type_.known and not other.known
-
-    def may_pass(self, from_: CType, to: CType) -> bool:
-        if isinstance(from_, Int) and isinstance(to, Int):
-            return is_float(from_) == is_float(to)
-        if self.model.in_bytes:
-            return not is_whole(from_) and not is_whole(to)
-        return is_pointer(from_) and is_pointer(to) and (isinstance(from_.to, Void) or isinstance(to.to, Void))
+        return name
 
     # What stands for GNU C, and va_arg.
 

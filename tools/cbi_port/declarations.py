@@ -2,6 +2,7 @@
 from typing import TYPE_CHECKING, Any, Dict, List, Optional, Sequence, Set, Tuple
 
 from cbi_port.blocks import Statement
+from cbi_port.dispatch import Dispatch
 from cbi_port.lines import Refusal, Sheet, Token
 from cbi_port.nodes import Assign, Name, Node, Part, product
 from cbi_port.reader import HEADERS
@@ -86,8 +87,7 @@ class Context:
     wrapped: Set[str]
     wrappers: Dict[str, Symbol]
     library_names: Set[str]
-    function_numbers: Dict[Symbol, int]
-    dispatchers: Dict[Any, Tuple[str, Function, List[CType]]]
+    dispatch: Dispatch
     label_owner: Any
     makers_of_text: Any         # Wrappers
 

@@ -3,6 +3,7 @@ from typing import Any, Dict, List, Sequence, Tuple
 
 from cbi_port.blocks import Definition, Head, Nothing, Return, Statement
 from cbi_port.body import Body
+from cbi_port.dispatch import signature
 from cbi_port.late import left
 from cbi_port.library import Library
 from cbi_port.nodes import Name, Null, Number
@@ -20,11 +21,11 @@ class Functions(Unwinding, Library):
     scopes: Dict[str, Scope]
 
     def function_number(self, symbol: Symbol) -> int:
+        """The number that stands for a function's address."""
         self.use(symbol)
-        if symbol not in self.function_numbers:
-            self.function_numbers[symbol] = len(self.function_numbers) + 1
+        if symbol not in self.dispatch.numbers:
             self.count("functions with an address")
-        return self.function_numbers[symbol]
+        return self.dispatch.number(symbol)
 
     def define(self, symbol: Symbol, item: Any, unit: Unit) -> None:
         """Writes a function's definition."""
@@ -41,13 +42,12 @@ class Functions(Unwinding, Library):
         self.prepare(item)
         main = symbol.name == "main" and symbol.unit != "prelude"
         begins = main and symbol.text == "main"
-        self.model.begin_function(symbol, body)
         self.at_level = True
         for inner in item.body.block_items or []:
             self.level_statement(inner)
         self.finish(item)
         last = self.at_end(item, type_, symbol)
-        head = Head("main", "int", 0, ()) if begins else self.signature(symbol.text, type_, type_.parameters, names)
+        head = Head("main", "int", 0, ()) if begins else signature(self.model, symbol.text, type_, type_.parameters, names)
         first = (*body.declarations(), *self.model.entry(body), *entry, *body.first_rows)
         found = Definition(head, first, tuple(body.out), last, begins, symbol, self.place_of(item.decl), self.place_of(item.body))
         self.put_definition(left(found, bool(body.frame)), self.tokens[max(self.place_of(item.decl), 0)].file)

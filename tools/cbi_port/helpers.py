@@ -1,43 +1,19 @@
 """What is added to a text: declarations on its first line, and functions behind its end."""
-import os
-import re
 from dataclasses import replace
-from typing import Any, Dict, List, Sequence, Set, Tuple
+from typing import Any, List, Set
 
 from cbi_port import Ported
-from cbi_port.alike import cells
 from cbi_port.authors import authored, notes_in
-from cbi_port.blocks import Definition, Evaluate, Head, Statement, Template
+from cbi_port.blocks import Definition, Evaluate, Head, Return, Statement, Template
+from cbi_port.by_types import ByTypes
+from cbi_port.dispatch import signature
 from cbi_port.dump import dumped
 from cbi_port.late import decided
 from cbi_port.lines import Refusal
 from cbi_port.names import names_of
-from cbi_port.nodes import Call, Name
-from cbi_port.types import UINT, VOID, CType, Pointer, Struct, Void, is_long, is_whole, to_function
-from cbi_port.writer import plain, prototype, record, statement, text_of
-
-HERE = os.path.join(os.path.dirname(os.path.abspath(__file__)), "prelude")
-WORD = re.compile(r"\bcbi_\w+")
-
-
-def raw_pieces(names: Sequence[str]) -> Dict[str, Tuple[str, str]]:
-    """The functions of prelude files that are in the dialect: a head and a definition for each name."""
-    found: Dict[str, Tuple[str, str]] = {}
-    for name in names:
-        with open(os.path.join(HERE, name)) as file:
-            text = re.sub(r"//[^\n]*|/\*.*?\*/", "", file.read(), flags=re.S)
-        for piece in re.findall(r"^struct[^{}()\n]*\{[^{}\n]*\};|^[a-z][^{}\n]*\{\n.*?^\}|^[a-z][^(){};\n]*;", text, re.S | re.M):
-            plain = " ".join(piece.split())
-            match = re.match(r"(?:struct (\w+) \{|([^({=]*?[ *](\w+)\([^)]*\)) \{|[^;=\[]*?[ *](\w+)(?:\[\d+\])?(?: =[^;]*)?;)", plain)
-            if match:
-                if match[1]:
-                    found["struct " + match[1]] = (plain, "")
-                elif match[3]:
-                    found[match[3]] = (match[2] + ";", plain)
-                else:
-                    found[match[4]] = (plain, "")
-    return found
-
+from cbi_port.nodes import Call, Node, Number
+from cbi_port.raw import files_of, wanted
+from cbi_port.types import INT, VOID, Struct, Void, is_whole
 
 def name_of(found: Any) -> str:
     """The name of a function."""
@@ -49,12 +25,12 @@ class Helpers:
 
     def __init__(self, program: Any) -> None:
         self.program = program
-        self.heads: List[str] = []
+        self.heads: List[Any] = []          # declarations of functions and variables, and structs
         self.tails: List[Any] = []          # definitions, and functions of the tool's own
 
     def add(self, found: Any) -> None:
         """Adds a function, which is declared first."""
-        self.heads.append(prototype(found.head) if isinstance(found, Definition) else found.head)
+        self.heads.append(found.head)
         self.tails.append(found)
 
     def ported(self) -> Ported:
@@ -66,18 +42,17 @@ class Helpers:
             self.typed()
         except Refusal as refusal:
             program.tell(refusal)
-        for found in [program.dispatched(*row) for row in program.dispatchers.values()]:
+        for found in map(program.dispatch.definition, program.dispatch.kinds.values()):
             self.add(found)
         self.settle(self.beginning())
         every = [symbol for symbol, _, _ in program.definitions + [it for it in program.waiting if it[0].unit == "prelude" or it[0].object is not None]]
-        heads = [program.signature(symbol.text, symbol.type, symbol.type.parameters, [""] * len(symbol.type.parameters))
+        heads = [signature(model, symbol.text, symbol.type, symbol.type.parameters, [""] * len(symbol.type.parameters))
                  for symbol in every if symbol.emitted and symbol.text != "main"]
         structs = [model.record(struct) for struct in program.structs] if not model.in_bytes else []
-        raw = self.raw(names_of(*sheet.every(), *self.tails, *heads, *program.globals, *structs) | self.named_by_templates())
-        raw_structs = [head for name, (head, tail) in raw.items() if name.startswith("struct ")]
-        raw_heads = [head for name, (head, tail) in raw.items() if not name.startswith("struct ")]
-        sheet.head = [*raw_structs, *map(record, structs), *raw_heads, *self.heads, *map(prototype, heads), *(plain(statement(it)) for it in program.globals)]
-        sheet.tail += [*self.tails, *(Template(name, head, tail) for name, (head, tail) in raw.items() if tail)]
+        raw = wanted(files_of(model), names_of(*sheet.every(), *self.tails, *heads, *program.globals, *structs))
+        raw_structs, raw_heads = ([Template(name, it.head) for name, it in raw.items() if it.is_struct == wants] for wants in (True, False))
+        sheet.head = [*raw_structs, *structs, *raw_heads, *self.heads, *heads, *program.globals]
+        sheet.tail += [*self.tails, *(Template(name, it.text) for name, it in raw.items() if it.text)]
         text, lines = sheet.laid()
         added = sorted({name for name in map(name_of, sheet.tail) if name.startswith("cbi_")} | set(program.added))
         if any(name_of(it) == "main" for it in sheet.tail):
@@ -96,7 +71,7 @@ class Helpers:
             self.add(Definition(Head("cbi_init", "void", 0, ()), tuple(program.first.declarations()), tuple(init)))
         start: List[Statement] = [Evaluate(Call(VOID, "cbi_init", ()))] * bool(init)
         if wrapped:
-            call, rows = model.main_arguments(self, len(main.type.parameters))
+            given, rows = model.main_arguments(self, len(main.type.parameters))
         if model.in_bytes:
             try:
                 model.finish_memory(self)
@@ -104,7 +79,7 @@ class Helpers:
                 program.tell(refusal)
             start = [*model.start, *start]
         if wrapped:
-            self.main_wrapper(main, "".join(plain(statement(it)) + " " for it in start), call, rows)
+            self.main_wrapper(main, [*start, *rows], given)
         return start
 
     def settle(self, start: List[Statement]) -> None:
@@ -121,38 +96,24 @@ class Helpers:
         found = decided(tree, self.program.later, self.all_copied)
         return replace(found, first=(*start, *found.first)) if isinstance(found, Definition) and found.begins else found
 
-    def named_by_templates(self) -> Set[str]:
-        """The names in the functions of the tool's own."""
-        return {name for it in self.tails if isinstance(it, Template) for name in WORD.findall(it.text)}
-
-    def raw(self, names: Set[str]) -> Dict[str, Tuple[str, str]]:
-        """The parts of the prelude's own text that are named, and those that these name."""
-        model = self.program.model
-        pieces = raw_pieces(["raw_bytes.c" if model.in_bytes else "raw_cells.c", *["raw_bounds.c"] * (model.in_bytes and model.bounded), "raw_long.c"])
-        wanted: Set[str] = set()
-        todo = set(names)
-        while todo:
-            name = todo.pop()
-            for key in (name, "struct " + name):
-                if key in pieces and key not in wanted:
-                    wanted.add(key)
-                    todo |= set(WORD.findall(" ".join(pieces[key])))
-        return {name: pieces[name] for name in pieces if name in wanted}
-
-    def main_wrapper(self, main: Any, start: str, call: str, rows: str) -> None:
+    def main_wrapper(self, main: Any, rows: List[Statement], given: List[Node]) -> None:
+        """The function `main` of the text, which calls the program's own."""
         program = self.program
+        call = Call(INT, "cbi_user_main", tuple(given), main)
+        last: List[Statement]
         if isinstance(main.type.result, Void) or is_whole(main.type.result):
-            last = f"cbi_user_main({call}); {'cbi_exit_now(0); ' if program.exit_functions else ''}return 0;"
+            last = [Evaluate(call), *[Evaluate(Call(VOID, "cbi_exit_now", (Number(INT, 0),)))] * program.exit_functions, Return(Number(INT, 0))]
         elif program.exit_functions:
-            last = f"cbi_exit_now(cbi_user_main({call})); return 0;"
+            last = [Evaluate(Call(VOID, "cbi_exit_now", (call,))), Return(Number(INT, 0))]
         else:
-            last = f"return cbi_user_main({call});"
-        self.tails.append(Template("main", "", f"int main(void) {{ {start}{rows}{last} }}"))
+            last = [Return(call)]
+        self.tails.append(Definition(Head("main", "int", 0, ()), (), (*rows, *last)))
 
     # Functions that go by types.
 
     def typed(self) -> None:
         program, model = self.program, self.program.model
+        made = ByTypes(program)
         if model.in_bytes:
             self.all_copied: Set[Any] = set()
             return
@@ -170,17 +131,17 @@ class Helpers:
             if entry.maker and any(struct in self.all_copied for struct in entry.structs):
                 program.makers.setdefault(entry.maker, program.makers_if[entry.maker])
         for name, type_ in program.makers.items():
-            self.add(self.maker(name, type_))
+            self.add(made.maker(name, type_))
         for name, type_ in program.resized.items():
-            self.add(self.resizer(name, type_))
+            self.add(made.resizer(name, type_))
         for (_, name), type_ in program.movers.items():
-            self.add(self.mover(name, type_))
+            self.add(made.mover(name, type_))
         for name, type_ in program.sorters.items():
-            self.add(self.sorter(name, type_, program.sort_call, False))
+            self.add(made.sorter(name, type_, program.sort_call, False))
         for name, type_ in program.sorters_with.items():
-            self.add(self.sorter(name, type_, program.sort_call_with, True))
+            self.add(made.sorter(name, type_, program.sort_call_with, True))
         for name, type_ in program.searchers.items():
-            self.add(self.searcher(name, type_))
+            self.add(made.searcher(name, type_))
         for struct, index, way in sorted(program.union_helpers, key=lambda it: (it[0].tag, it[1], it[2])):
             self.add(model.union_function(struct, index, way))
         cleared: Set[Struct] = set()
@@ -188,67 +149,3 @@ class Helpers:
             for struct in [it for it in program.cleared if it not in cleared]:
                 cleared.add(struct)
                 self.add(model.clear_function(struct))
-
-    def word(self, type_: CType) -> str:
-        if isinstance(type_, Pointer) and not to_function(type_):
-            return "void **"
-        return str(self.program.model.spell(Pointer(type_))) if not to_function(type_) else "int *"
-
-    def store(self, to: str, from_: str, type_: CType) -> str:
-        """An element that is copied; both are pointers."""
-        if isinstance(type_, Struct):
-            return f"{self.program.model.copier(type_)}({to}, {from_});"
-        if is_long(type_):
-            return f"cbi_long_copy({to}, {from_});"
-        return f"*({to}) = *({from_});"
-
-    def per(self, type_: CType) -> int:
-        return cells(type_)
-
-    def maker(self, name: str, type_: CType) -> Template:
-        word, per = self.word(type_), self.per(type_)
-        make = "cbi_malloc" if self.program.keeps_sizes else "malloc"
-        clear = text_of(self.program.model.clear_cells(Name(Pointer(type_), "cbi_at"), type_, Name(UINT, "cbi_count")))
-        head = f"{word}cbi_new_{name}(unsigned cbi_count)" if word != "void **" else f"void *cbi_new_{name}(unsigned cbi_count)"
-        times = (f" * {per}" if per > 1 else "") + " + (cbi_count == 0)" * (not self.program.keeps_sizes)
-        return Template(f"cbi_new_{name}", head + ";", f"{head} {{ {word}cbi_at = {make}(cbi_count{times}); if (cbi_at) {clear}; return cbi_at; }}")
-
-    def resizer(self, name: str, type_: CType) -> Template:
-        word, per = self.word(type_), self.per(type_)
-        head = f"void *cbi_resize_{name}(void *cbi_old, unsigned cbi_count)"
-        body = f"{word}cbi_to; {word}cbi_from = cbi_old; unsigned cbi_had = 0; unsigned cbi_n; "
-        body += f"if (cbi_old != NULL) cbi_had = cbi_size_of(cbi_old) / {per}; if (cbi_old != NULL && cbi_count == 0) {{ cbi_free(cbi_old); return NULL; }} "
-        body += f"cbi_to = cbi_new_{name}(cbi_count); if (cbi_to == NULL) return NULL; "
-        body += f"for (cbi_n = 0; cbi_n < cbi_had && cbi_n < cbi_count; cbi_n++) {self.store('cbi_to + cbi_n', 'cbi_from + cbi_n', type_)} "
-        return Template(f"cbi_resize_{name}", head + ";", f"{head} {{ {body}if (cbi_old != NULL) cbi_free(cbi_old); return cbi_to; }}")
-
-    def mover(self, name: str, type_: CType) -> Template:
-        word = self.word(type_)
-        head = f"{word}cbi_move_{name}({word}cbi_to, {word}cbi_from, unsigned cbi_count)"
-        body = "unsigned cbi_n; if (cbi_count == 0 || cbi_to == cbi_from) return cbi_to; "
-        body += f"{word}cbi_room = malloc(cbi_count * {self.per(type_)}); if (cbi_room == NULL) abort(); "
-        body += f"for (cbi_n = 0; cbi_n < cbi_count; cbi_n++) {self.store('cbi_room + cbi_n', 'cbi_from + cbi_n', type_)} "
-        body += f"for (cbi_n = 0; cbi_n < cbi_count; cbi_n++) {self.store('cbi_to + cbi_n', 'cbi_room + cbi_n', type_)} free(cbi_room); "
-        return Template(f"cbi_move_{name}", head + ";", f"{head} {{ {body}return cbi_to; }}")
-
-    def sorter(self, name: str, type_: CType, call: str, handed: bool) -> Template:
-        """A sort by merging, which keeps the order of what is equal, as glibc's does; something may be handed to each comparison."""
-        word, per = self.word(type_), self.per(type_)
-        sort, more = f"cbi_sort{'_with' * handed}_{name}", ", cbi_with" * handed
-        head = f"void {sort}({word}cbi_at, unsigned cbi_count, int cbi_order{', void *cbi_with' * handed})"
-        body = f"{word}cbi_room; unsigned cbi_half = cbi_count / 2; unsigned cbi_i = 0; unsigned cbi_j = cbi_half; unsigned cbi_n = 0; if (cbi_count < 2) return; "
-        body += f"{sort}(cbi_at, cbi_half, cbi_order{more}); {sort}(cbi_at + cbi_half, cbi_count - cbi_half, cbi_order{more}); "
-        body += f"cbi_room = malloc(cbi_count * {per}); if (cbi_room == NULL) abort(); while (cbi_i < cbi_half && cbi_j < cbi_count) {{ "
-        body += f"if ({call}(cbi_order, cbi_at + cbi_i, cbi_at + cbi_j{more}) <= 0) {{ {self.store('cbi_room + cbi_n', 'cbi_at + cbi_i', type_)} cbi_i++; }} "
-        body += f"else {{ {self.store('cbi_room + cbi_n', 'cbi_at + cbi_j', type_)} cbi_j++; }} cbi_n++; }} "
-        body += f"while (cbi_i < cbi_half) {{ {self.store('cbi_room + cbi_n', 'cbi_at + cbi_i', type_)} cbi_i++; cbi_n++; }} "
-        body += f"for (cbi_i = 0; cbi_i < cbi_n; cbi_i++) {self.store('cbi_at + cbi_i', 'cbi_room + cbi_i', type_)} free(cbi_room); "
-        return Template(sort, head + ";", f"{head} {{ {body}}}")
-
-    def searcher(self, name: str, type_: CType) -> Template:
-        word = self.word(type_)
-        head = f"void *cbi_search_{name}(void *cbi_key, {word}cbi_at, unsigned cbi_count, int cbi_order)"
-        body = "unsigned cbi_low = 0; unsigned cbi_middle; int cbi_sign; while (cbi_low < cbi_count) { cbi_middle = (cbi_low + cbi_count) / 2; "
-        body += f"cbi_sign = {self.program.sort_call}(cbi_order, cbi_key, cbi_at + cbi_middle); "
-        body += "if (cbi_sign == 0) return cbi_at + cbi_middle; if (cbi_sign < 0) cbi_count = cbi_middle; else cbi_low = cbi_middle + 1; } return NULL; "
-        return Template(f"cbi_search_{name}", head + ";", f"{head} {{ {body}}}")

@@ -35,7 +35,7 @@ class Sheet:
     def __init__(self, tokens: Sequence[Token], first: str) -> None:
         self.tokens, self.first = tokens, first
         self.parts: Dict[str, List[Any]] = {first: []}
-        self.head: List[str] = []
+        self.head: List[Any] = []
         self.tail: List[Any] = []
         self.apart: List[Tuple[str, Any]] = []  # what has lines that another one has already, and their files
 
@@ -60,7 +60,7 @@ class Sheet:
         self.notes: List[Tuple[int, int, int]] = []
         out: List[str] = []
         lines: List[Line] = []
-        now = ["".join(text + " " for text in self.head)]
+        now = ["".join([plain(outer(tree)) + " " for tree in self.head])]
 
         def end(line: Line) -> None:
             out.append("".join(now).rstrip(" \t"))

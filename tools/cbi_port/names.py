@@ -30,7 +30,7 @@ def names_of(*trees: Any) -> Set[str]:
         it = stack.pop()
         if not isinstance(it, (Node, Statement, Definition, Head, Declarator, Record)):
             continue
-        if isinstance(it, (Name, Call, Head)):
+        if isinstance(it, (Name, Call, Head, Declarator)):
             found.add(it.name)
         if isinstance(it, (Cast, SizeOf)):
             found.add(tag(it.word))

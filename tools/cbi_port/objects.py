@@ -3,17 +3,16 @@ from dataclasses import replace
 from typing import Any, List, Optional, Tuple
 
 from cbi_port.alike import cells, innermost, is_address
-from cbi_port.blocks import Block, Declarator, Declare, Evaluate, Perhaps, Return, Statement, Template, placed
+from cbi_port.blocks import Block, Declarator, Declare, Definition, Evaluate, For, Head, If, Nothing, Perhaps, Return, Statement, While, placed
 from cbi_port.cells import MOST_CELLS, Cells
 from cbi_port.conversions import number
 from cbi_port.late import Choice
-from cbi_port.nodes import (ADD, EQUAL, LEAST_INT, POSTFIX, Assign, Binary, Braces, Call, Cast, Group, Index, Later, Name, Node, Null, Number, Part,
-                            SizeOf, String, Unary, bare, held, product, sequence)
+from cbi_port.nodes import (ADD, EQUAL, LEAST_INT, POSTFIX, Assign, Behind, Binary, Braces, Call, Cast, Group, Index, Later, Name, Node, Null, Number,
+                            Part, SizeOf, String, Unary, bare, held, product, sequence)
 from cbi_port.scopes import Symbol
 from cbi_port.trees import kind
 from cbi_port.types import CHAR, INT, UINT, VOID, Array, CType, Int, List_, Pointer, Struct, is_long, is_whole, size_of, spread, to_function
 from cbi_port.values import Place, Value, word
-from cbi_port.writer import operand, plain, text_of
 
 ROUNDED = "rounded"    # a count of objects that takes bytes that aren't enough for one as one
 
@@ -192,13 +191,22 @@ class Objects(Cells):
             pointer = Cast(Pointer(type_), "void **", Cast(Pointer(VOID), "void *", pointer))
         return Call(VOID, f"cbi_clear_{self.maker_name(type_)}", (pointer, count))
 
-    def clear_function(self, struct: Struct) -> Template:
-        head = f"void cbi_clear_{struct.tag}(struct {struct.tag} *cbi_at, unsigned cbi_count)"
-        outer = self.pointed(struct, "cbi_at")
-        rows = ["cbi_at->cbi_is = 0;"] if struct.union else []
+    def clear_function(self, struct: Struct) -> Definition:
+        outer, count = self.pointed(struct, "cbi_at"), Name(UINT, "cbi_count")
+        rows: List[Statement] = [self.set_is(outer, Number(INT, 0))] if struct.union else []
         for member in struct.members:
             rows.append(self.clear_member(outer, member, struct))
-        return Template(f"cbi_clear_{struct.tag}", head + ";", f"{head} {{ while (cbi_count) {{ {' '.join(rows)} cbi_at++; cbi_count--; }} }}")
+        steps = [Evaluate(Behind(it.type, sign, it)) for it, sign in ((outer.pointer, "++"), (count, "--")) if it is not None]
+        head = Head(f"cbi_clear_{struct.tag}", "void", 0, (self.declare(Pointer(struct), "cbi_at"), Declarator(UINT, "unsigned", 0, "cbi_count")))
+        return Definition(head, (), (While(count, Block((*(rows or [Nothing()]), *steps))),))
+
+    def which(self, union: Place) -> Node:
+        """What says which member a union has."""
+        assert union.pointer is not None
+        return Part(INT, union.pointer, "cbi_is", True)
+
+    def set_is(self, union: Place, value: Node) -> Statement:
+        return Evaluate(Assign(INT, self.which(union), value))
 
     def pointed(self, struct: Struct, name: str) -> Place:
         """The struct that a parameter of a function of the tool's points to."""
@@ -211,57 +219,60 @@ class Objects(Cells):
         assert outer.pointer is not None
         return Place(member.type, Part(member.type, outer.pointer, self.member_name(member), True, member), member=member if member.bits is not None else None, stored=stored)
 
-    def clear_member(self, outer: Place, member: Any, struct: Struct) -> str:
+    def clear_member(self, outer: Place, member: Any, struct: Struct) -> Statement:
         place = self.bare_member(outer, member, struct)
         type_ = place.type
         if isinstance(type_, (Array, Struct)) or is_long(type_):
-            return text_of(self.clear(place)) + ";"
-        return f"{text_of(place.code)} = {'NULL' if isinstance(type_, (Pointer, List_)) and not to_function(type_) else '0'};"
+            return Evaluate(self.clear(place))
+        return Evaluate(Assign(type_, place.code, self.empty(type_)))
 
-    def copy_function(self, struct: Struct) -> Template:
-        tag = struct.tag
-        head = f"struct {tag} *cbi_copy_{tag}(struct {tag} *cbi_to, struct {tag} *cbi_from)"
+    def copy_function(self, struct: Struct) -> Definition:
+        tag, pointer = struct.tag, Pointer(struct)
         to, from_ = self.pointed(struct, "cbi_to"), self.pointed(struct, "cbi_from")
-        rows = ["cbi_to->cbi_is = cbi_from->cbi_is;"] if struct.union else []
-        counter = False
+        rows: List[Statement] = [self.set_is(to, self.which(from_))] if struct.union else []
         for index, member in enumerate(struct.members, 1):
-            left, right = self.bare_member(to, member, struct), self.bare_member(from_, member, struct)
-            row = self.copy_member(left, right)
-            counter = counter or isinstance(left.type, Array)
-            rows.append(f"if (cbi_from->cbi_is == {index}) {{ {row} }}" if struct.union else row)
+            row = self.copy_member(self.bare_member(to, member, struct), self.bare_member(from_, member, struct))
+            rows.append(If(Binary(INT, "==", self.which(from_), Number(INT, index)), Block((row,))) if struct.union else row)
         if struct.union:
             self.program.cleared.setdefault(struct, None)
-            rows.append(f"if (cbi_from->cbi_is == 0) cbi_clear_{tag}(cbi_to, 1u);")
-        return Template(f"cbi_copy_{tag}", head + ";", f"{head} {{ {'int cbi_n; ' if counter else ''}{' '.join(rows)} return cbi_to; }}")
+            clear = Call(VOID, f"cbi_clear_{tag}", (Name(pointer, "cbi_to"), word(1)))
+            rows.append(If(Binary(INT, "==", self.which(from_), Number(INT, 0)), Evaluate(clear)))
+        counter = [Declare(Declarator(INT, "int", 0, "cbi_n"))] * any(isinstance(member.type, Array) for member in struct.members)
+        head = Head(f"cbi_copy_{tag}", f"struct {tag}", 1, (self.declare(pointer, "cbi_to"), self.declare(pointer, "cbi_from")))
+        return Definition(head, tuple(counter), (*(rows or [Nothing()]), Return(Name(pointer, "cbi_to"))))
 
-    def copy_member(self, left: Place, right: Place) -> str:
+    def copy_member(self, left: Place, right: Place) -> Statement:
         type_, count = innermost(left.type)
+        copier = self.copier(type_) if isinstance(type_, Struct) else "cbi_long_copy"
         if not isinstance(left.type, Array):
-            if isinstance(type_, Struct):
-                return f"{self.copier(type_)}(&{text_of(left.code)}, &{text_of(right.code)});"
-            if is_long(type_):
-                return f"cbi_long_copy(&{text_of(left.code)}, &{text_of(right.code)});"
-            return f"{text_of(left.code)} = {text_of(right.code)};"
-        bare_left, bare_right = left._replace(stored=False), right._replace(stored=False)
-        to, from_ = (plain(operand(self.decayed(it).code, POSTFIX)) for it in (bare_left, bare_right))
-        if isinstance(type_, Struct) or is_long(type_):
-            name = self.copier(type_) if isinstance(type_, Struct) else "cbi_long_copy"
-            inner = f"{name}({to} + cbi_n, {from_} + cbi_n);"
+            if is_whole(type_):
+                return Evaluate(Call(type_, copier, tuple(Unary(Pointer(type_), "&", it.code) for it in (left, right))))
+            return Evaluate(Assign(type_, left.code, right.code))
+        at = Name(INT, "cbi_n")
+        to, from_ = (held(self.decayed(it._replace(stored=False)).code, POSTFIX) for it in (left, right))
+        if is_whole(type_):
+            inner: Node = Call(type_, copier, tuple(Binary(Pointer(type_), "+", it, at) for it in (to, from_)))
         else:
-            inner = f"{to}[cbi_n] = {from_}[cbi_n];"
-        return f"for (cbi_n = 0; cbi_n < {count}; cbi_n++) {inner}"
+            inner = Assign(type_, Index(type_, to, at), Index(type_, from_, at))
+        return For(Evaluate(Assign(INT, at, Number(INT, 0))), Binary(INT, "<", at, Number(INT, count)), Behind(INT, "++", at), Evaluate(inner))
 
-    def union_function(self, struct: Struct, index: int, way: str) -> Template:
+    def union_function(self, struct: Struct, index: int, way: str) -> Definition:
         """What gives the place of a union's member: one that the union then has (`put`), must have (`get`), or both (`use`)."""
         member = struct.members[index - 1]
         name, inner = self.member_name(member), innermost(member.type)[0]
         stored = member.name in struct.forward and isinstance(inner, Pointer) and not to_function(inner)
-        word = "void **" if stored else self.spell(Pointer(member.type)) if not to_function(inner) else "int *"
-        what = f"{word}cbi_{way}_{struct.tag}_{name}(struct {struct.tag} *cbi_at)"
+        base, stars = ("void", 2) if stored else self.base(Pointer(member.type)) if not to_function(inner) else ("int", 1)
+        at, number_ = self.pointed(struct, "cbi_at"), Number(INT, index)
         # One that was made zero as a whole, of which cbi_is is 0, has each member's zero.
-        rows = [f"if (cbi_at->cbi_is != {index}) if (cbi_at->cbi_is) cbi_other_kind();"] * (way != "put") + [f"cbi_at->cbi_is = {index};"] * (way != "get")
-        cast = f"({word.strip()})(void *)" if stored and not isinstance(member.type, Array) else ""
-        return Template(f"cbi_{way}_{struct.tag}_{name}", what + ";", f"{what} {{ {' '.join(rows)} return {cast}{'&' * (not isinstance(member.type, Array))}cbi_at->{name}; }}")
+        other = If(self.which(at), Evaluate(Call(VOID, "cbi_other_kind", ())))
+        rows: List[Statement] = [If(Binary(INT, "!=", self.which(at), number_), other)] * (way != "put") + [self.set_is(at, number_)] * (way != "get")
+        assert at.pointer is not None
+        code: Node = Part(member.type, at.pointer, name, True, member)
+        if not isinstance(member.type, Array):
+            code = Unary(Pointer(member.type), "&", code)
+            code = Cast(code.type, f"{base} {'*' * stars}", Cast(code.type, "void *", code)) if stored else code
+        head = Head(f"cbi_{way}_{struct.tag}_{name}", base, stars, (self.declare(Pointer(struct), "cbi_at"),))
+        return Definition(head, (), (*rows, Return(code)))
 
     # Memory of the library.
 
@@ -437,30 +448,32 @@ class Objects(Cells):
         copier = "cbi_long_copy" if is_long(type_) else self.copier(type_)
         return name, [Evaluate(Call(type_, copier, (Unary(type_, "&", Name(type_, symbol.text)), Name(type_, name))))]
 
-    def begin_function(self, symbol: Symbol, body: Any) -> None:
-        pass
-
     def entry(self, body: Any) -> List[Statement]:
         """What a function does first."""
         return []
 
-    def finish(self, helpers: Any) -> None:
-        pass
-
-    def main_arguments(self, helpers: Any, count: int) -> Tuple[str, str]:
+    def main_arguments(self, helpers: Any, count: int) -> Tuple[List[Node], List[Statement]]:
+        """The arguments of `main`, and what is done before it for them."""
+        given: List[Node] = []
+        rows: List[Statement] = []
         if count == 0:
-            return "", ""
-        words = self.program.args
-        rows = ""
-        if words == "first-line":
-            rows = "int cbi_count = cbi_first_line(cbi_words); "
-            helpers.heads.append("char *cbi_words[66];")
-            return ", ".join(["cbi_count", "cbi_words", "cbi_words + 65"][:count]), rows
-        texts = ['"prog"'] + [quoted(word) for word in words or []]
-        helpers.heads.append(f"char *cbi_words[{len(texts) + 2}];")
+            return given, rows
+        type_ = Pointer(CHAR)
+        table = Name(Pointer(type_), "cbi_words")
+        if self.program.args == "first-line":
+            number_ = Name(INT, "cbi_count")
+            helpers.heads.append(Declare(Declarator(type_, "char", 1, table.name, (66,))))
+            rows.append(Declare(Declarator(INT, "int", 0, "cbi_count"), Call(INT, "cbi_first_line", (table,))))
+            return [number_, table, Binary(table.type, "+", table, Number(INT, 65))][:count], rows
+        texts = ['"prog"'] + [quoted(it) for it in self.program.args or []]
+        helpers.heads.append(Declare(Declarator(type_, "char", 1, table.name, (len(texts) + 2,))))
         for index, text in enumerate(texts):
-            rows += f"cbi_words[{index}] = malloc({len(text) + 1}); cbi_spell(cbi_words[{index}], {text}, cbi_length({text}) + 1, 1); "
-        return ", ".join([str(len(texts)), "cbi_words", f"cbi_words + {len(texts) + 1}"][:count]), rows
+            place, string = Index(type_, table, Number(INT, index)), String(type_, text)
+            length = Binary(INT, "+", Call(INT, "cbi_length", (string,)), Number(INT, 1))
+            rows += [Evaluate(Assign(type_, place, Call(type_, "malloc", (Number(INT, len(text) + 1),)))),
+                     Evaluate(Call(VOID, "cbi_spell", (place, string, length, Number(INT, 1))))]
+        given = [Number(INT, len(texts)), table, Binary(table.type, "+", table, Number(INT, len(texts) + 1))]
+        return given[:count], rows
 
     def word_of_main(self, number: Node) -> Node:
         """One of the words of the input's first line."""

@@ -8,6 +8,7 @@ from cbi_port.blocks import Declare
 from cbi_port.body import Body
 from cbi_port.bounds import BoundedBytes
 from cbi_port.bytes import Bytes
+from cbi_port.dispatch import Dispatch
 from cbi_port.functions import Functions
 from cbi_port.helpers import Helpers
 from cbi_port.late import Choice
@@ -56,8 +57,6 @@ class Program(Functions):
         self.statics: Dict[str, Dict[str, Symbol]] = {}
         self.in_prelude, self.wrap = False, wrap
         self.args, self.stderr = args, stderr
-        self.function_numbers: Dict[Symbol, int] = {}
-        self.dispatchers: Dict[Any, Tuple[str, Function, List[CType]]] = {}
         self.copied: Dict[Struct, None] = {}
         self.cleared: Dict[Struct, None] = {}
         self.makers: Dict[str, CType] = {}
@@ -87,6 +86,7 @@ class Program(Functions):
         self.prelude_symbols: Dict[str, Symbol] = {}
         self.prelude_scope = Scope()
         self.model: Objects = MODELS[memory](self)
+        self.dispatch = Dispatch(self.model)
         self.model.own_calls = self.model.calls()
         self.first = Body("cbi_init", VOID)
         self.function = self.first
@@ -383,10 +383,10 @@ class Program(Functions):
                     self.function = self.first
                     self.scope = Scope()
                     self.begin_static(symbol, symbol.init, symbol.node)
-            for _, (_, type_, kinds) in list(self.dispatchers.items()):
-                before = sum(symbol.used for symbol, _, _ in self.waiting)
-                self.dispatched("", type_, kinds)
-                more = more or before != sum(symbol.used for symbol, _, _ in self.waiting)
+            before = sum(symbol.used for symbol, _, _ in self.waiting)
+            for symbol in {it for kind_ in self.dispatch.kinds.values() for it in self.dispatch.meant(kind_)}:
+                symbol.used = True
+            more = more or before != sum(symbol.used for symbol, _, _ in self.waiting)
         for symbol in list(self.externals.values()) if not self.partial else []:
             if symbol.kind == "variable" and symbol.used and not symbol.defined:
                 self.problems.append(Refusal(symbol.at, f"`{symbol.name}`, which is declared and never defined", DEFINITION))

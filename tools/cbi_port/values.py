@@ -2,7 +2,7 @@
 from typing import Any, Callable, NamedTuple, Optional
 
 from cbi_port.nodes import Converted, Node, Number
-from cbi_port.types import PLAIN, CType, Member, Quals
+from cbi_port.types import PLAIN, UINT, CType, Member, Quals
 
 
 class Value(NamedTuple):
@@ -58,5 +58,4 @@ def retyped(type_: Any, code: Node) -> Node:
 
 def word(value: int) -> Number:
     """A number of 32 bits without a sign, as the text writes it."""
-    from cbi_port.types import UINT
     return Number(UINT, value, True)

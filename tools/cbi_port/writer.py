@@ -5,7 +5,7 @@ What is written are pieces: texts, and the numbers of the tokens at which what f
 from typing import Any, Callable, Dict, List, Optional, Sequence, Union
 
 from cbi_port import blocks, nodes
-from cbi_port.nodes import ADD, ASSIGN, COMMA, COND, LEAST_INT, LEVELS, POSTFIX, UNARY, Node, level
+from cbi_port.nodes import ASSIGN, COMMA, COND, LEAST_INT, LEVELS, POSTFIX, UNARY, Node, level
 
 Piece = Union[str, int]
 
@@ -175,6 +175,8 @@ def outer(it: Any) -> List[Piece]:
         return definition(it)
     if isinstance(it, blocks.Template):
         return [it.text]
+    if isinstance(it, (blocks.Head, blocks.Record)):
+        return [prototype(it) if isinstance(it, blocks.Head) else record(it)]
     return statement(it)
 
 
