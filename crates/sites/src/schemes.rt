@@ -3,7 +3,7 @@ ghost use Rattle.std.specs.Prelude.{◌≡◌};
 use cbi_base::Memory;
 
 /// Why a tree has no site table: it has more than 65,536 sites, or memory is wanting.
-#[derive(Clone, Copy)]
+#[derive(Clone, Copy, Debug, PartialEq, Eq)]
 pub enum SiteError {
     TooManySites,
     Memory,
