@@ -31,6 +31,7 @@ use Rattle.executable.specs.Call.{Call}
 use Rattle.headline.specs.Listed.{TheRankingOfRunsIsTheElimination}
 use Rattle.executable.specs.Closed.{IsElimination, IsEliminationOfLines, OfMeantRuns}
 use Rattle.executable.specs.Steps.{Collects, Deals, Finds, Leave, ListsBugs, ListsLines, Ranks, Replays, RunsListed, Transforms}
+use Rattle.executable.proofs.Accepting.{by-grammar}
 use Rattle.executable.proofs.Leaving.{HeldRuns, collect-left, file-of, held-runs, list-left}
 use Rattle.executable.proofs.Reading.{done-of, put-out, read-stands}
 
@@ -47,7 +48,7 @@ module _ (text : List ℕ) (t : TransformWords) (runs : List Call) (texts : List
       record {
         tree = is.compiled.tree;
         known = is.compiled.known;
-        accepted = is.compiled.accepted;
+        accepted = by-grammar is.compiled.accepted;
         made = held.made;
         make = held.make;
         holds = holds is held;
@@ -121,7 +122,7 @@ ranks-lines law text t r transform listed rank transforms lists call =
     record {
       tree = is.compiled.tree;
       known = is.compiled.known;
-      accepted = is.compiled.accepted;
+      accepted = by-grammar is.compiled.accepted;
       made = left.made;
       are = left.are;
       is_ranking = law t text transform.out listed.out rank.out left.made (Some rank.before) r is.compiled.tree is.compiled.known is is.compiled.accepted left.left done

@@ -1,3 +1,4 @@
+pub mod Accepting
 pub mod Eliminating
 pub mod Leaving
 pub mod Reading

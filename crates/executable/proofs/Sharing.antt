@@ -17,6 +17,7 @@ use Rattle.executable.specs.Shares.{AreRunsOfMachines, AreWidened, IsFarmOfMeant
 use Rattle.executable.specs.Shares.AreRunsOfMachines.{MoreRuns, NoRuns}
 use Rattle.executable.specs.Shares.AreWidened.{AMachine, NoMachines, SomeMachines}
 use Rattle.executable.specs.Steps.{Collects, Ranks, Transforms}
+use Rattle.executable.proofs.Accepting.{by-grammar}
 use Rattle.executable.proofs.Leaving.{collect-left, file-of, held-runs}
 use Rattle.executable.proofs.Reading.{done-of, put-out, read-stands}
 
@@ -90,7 +91,7 @@ farms law text t r machines texts transform collect rank transforms widened coll
     record {
       tree = is.compiled.tree;
       known = is.compiled.known;
-      accepted = is.compiled.accepted;
+      accepted = by-grammar is.compiled.accepted;
       runs = held.runs;
       are = held.are;
       is_ranking = law t text transform.out collect.out rank.out held.runs texts (Some rank.before) r is.compiled.tree is.compiled.known is is.compiled.accepted held.hold

@@ -21,6 +21,7 @@ use Rattle.headline.proofs.Studies.{all-made, length-runs}
 use Rattle.executable.specs.Call.{Call, found_by_call, left_by_call}
 use Rattle.executable.specs.Closed.{IsElimination, IsStudyOfMeantRuns}
 use Rattle.executable.specs.Steps.{Studies}
+use Rattle.executable.proofs.Accepting.{by-grammar}
 use Rattle.executable.proofs.Reading.{done-of, put-out, read-all}
 use Rattle.executable.proofs.Telling.{as_told}
 
@@ -62,7 +63,7 @@ study-means one_bank one_input text out plan result study out_is =
     record {
       tree = tree;
       known = known;
-      accepted = study.compiled.accepted;
+      accepted = by-grammar study.compiled.accepted;
       made = have.made;
       are_made = have.are;
       as_many = have.as_many ∙ length-runs study.endings ∙ study.as_many;

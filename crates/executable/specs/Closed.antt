@@ -10,7 +10,6 @@ use Rattle.ranking.specs.Ranked.{IsRankingOf}
 use Rattle.affinity.specs.Text.{AreCardsOf}
 use Rattle.suspicious_lines.specs.Text.{AreLinesOf}
 use Rattle.bug_rounds.specs.Text.{AreBugsOf}
-use Rattle.compiler.specs.Accepted.{IsAccepted}
 use Rattle.compiler.specs.declared.plan.Plan.{Plan}
 use Rattle.study_runs.specs.declared.plan.StudyPlan.{StudyPlan}
 use Rattle.study_runs.specs.Sums.{Sums}
@@ -31,6 +30,7 @@ use Rattle.command_study.specs.Study.{summary_line}
 use Rattle.headline.specs.Chain.{AreMadeFor, Made, meant_report, meant_run, meant_table}
 use Rattle.headline.specs.Handed.{by_number}
 use Rattle.headline.specs.Headline.{IsPairOf, adds_and_ranks}
+use Rattle.executable.specs.Accepted.{IsAcceptedText}
 use Rattle.executable.specs.Call.{Call}
 use Rattle.executable.specs.Runs.{AllMake, AreRunsOfLines}
 use Rattle.executable.specs.Steps.{Collects, Deals, Finds, Leave, ListsBugs, ListsLines, Ranks, Replays, RunsListed, Studies, Transforms}
@@ -39,7 +39,7 @@ use Rattle.executable.specs.Steps.{Collects, Deals, Finds, Leave, ListsBugs, Lis
 pub record OfMeantRuns (text : List ℕ) (calls : List Call) (P : SourceTree → Walk → List Made → Type 0) : Type 0 where
   pub tree : SourceTree
   pub known : Walk
-  pub accepted : IsAccepted text tree known
+  pub accepted : IsAcceptedText text tree known
   pub made : List Made
   pub make : AllMake calls made
   pub holds : P tree known (by_number made)
@@ -99,7 +99,7 @@ ASessionOfCallsIsTheHeadline =
 pub record IsEliminationOfLines (text : List ℕ) (plan : Plan) (policy : Policy) (listed : Call) (ranking : List ℕ) : Type 0 where
   pub tree : SourceTree
   pub known : Walk
-  pub accepted : IsAccepted text tree known
+  pub accepted : IsAcceptedText text tree known
   pub made : List Made
   pub are : AreRunsOfLines listed made
   pub is_ranking : IsElimination plan policy ranking tree known made
@@ -116,7 +116,7 @@ TheRunsOfAListAreTheHeadline =
 pub record IsStudyOfMeantRuns (text : List ℕ) (plan : StudyPlan) (out : List ℕ) : Type 0 where
   pub tree : SourceTree
   pub known : Walk
-  pub accepted : IsAccepted text tree known
+  pub accepted : IsAcceptedText text tree known
   pub made : List Made
   pub are_made : AreMadeFor plan 1 made
   pub as_many : length made ≡ plan.runs

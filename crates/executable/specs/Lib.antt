@@ -1,3 +1,4 @@
+pub mod Accepted
 pub mod Call
 pub mod Closed
 pub mod Runs

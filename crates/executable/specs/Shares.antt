@@ -5,7 +5,6 @@ use Rattle.c_syntax.specs.ItemTree.{SourceTree}
 use Rattle.c_types_expressions.specs.declared.walk.Walk.{Walk}
 use Rattle.flow.specs.Sites.{PartFits}
 use Rattle.flow.specs.declared.choice.Part.{Part}
-use Rattle.compiler.specs.Accepted.{IsAccepted}
 use Rattle.compiler.specs.declared.plan.Plan.{Plan}
 use Rattle.cbi_options.specs.declared.words.RankWords.{RankWords}
 use Rattle.cbi_options.specs.declared.words.TransformWords.{TransformWords}
@@ -15,6 +14,7 @@ use Rattle.command_transform.specs.Transform.{plan_of}
 use Rattle.headline.specs.Chain.{Made}
 use Rattle.headline.specs.Farm.{IsFarmRanking, PartRun, part_runs}
 use Rattle.headline.specs.Handed.{by_number}
+use Rattle.executable.specs.Accepted.{IsAcceptedText}
 use Rattle.executable.specs.Call.{Call}
 use Rattle.executable.specs.Runs.{AllMake}
 use Rattle.executable.specs.Steps.{Collects, Leave, Ranks, Stands, Succeeds, Transforms}
@@ -72,7 +72,7 @@ pub data AreRunsOfMachines : List Machine → List PartRun → Type 0 where
 pub record IsFarmOfMeantRuns (text : List ℕ) (plan : Plan) (policy : Policy) (machines : List Machine) (ranking : List ℕ) : Type 0 where
   pub tree : SourceTree
   pub known : Walk
-  pub accepted : IsAccepted text tree known
+  pub accepted : IsAcceptedText text tree known
   pub runs : List PartRun
   pub are : AreRunsOfMachines machines runs
   pub is_ranking : IsFarmRanking tree known plan policy runs ranking
