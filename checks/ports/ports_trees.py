@@ -197,6 +197,19 @@ class Trees(Case):
             begin = head.count("\n") + 3
             self.assertEqual([found.get(begin + at) for at in range(len(rows))], due, memory)
 
+    def test_a_parameter_that_stays_is_not_stored_again(self):
+        """A function that calls itself last begins again: of its parameters those alone get values that change."""
+        from pycparser import c_parser
+        name = self.write("a.c", "static int f(int n, int a, unsigned b)\n{\n    if (n == 0) return a + (int)b;\n    return f(n - 1, a, b + 1u);\n}\nint main(void)\n{\n    return f(3, 4, 5u);\n}\n")
+        text = cbi_port.port([name], memory="cells").text.decode()
+        stack, stored = [c_parser.CParser().parse(text)], []
+        while stack:
+            node = stack.pop()
+            if type(node).__name__ == "Assignment" and type(node.lvalue).__name__ == "ID":
+                stored.append(node.lvalue.name)
+            stack.extend(child for _, child in node.children())
+        self.assertEqual(sorted(stored), ["b", "n"])
+
     def test_dump_typed(self):
         """The script writes the typed tree in place of the text: a node a line, with its type and place, further in than the one that has it."""
         self.write("a.c", "struct s { char c; int n; };\nint main(void)\n{\n    struct s x, *p = &x;\n    x.n = 5;\n    return -p->n + 1;\n}\n")

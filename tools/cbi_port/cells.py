@@ -317,7 +317,7 @@ class Cells:
                     raise self.program.refuse(node, "memory of `calloc` or `realloc` without a type", "a pointer to the type that it is to hold", True)
                 return value.as_type(type_)._replace(fresh=None)
             self.program.fresh_types.add(self.spell(type_.to) if not isinstance(type_.to, Array) else "array")
-            return Value(type_, value.fresh(spread(type_.to)[0] if is_open(type_.to) else type_.to), pure=False)
+            return Value(type_, retyped(type_, value.fresh(spread(type_.to)[0] if is_open(type_.to) else type_.to)), pure=False)
         if isinstance(type_.to, Void):
             self.generic(from_, value)
             if implicit or isinstance(from_.to, Void):

@@ -16,7 +16,7 @@ from cbi_port.system import TOLD, VARIABLES
 from cbi_port.trees import kind, without_casts
 from cbi_port.types import (CHAR, INT, LONG, UINT, VOID, Array, CType, Function, Int, Pointer, Struct, Void, is_float, is_long, is_pointer, same, size_of,
                             spelled)
-from cbi_port.values import Value, word
+from cbi_port.values import Value, retyped, word
 
 # What the dialect has itself.
 OWN: Dict[str, Function] = {
@@ -380,7 +380,7 @@ class TypedCalls(ScanCalls):
     def result(self, value: Value, arguments: Sequence[Any], used: bool, node: Any) -> Value:
         """What a moving function gives: its first argument."""
         if not used:
-            return value._replace(type=VOID)
+            return value.as_type(VOID)
         if innermost(value.type.to)[0] == value.type.to and self.program.model.spell(value.type) != "void *" and not is_address(value.type.to):
             return value
         raise self.program.refuse(node, "the value of this call", "a statement of its own", True)
@@ -405,7 +405,7 @@ class TypedCalls(ScanCalls):
                 return place._replace(code=sequence(place.type, before, code, place.code), pure=False, null=False)
         else:
             raise program.refuse(node, f"`memset` of a `{spelled(inner)}` to more than zero", "a loop that stores each value", True)
-        return self.result(Value(to.type, code, pure=False), arguments, used, node)
+        return self.result(Value(to.type, retyped(to.type, code), pure=False), arguments, used, node)
 
     def call_bzero(self, node: Any, arguments: Sequence[Any], used: bool) -> Value:
         raise self.program.refuse(node, "`bzero`", "`memset`", True)

@@ -6,7 +6,7 @@ from typing import Any, Dict, Iterator, List, Tuple
 
 from cbi_port.blocks import Block, Break, While
 from cbi_port.jumps import Jumps
-from cbi_port.nodes import Name, Number, spot
+from cbi_port.nodes import Name, Number, bare
 from cbi_port.scopes import Symbol
 from cbi_port.trees import LOOPS, kind
 from cbi_port.types import INT, CType, Int, Pointer, Void, is_whole
@@ -123,7 +123,7 @@ class Tails(Jumps):
         self.lead(call)
         arguments = call.args.exprs if call.args is not None else []
         values = [self.converted(self.value(it), symbol.type, True, it) for it, symbol in zip(arguments, self.function.parameters)]
-        changed = [(symbol, value) for symbol, value in zip(self.function.parameters, values) if value.code != Name(symbol.type, symbol.text) or spot(value.code) >= 0]
+        changed = [(symbol, value) for symbol, value in zip(self.function.parameters, values) if bare(value.code) != Name(symbol.type, symbol.text)]
         self.add(Block(self.function.gathered(lambda: self.rounds_again(changed, node)), self.place_of(node)))
         return True
 
