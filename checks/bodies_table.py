@@ -80,9 +80,9 @@ def holds(lines: List[str], body: Body, outcome: Outcome) -> bool:
 
 
 def tells(line: str, body: Body, refusal: Refusal) -> bool:
-    """Whether a line tells of this goal, or of no goal of this function, refused as strongly as the line says. Whether a search ends by itself or by a limit depends on the machine."""
+    """Whether a line tells of this goal, refused as strongly as the line says. Whether a search ends by itself or by a limit depends on the machine."""
     way = way_in(line)
-    return line in (row(body, refusal._replace(way=way)), row(body, refusal._replace(goal="", way=way))) and (strength(refusal.way) <= strength(way) or way == "search")
+    return line == row(body, refusal._replace(way=way)) and (strength(refusal.way) <= strength(way) or way == "search")
 
 
 def differs(root: str, every: List[Body], found: Dict[Tuple[str, str], Outcome]) -> List[str]:

@@ -234,8 +234,9 @@ def told(every: List[Function], lines: List[str]) -> Dict[str, List[Refusal]]:
                 # functions that call one another have one proof, whose goals begin with their names
                 of = "::".join([*of.split("::")[:-1], named[1].split("-")[0] if named else ""])
             for it in [it for it in every if it.path == of][:1]:
-                # what is said of no answer, as of an import, or notes, is no goal
-                found.setdefault(it.path, []).append(Refusal(it.path, named[1] if named else "", way(proof[2]) if named else "names", proof[2]))
+                # an error of no answer, as of an import, is of no goal
+                how = way(proof[2]) if named or proof[2].startswith("note: ") else "names"
+                found.setdefault(it.path, []).append(Refusal(it.path, named[1] if named else "", how, proof[2]))
     return found
 
 

@@ -246,8 +246,7 @@ class Page(unittest.TestCase):
 
     def test_a_line_holds_for_each_open_goal(self) -> None:
         first, second = Refusal("twice", "returns", "values", ""), Refusal("twice", "overflow", "search", "")
-        for line_of, refusals, others, well in ((first._replace(goal=""), (first,), (), True), (first._replace(goal="", function="first"), (first,), (), False),
-                                                (second, (first,), (second,), True), (second, (first,), (), False), (first, (first._replace(way="search"),), (), False),
+        for line_of, refusals, others, well in ((second, (first,), (second,), True), (second, (first,), (), False), (first, (first._replace(way="search"),), (), False),
                                                 (second, (second._replace(way="limit"),), (), True), (second, (second._replace(way="values"),), (), True), (second, (first, second), (), False)):
             with tempfile.TemporaryDirectory() as room:
                 write(room, [body("a_body", "twice")], {("low", "a_body"): Outcome("a_body", (line_of,), "")})
