@@ -260,7 +260,7 @@ class Program(Unwinding, Library):
 
     def place_global(self, text: str, symbol: Symbol) -> None:
         token = self.tokens[symbol.at] if 0 <= symbol.at < len(self.tokens) else None
-        if self.in_prelude or token is None or token.file != self.sheet.first:
+        if self.in_prelude or token is None or token.file != self.sheet.first or symbol.inner:
             self.globals_text.append(text)
         else:
             self.sheet.put(token.file, mark(symbol.at) + text)

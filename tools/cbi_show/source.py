@@ -198,14 +198,21 @@ class Source:
 
     def gives_pointer(self, name: str) -> bool:
         """Whether a function of the text, or of the library, gives a pointer."""
-        if name == "malloc":
-            return True
+        return name == "malloc" or self.word(self.declared_at(name) - 1) == "*"
+
+    def gives_object(self, name: str) -> bool:
+        """Whether a function of a ported text gives a number of 64 bits, by where it lies."""
+        at = self.declared_at(name)
+        return [self.word(at - 2), self.word(at - 1)] == ["cbi_long", "*"]
+
+    def declared_at(self, name: str) -> int:
+        """The place of a function's name outside functions; before the text where it isn't there."""
         depth = 0
         for place, token in enumerate(self.tokens):
             depth += (token.text == "{") - (token.text == "}")
             if depth == 0 and token.text == name and self.word(place + 1) == "(":
-                return self.word(place - 1) == "*"
-        return False
+                return place
+        return -2
 
     # Facts
 
