@@ -29,9 +29,6 @@ class Authors:
     def __init__(self, compiled: Source, where: Where, files: Dict[str, Source]):
         self.compiled, self.where, self.files = compiled, where, files
         self.noted = {place: Noted(note.kind, note.text) for note, place in zip(where.notes, compiled.places_at(where.notes)) if place is not None}
-        self.tokens: Dict[int, List[int]] = {}
-        for place, token in enumerate(compiled.tokens):
-            self.tokens.setdefault(token.line, []).append(place)
 
     def own(self, place: int, site: Site) -> bool:
         """Whether a site on a line of the author's is the port's own: it looks at a name, a call or a condition that he didn't write, or at where a number of 64 bits lies."""
@@ -84,7 +81,7 @@ class Authors:
 
     def theirs(self, site: Site) -> List[int]:
         """The places on the line of a site: all that was made of the author's line, but for further copies of its function."""
-        return self.tokens.get(site.line, [])
+        return self.compiled.by_line.get(site.line, [])
 
     def same_head(self, place: int, note: Noted, source: Source, line: int, site: Site) -> Optional[int]:
         ours = source.words_on(line, note.text) or (source.words_on(line, "while") if note.text == "do" else [])
