@@ -110,6 +110,14 @@ class Programs(Case):
         self.assertEqual(cbi_port.read_map(ported.map_text()), (ported.lines, ported.added, ported.names, ported.notes))
 
 
+    def test_lines_before_a_static_variable(self):
+        """A static variable of a function stands elsewhere, and the function's lines stay theirs."""
+        name = self.write("few.c", "int getchar(void);\nint main(void)\n{\n    int c = getchar();\n    if (c == 'a')\n        c++;\n    static int few[2] = { 1, 2 };\n    return few[c & 1];\n}\n")
+        for memory in ("cells", "bytes"):
+            ported = cbi_port.port([name], memory=memory)
+            found = [ported.lines[number] for number, row in enumerate(ported.text.decode("latin-1").split("\n")) if "if (c == 'a')" in row]
+            self.assertEqual(found, [cbi_port.Line(name, 5, False)])
+
     def test_lines_of_copies(self):
         """The copies of a function that gives memory have its lines: six types are asked of `xmalloc`."""
         name = os.path.join(TABLE, "memory_by_wrappers.c")

@@ -9,10 +9,12 @@ from test_pages import sound
 from looking import Case, Hunting, environment, on_terminal
 
 sys.path.insert(0, looking.TOOLS)
+import cbi_show.authors  # noqa: E402
 import cbi_show.command  # noqa: E402
 import cbi_show.files  # noqa: E402
 import cbi_show.source  # noqa: E402
 import cbi_show.told  # noqa: E402
+import cbi_show.where  # noqa: E402
 from cbi_hunt import looks  # noqa: E402
 
 FACTS = """\
@@ -86,10 +88,11 @@ class Facts(Case):
 
     def test_an_assignment_is_found_where_a_port_assigns_more(self):
         """The port of a line gives `t` a value as well: what is given to `n` is the person's, and what is given to `t` isn't."""
-        ours, port = cbi_show.source.Source(["n = scanf(x);"]), cbi_show.source.Source(["n = (t = 1, cbi_scanf(t));"])
-        self.assertEqual([ours.same_word(1, port, [1], place) for place in (1, 4)], [1, None])
-        both = cbi_show.source.Source(["n += 2; n = 3;"])
-        self.assertEqual([both.same_word(1, cbi_show.source.Source(["t = 0; n += 2; n = 3;"]), [1], place) for place in (1, 5, 9)], [None, 1, 5])
+        for line, ported, places, due in (("n = scanf(x);", "n = (t = 1, cbi_scanf(t));", (1, 4), [1, None]), ("n += 2; n = 3;", "t = 0; n += 2; n = 3;", (1, 5, 9), [None, 1, 5])):
+            ours, where = cbi_show.source.Source([line]), cbi_show.where.Where("a.c", {"a.c": [line]}, [("a.c", 1, False)])
+            authors = cbi_show.authors.Authors(cbi_show.source.Source([ported]), where, {"a.c": ours})
+            site = cbi_show.files.Site(0, "pairs", "f", 1, 0, ("n", "n"), False)
+            self.assertEqual([authors.same_word(place, ours, 1, site) for place in places], due)
 
     def test_long_conditions_are_clipped(self):
         self.assertEqual(cbi_show.source.clipped("x" * 61), "x" * 58 + "..")

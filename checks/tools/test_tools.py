@@ -26,6 +26,7 @@ from test_hunts import Hunt, Sample  # noqa: E402,F401
 from test_inputs import Folders, Mutants, Oracles, Smaller  # noqa: E402,F401
 from test_lists import Listed, Retold, Without  # noqa: E402,F401
 from test_manual import Manual  # noqa: E402,F401
+from test_names import Every, Maps, Shown  # noqa: E402,F401
 from test_neighbours import Changes, Neighbours  # noqa: E402,F401
 from test_pages import Pages, Sarif, Style, sound  # noqa: E402,F401
 from test_rates import Rates  # noqa: E402,F401

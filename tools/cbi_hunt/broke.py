@@ -148,7 +148,7 @@ class Places:
         """The function of the port's own in which the run is, as the author calls it, where it is in one that he called by its name."""
         names = [self.traced.functions[frame.function] for frame in self.traced.state.frames]
         own = list(itertools.takewhile(self.where.added.__contains__, reversed(names)))
-        called = re.sub("^cbi_", "", self.where.called(own[-1])) if own else ""
+        called = self.where.named_function(own[-1]) if own else ""
         word = re.compile(rf"\b{called}\b")
         return called if called and any(word.search(line) for lines in self.where.files.values() for line in lines) else ""
 

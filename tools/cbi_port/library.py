@@ -64,6 +64,7 @@ class Library(GnuCalls):
         symbol = self.wrappers.get(name)
         if symbol is None:
             text, type_ = RAW[name]
+            self.names.authors.setdefault(text, name)
             symbol = self.wrappers[name] = Symbol(name, "function", type_, text)
             symbol.outer = symbol.defined = True
             symbol.unit = "prelude"

@@ -263,7 +263,7 @@ class Program(Functions):
 
     def place_global(self, found: Declare, symbol: Symbol) -> None:
         token = self.tokens[symbol.at] if 0 <= symbol.at < len(self.tokens) else None
-        if self.in_prelude or token is None or token.file != self.sheet.first:
+        if self.in_prelude or token is None or token.file != self.sheet.first or symbol.inner:
             self.globals.append(found)
         else:
             self.sheet.put(token.file, replace(found, at=symbol.at))

@@ -26,6 +26,7 @@ class Symbol:
         self.type: Any = type_     # a CType
         self.outer = False         # stands outside functions, or lives as long
         self.static = False
+        self.inner = False         # a static one of a function
         self.memory: Any = None    # its first byte's number, where memory is kept as bytes
         self.defined = False
         self.node: Any = None

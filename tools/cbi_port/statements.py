@@ -265,7 +265,7 @@ class Statements(Initialisers):
 
     def local_static(self, node: Any, type_: CType) -> None:
         symbol = Symbol(node.name, "variable", type_, self.names.take(f"{self.function.name}_{node.name}", node.name))
-        symbol.outer = symbol.static = True
+        symbol.outer = symbol.static = symbol.inner = True
         symbol.align, symbol.quals = self.said_alignment(node), self.quals_of(node.type)
         symbol.at = self.place_of(node)
         self.scope.names[node.name] = symbol

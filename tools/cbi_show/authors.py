@@ -29,23 +29,17 @@ class Authors:
     def __init__(self, compiled: Source, where: Where, files: Dict[str, Source]):
         self.compiled, self.where, self.files = compiled, where, files
         self.noted = {place: Noted(note.kind, note.text) for note, place in zip(where.notes, compiled.places_at(where.notes)) if place is not None}
-        self.lines: Dict[object, List[int]] = {}
-        for number, line in enumerate(where.lines or [], 1):
-            self.lines.setdefault(line, []).append(number)
-        self.tokens: Dict[int, List[int]] = {}
-        for place, token in enumerate(compiled.tokens):
-            self.tokens.setdefault(token.line, []).append(place)
 
     def own(self, place: int, site: Site) -> bool:
-        """Whether a site on a line of the author's is the port's own: it looks at a name, a call or a condition that he didn't write."""
+        """Whether a site on a line of the author's is the port's own: it looks at a name, a call or a condition that he didn't write, or at where a number of 64 bits lies."""
         spot, word = self.where.spot(site.line, site.function), site.names[0]
         if site.scheme == "pairs":
             return any(self.where.called(name).startswith(OF_PORT) for name in site.names)
-        source = self.files[spot.file]
-        if place in self.noted or self.same_word(place, source, spot.line, site) is not None:
-            return False
+        source, note = self.files[spot.file], self.noted.get(place)
+        if note or self.same_word(place, source, spot.line, site) is not None:
+            return note is not None and note.kind.endswith(" object")
         if site.scheme == "returns":
-            return word.startswith(OF_PORT)
+            return word.startswith(OF_PORT) or not source.words_on(spot.line, self.where.called(word))
         if word in HEADS:
             return self.compiled.head(place) != LEFT and (bool(self.where.notes) or source.labels_on(spot.line) is None)
         return not source.words_on(spot.line, self.compiled.word(place))
@@ -86,12 +80,11 @@ class Authors:
     # Places in the author's file
 
     def theirs(self, site: Site) -> List[int]:
-        """The places of the compiled text that were made of the line of a site."""
-        line = self.where.lines[site.line - 1] if self.where.lines else None
-        return [place for number in self.lines.get(line, []) for place in self.tokens.get(number, [])]
+        """The places on the line of a site: all that was made of the author's line, but for further copies of its function."""
+        return self.compiled.by_line.get(site.line, [])
 
     def same_head(self, place: int, note: Noted, source: Source, line: int, site: Site) -> Optional[int]:
-        ours = source.words_on(line, note.text)
+        ours = source.words_on(line, note.text) or (source.words_on(line, "while") if note.text == "do" else [])
         theirs = [at for at in self.theirs(site) if at in self.noted and self.noted[at].kind in ("head", "turned") and self.noted[at].text == note.text]
         return ours[theirs.index(place)] if len(ours) == len(theirs) else None
 

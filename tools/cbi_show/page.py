@@ -115,19 +115,20 @@ def groups_of(rows: List[List[Shown]], view: View, every: Iterable[int], here: S
 
 def sections(view: View, here: Set[Spot]) -> Iterator[str]:
     """The rows of the ranking, in their sections."""
-    every = {shown.row.predicate for shown in view.every()}
+    every = {shown.row.predicate for shown in view.every() if shown not in view.added}
     if view.together:
         yield '<section id="rows"><h3>Facts that go with failures</h3>'
         yield '<p class="quiet">Each is about the runs that no fact above it explains.</p>'
         yield from groups_of(view.together, view, every, here)
         yield keys()
         yield "</section>"
-    for name, title, rows in (("unrelated", UNRELATED, view.unrelated), ("unimportant", UNIMPORTANT, view.unimportant), ("weak", capital(cbi_show.told.weak_line(view)), view.weak),
-                              ("added", capital(cbi_show.told.added_line(view)), view.added)):
+    for name, title, rows in (("unrelated", UNRELATED, view.unrelated), ("unimportant", UNIMPORTANT, view.unimportant), ("weak", capital(cbi_show.told.weak_line(view)), view.weak)):
         if rows:
             yield f'<section id="{name}"><h3>{escaped(title)}</h3>'
             yield from groups_of([[shown] for shown in rows], view, every, here)
             yield "</section>"
+    if view.added:
+        yield f'<section id="added"><p class="quiet">{escaped(cbi_show.told.added_said(view))}</p></section>'
     if view.pair:
         yield f'<section id="pair"><h3>{cbi_show.told.PAIR}</h3><ul>' + "".join(f"<li>{escaped(line)}</li>" for line in cbi_show.told.pair_lines(view.pair, view)) + "</ul></section>"
 
@@ -265,8 +266,7 @@ def fewer_near(view: View, most: int) -> View:
     """The same with at most so many of what falls with each row."""
     def cut(rows: List[Shown]) -> List[Shown]:
         return [shown._replace(near=shown.near[:most]) for shown in rows]
-    return view._replace(together=[cut(group) for group in view.together], unrelated=cut(view.unrelated), unimportant=cut(view.unimportant), weak=cut(view.weak),
-                         added=cut(view.added))
+    return view._replace(together=[cut(group) for group in view.together], unrelated=cut(view.unrelated), unimportant=cut(view.unimportant), weak=cut(view.weak))
 
 
 def title_of(view: View) -> str:

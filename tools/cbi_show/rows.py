@@ -209,14 +209,17 @@ def check_program(ranking: Ranking, program: Program) -> None:
 # Sections
 
 def near_of(card: Optional[Card], wording: Wording, rows: Dict[int, Row]) -> List[Near]:
-    """What falls with a row, with function and line where the program or the ranking tells them."""
+    """What falls with a row, with function and line where the program or the ranking tells them; but for what only the code has that a port added."""
     found = []
     for predicate, fall, text in card.near if card else []:
         site = wording.site(predicate)
-        place = site or rows.get(predicate)
-        fact = wording.fact(predicate, place.scheme if place else "", text)
-        spot = wording.spot(site) if site else wording.where.spot(place.line, place.function) if place else None
-        found.append(Near(predicate, fall, fact, wording.where.called(place.function) if place else None, spot))
+        told = wording.told(site, text) if site else None
+        if told:
+            found.append(Near(predicate, fall, told.fact, told.function, told.spot))
+        elif site is None:
+            row = rows.get(predicate)
+            fact, spot = wording.fact(predicate, row.scheme if row else "", text), wording.where.spot(row.line, row.function) if row else None
+            found.append(Near(predicate, fall, fact, wording.where.called(row.function) if row else None, spot))
     return found
 
 

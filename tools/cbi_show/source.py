@@ -67,6 +67,9 @@ class Source:
                 self.tokens.append(Token(piece["token"], line, piece.start(), piece.end()))
             line += piece[0].count("\n")
         self.partner = self.brackets()
+        self.by_line: Dict[int, List[int]] = {}
+        for place, token in enumerate(self.tokens):
+            self.by_line.setdefault(token.line, []).append(place)
 
     def brackets(self) -> Dict[int, int]:
         """The other bracket of each one, both ways."""
@@ -198,14 +201,21 @@ class Source:
 
     def gives_pointer(self, name: str) -> bool:
         """Whether a function of the text, or of the library, gives a pointer."""
-        if name == "malloc":
-            return True
+        return name == "malloc" or self.word(self.declared_at(name) - 1) == "*"
+
+    def gives_object(self, name: str) -> bool:
+        """Whether a function of a ported text gives a number of 64 bits, by where it lies."""
+        at = self.declared_at(name)
+        return [self.word(at - 2), self.word(at - 1)] == ["cbi_long", "*"]
+
+    def declared_at(self, name: str) -> int:
+        """The place of a function's name outside functions; before the text where it isn't there."""
         depth = 0
         for place, token in enumerate(self.tokens):
             depth += (token.text == "{") - (token.text == "}")
             if depth == 0 and token.text == name and self.word(place + 1) == "(":
-                return self.word(place - 1) == "*"
-        return False
+                return place
+        return -2
 
     # Facts
 
@@ -216,7 +226,11 @@ class Source:
 
     def words_on(self, line: int, word: str) -> List[int]:
         """The places of a word on a line."""
-        return [place for place, token in enumerate(self.tokens) if token.line == line and token.text == word]
+        return [place for place in self.by_line.get(line, []) if self.word(place) == word]
+
+    def words_from(self, first: int, last: int) -> List[int]:
+        """The places of all words on some lines but parentheses."""
+        return [place for line in range(first, last + 1) for place in self.by_line.get(line, []) if self.word(place) not in "()"]
 
     def labels_on(self, line: int) -> Optional[str]:
         """The labels of a `switch` that begin on a line, with those right behind them, where nothing else has one on it."""
@@ -244,7 +258,7 @@ class Source:
     def found(self, text: str, first: int, last: int, macros: bool = True) -> Optional[str]:
         """An expression as it stands on these lines, whatever parentheses it has there; else, where it may have `macros`, the one there that has names in place of constants."""
         words = [piece[0] for piece in PIECE.finditer(text) if piece["token"] and piece["token"] not in "()"]
-        ours = [place for place, token in enumerate(self.tokens) if first <= token.line <= last and token.text not in "()"]
+        ours = self.words_from(first, last)
         for same in (str.__eq__, *[may_be] * macros):
             found = [self.whole(*ends) for ends in self.ends_of(words, ours, same)]
             if found and (same is str.__eq__ or len(set(found)) == 1):
@@ -263,7 +277,7 @@ class Source:
         sign = next((at for at, word in enumerate(words) if word in ASSIGNMENTS), None)
         if sign is None:
             return None
-        ours = [place for place, token in enumerate(self.tokens) if first <= token.line <= last and token.text not in "()"]
+        ours = self.words_from(first, last)
         ends = list(self.ends_of(words[:sign + 1], ours, str.__eq__))
         return self.whole(ends[0][0], self.end_of_assignment(ends[0][1])) if len(ends) == 1 else None
 

@@ -207,7 +207,7 @@ def ranking(view: View, width: int, every: bool) -> Iterator[str]:
         yield from wrapped(told.weak_line(view) + " (--all shows them).", width, width)
         yield ""
     if view.added and not every:
-        yield told.added_line(view) + (" isn't shown (--all shows it)." if len(view.added) == 1 else " aren't shown (--all shows them).")
+        yield told.added_said(view)
         yield ""
     if view.pair:
         yield f"{told.PAIR}:"

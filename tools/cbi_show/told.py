@@ -468,6 +468,11 @@ def added_line(view: View) -> str:
     return f"{count_of(len(view.added), 'row')} of what the port added"
 
 
+def added_said(view: View) -> str:
+    """The same as a sentence, where these rows aren't shown."""
+    return added_line(view) + (" isn't shown (--all shows it)." if len(view.added) == 1 else " aren't shown (--all shows them).")
+
+
 def weak_line(view: View) -> str:
     """The rule by which rows are folded, told."""
     tried = view.seen.observed if view.seen else 0

@@ -38,6 +38,11 @@ class Where(NamedTuple):
         """What the author calls it."""
         return self.names.get(name, name)
 
+    def named_function(self, name: str) -> str:
+        """The same of a function, which may be one of the library that the port has."""
+        called = self.called(name)
+        return called[len(OF_PORT):] if self.lines and called.startswith(OF_PORT) else called
+
     def text(self, spot: Spot) -> Optional[str]:
         """The line at a spot; none where it isn't there, or is none of a person's."""
         lines = self.files.get(spot.file, [])

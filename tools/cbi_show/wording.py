@@ -90,7 +90,7 @@ class Wording:
             self.calls[site.function] = [line for line in self.source.calls_of(site.function) if not self.where.spot(line, "").added] if self.source else []
         lines = self.calls[site.function]
         place = self.source.place_of(site) if self.source else None
-        if self.source is None or place is None or not lines:
+        if self.source is None or place is None or not lines or site.scheme == "returns" and self.source.gives_object(site.names[0]):
             return None
         spots = list(dict.fromkeys(self.where.spot(line, "") for line in lines))
         where = " or ".join(self.where.named(spot) for spot in spots)
@@ -98,7 +98,7 @@ class Wording:
             callees = self.callees_of(site, text.endswith("true"))
             went = f"went to {' or '.join(callees)}" if len(callees) <= MOST_CALLEES else f"did not go to {self.callees_of(site, True)[0]}"
         else:
-            callees = [self.where.called(site.names[0])]
+            callees = [self.where.named_function(site.names[0])]
             went = f"went to {callees[0]}, which {self.source.fact_at(place, site, text, self.source).says}"
         known = all(re.fullmatch(r"[A-Za-z_]\w*", callee) for callee in callees)
         return Told(Fact("", f"the call at {where} {went}"), spots[0], self.function_at(lines[0])) if callees and known else None
@@ -107,7 +107,7 @@ class Wording:
         """The function that a call went to where a branch is true, or those that are left where it is false."""
         branches = [one for one in self.program.sites if one.function == site.function and one.scheme == "branches"] if self.program else []
         behind = [site] if true else [one for one in branches if one.token > site.token]
-        return [self.where.called(self.source.callee_of(one.token)) for one in behind] if self.source else []
+        return [self.where.named_function(self.source.callee_of(one.token)) for one in behind] if self.source else []
 
     def function_at(self, line: int) -> str:
         """The function of the text that a line is in, by the sites around it."""

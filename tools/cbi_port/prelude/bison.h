@@ -1,11 +1,11 @@
 /* How a parser of bison makes its stacks longer, in the form that its skeletons have for it (`yyoverflow`): each stack by itself. Without
    it they cut one block of memory into all of them, which is no memory of one type. */
 #define CBI_STACK(at, used, size) do { \
-        __typeof__(*(at)) yymade = __builtin_malloc(*(size) * sizeof **(at)); \
-        if (!yymade) \
+        __typeof__(*(at)) cbi_made = __builtin_malloc(*(size) * sizeof **(at)); \
+        if (!cbi_made) \
             __builtin_abort(); \
-        __builtin_memcpy(yymade, *(at), used); \
-        *(at) = yymade; \
+        __builtin_memcpy(cbi_made, *(at), used); \
+        *(at) = cbi_made; \
     } while (0)
 #define CBI_SIZE(size) do { \
         if (YYMAXDEPTH <= *(size)) \
