@@ -4,7 +4,7 @@ from typing import Any, Iterator, Sequence
 
 from cbi_port.blocks import Declarator, Definition, Head, Statement
 from cbi_port.lines import Token
-from cbi_port.nodes import Node
+from cbi_port.nodes import Node, children
 from cbi_port.types import spelled
 
 WORDS = ("sign", "name", "value", "token", "word", "tag", "base", "arrow")      # what a node says itself
@@ -36,11 +36,7 @@ def row(it: Any, tokens: Sequence[Token]) -> str:
 
 def below(it: Any) -> Iterator[Any]:
     """The nodes below one, in their order."""
-    for part in fields(it):
-        value = getattr(it, part.name)
-        for inner in value if isinstance(value, tuple) else (value,):
-            if isinstance(inner, (Node, Statement, Definition, Head, Declarator)) and part.name not in ("type", "member", "symbol"):
-                yield inner
+    return (inner for inner in children(it) if isinstance(inner, (Node, Statement, Definition, Head, Declarator)))
 
 
 def dumped(trees: Sequence[Any], tokens: Sequence[Token]) -> Iterator[str]:

@@ -1,11 +1,10 @@
 """A pass over the typed tree: what was left open until a function, or the whole program, was translated."""
-from dataclasses import fields, replace
+from dataclasses import replace
 from typing import Any, Callable, List, NamedTuple, Set
 
 from cbi_port.blocks import Declare, Definition, Leaving, Nothing, Perhaps, Statement, placed
-from cbi_port.nodes import Later, Node, marked
+from cbi_port.nodes import Later, Node, inner_fields, marked
 
-APART = ("type", "member", "symbol", "head", "object")      # parts of a node that are no part of the tree
 
 
 class Choice(NamedTuple):
@@ -24,12 +23,12 @@ def changed(it: Any, change: Callable[[Any], Any]) -> Any:
     if not isinstance(it, (Node, Statement, Definition)):
         return it
     parts = {}
-    for part in fields(it):
-        old = getattr(it, part.name)
-        if part.name not in APART and isinstance(old, (Node, Statement, tuple)):
+    for name in inner_fields(type(it)):
+        old = getattr(it, name)
+        if isinstance(old, (Node, Statement, tuple)):
             new = changed(old, change)
             if new is not old:
-                parts[part.name] = new
+                parts[name] = new
     return change(replace(it, **parts) if parts else it)
 
 

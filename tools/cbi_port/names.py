@@ -1,9 +1,8 @@
 """A pass over the typed tree: which names of functions, variables and structs it has."""
-from dataclasses import fields
-from typing import Any, Iterator, Set
+from typing import Any, Set
 
 from cbi_port.blocks import Declarator, Definition, Head, Record, Statement
-from cbi_port.nodes import Call, Cast, Name, Node, SizeOf
+from cbi_port.nodes import Call, Cast, Name, Node, SizeOf, children
 
 STRUCT = "struct "
 
@@ -11,15 +10,6 @@ STRUCT = "struct "
 def tag(spelling: str) -> str:
     """The name of a struct by which a type is spelled; empty where it is none."""
     return spelling[len(STRUCT):].split(" ")[0] if spelling.startswith(STRUCT) else ""
-
-
-def parts(it: Any) -> Iterator[Any]:
-    """What a node has below it."""
-    for part in fields(it):
-        value = getattr(it, part.name)
-        if part.name == "type" or part.name == "symbol" or part.name == "member":
-            continue
-        yield from value if isinstance(value, tuple) else [value]
 
 
 def names_of(*trees: Any) -> Set[str]:
@@ -36,5 +26,5 @@ def names_of(*trees: Any) -> Set[str]:
             found.add(tag(it.word))
         if isinstance(it, (Head, Declarator)):
             found.add(tag(it.base))
-        stack.extend(parts(it))
+        stack.extend(children(it))
     return found

@@ -4,7 +4,7 @@ Each node has its C type, and where it stands in the source (a token's number; -
 union are handed on by where they lie: such a node has that type, and is a pointer in the text.
 """
 from dataclasses import dataclass, field, fields, replace
-from typing import Any, Iterator, Optional, Sequence, Tuple
+from typing import Any, Dict, Iterator, Optional, Sequence, Tuple
 
 COMMA, ASSIGN, COND, OR, AND, BITOR, XOR, BITAND, EQUAL, ORDER, SHIFT, ADD, TIMES, UNARY, POSTFIX = range(15)
 LEVELS = {"||": OR, "&&": AND, "|": BITOR, "^": XOR, "&": BITAND, "==": EQUAL, "!=": EQUAL, "<": ORDER, ">": ORDER,
@@ -178,6 +178,9 @@ class Braces(Node):
     at: int = field(default=-1, compare=False)
 
 
+LOOSE = {Comma: COMMA, Assign: ASSIGN, Choice: COND, Unary: UNARY, Cast: UNARY}
+
+
 def level(node: Node) -> int:
     """How tightly the text of a node holds together."""
     if isinstance(node, Converted):
@@ -186,7 +189,7 @@ def level(node: Node) -> int:
         return LEVELS[node.sign]
     if isinstance(node, Number) and node.value < 0:
         return ADD if node.value == LEAST_INT else UNARY
-    return {Comma: COMMA, Assign: ASSIGN, Choice: COND, Unary: UNARY, Cast: UNARY}.get(type(node), POSTFIX)
+    return LOOSE.get(type(node), POSTFIX)
 
 
 def held(node: Node, least: int) -> Node:
@@ -201,20 +204,36 @@ def bare(node: Node) -> Node:
     return node
 
 
-def children(node: Node) -> Iterator[Node]:
-    for it in fields(node):
-        value = getattr(node, it.name)
-        if isinstance(value, Node):
-            yield value
-        elif it.name in ("arguments", "parts", "items"):
+# Fields of nodes and statements that hold no node.
+PLAIN = {"type", "member", "symbol", "at", "sign_at", "question", "colon", "else_at", "body_at", "sign", "word", "token", "spelling", "unsigned", "arrow", "name", "stars", "bounds", "number"}
+
+
+INNER: Dict[Any, Tuple[str, ...]] = {}      # the other fields, by the class
+
+
+def inner_fields(class_: Any) -> Tuple[str, ...]:
+    """The fields of a class of nodes or statements that may hold others."""
+    if class_ not in INNER:
+        INNER[class_] = tuple(it.name for it in fields(class_) if it.name not in PLAIN)
+    return INNER[class_]
+
+
+def children(node: Any) -> Iterator[Any]:
+    """What a node, a statement or a definition has below it, in its order; what is no node among it are words and numbers."""
+    for name in inner_fields(type(node)):
+        value = getattr(node, name)
+        if isinstance(value, tuple):
             yield from value
+        elif value is not None:
+            yield value
 
 
 def walk(node: Node) -> Iterator[Node]:
     """A node and all below it."""
     yield node
     for child in children(node):
-        yield from walk(child)
+        if isinstance(child, Node):
+            yield from walk(child)
 
 
 def spot(node: Node) -> int:

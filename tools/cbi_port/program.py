@@ -362,7 +362,8 @@ class Program(Functions):
         while more:
             more = False
             self.plan_helpers()
-            self.makers_of_text.generic_ones(names_of(*self.sheet.every()))
+            if self.makers_of_text.known:
+                self.makers_of_text.generic_ones(names_of(*self.sheet.every()))
             for symbol, item, unit in list(self.waiting):
                 if symbol.used and id(item) not in done:
                     done.add(id(item))
