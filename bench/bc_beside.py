@@ -21,7 +21,7 @@ from real_bugs_bc import BC
 from real_native import ADDRESSES, FILE_LINES, built, coverage, error_in, ran
 
 sys.path.insert(0, os.path.join(os.path.dirname(HERE), "tools"))
-from cbi_hunted import read_hunted  # noqa: E402
+from cbi_show.hunted import read_hunted  # noqa: E402
 
 PLACES = (("storage.c", 185), ("storage.c", 172))   # the wrong line, and that of the hunt's row
 FRAME = re.compile(r"^#\d+ +(?:0x[0-9a-f]+ in )?(\w+) \(.*?(?: at (.+:\d+))?$", re.MULTILINE)
