@@ -301,7 +301,8 @@ class Maps(Case):
     """A text and its map by hand: what is told with names and notes, and without them in a map of the first form."""
     AUTHOR = ["static struct item *head;", "static int helper(struct item *p) { if (p->next) return 1; return 0; }", "int main(void) { return helper(head); }"]
     TEXT = "int cbi_load_word(int a) { if (a) return a; return 0; }\nint helper_2(int p) { if (cbi_load_word(p + 8)) return 1; return 0; }\nint main(void) { return helper_2(getchar()); }\n"
-    HEAD, NAMES, LINES = "files 1\na.c\nfunctions 1\ncbi_load_word\n", "names 1\nhelper_2 helper\nnotes 3\n2 22 head: if\n2 26 value pointer: p->next\n3 24 call number: helper(head)\n", "lines 3\nadded\n1 2\n1 3\nend\n"
+    HEAD, LINES = "files 1\na.c\nfunctions 1\ncbi_load_word\n", "lines 3\nadded\n1 2\n1 3\nend\n"
+    NAMES = "names 1\nhelper_2 helper\nnotes 3\n2 22 head: if\n2 26 value pointer: p->next\n3 24 call number: helper(head)\n"
 
     def facts(self, map_text):
         """The facts of each line that are told, with their functions; and at which lines nothing is told of a site."""

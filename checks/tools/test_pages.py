@@ -322,7 +322,7 @@ class Sarif(Hunting):
             self.assertEqual(sarif.level_of_bug(answer.BugShown(1, told, 1, [1], expected, [], [], [], {})), due)
         row = files.Row(1, 0, "branches", "main", 1, "if is true", 1, 0, 1, 0, 0, 0, 0, 0)
         for importance, chance, due in ((500000, None, "error"), (499999, 0.9, "warning"), (100000, None, "warning"), (99999, None, "note"), (900000, 1.0, "note")):
-            shown = cbi_show.rows.Shown(row._replace(importance=importance), told.told.fact, told.told.spot, None, cbi_show.rows.Bands(0, 0, 0, 0, 0), None, None, [], chance)
+            shown = cbi_show.rows.Shown(row._replace(importance=importance), told.told.function, told.told.fact, told.told.spot, None, cbi_show.rows.Bands(0, 0, 0, 0, 0), None, None, [], chance)
             self.assertEqual(sarif.level_of(shown), due)
 
     def test_fingerprints_stay_when_lines_come_in_above(self):
