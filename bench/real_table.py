@@ -4,7 +4,7 @@ from typing import Any, Dict, List, Optional, Sequence
 HEAD = ("Bug", "Shows as", "Lines, tokens, sites", "Inputs that fail", "Hunted: runs, failing", "`bugs`", "`lines`", "`rank`", "Ochiai over gcov", "Sanitizers", "Seconds")
 LISTS = (("bugs", "`bugs`"), ("lines", "`lines`"), ("rank", "rows of `rank`"), ("ochiai", "lines by Ochiai over gcov"))
 FIRST = 5   # of each list
-MOST_RUNS, MOST_LINES = 100000, 16777216   # that a collection holds (docs/FORMATS.md)
+MOST_RUNS, MOST_LINES = 100000, 16777216   # that a collection holds (docs/reference/FORMATS.md)
 
 
 def place(value: Optional[float]) -> str:
