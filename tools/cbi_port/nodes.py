@@ -205,7 +205,7 @@ def bare(node: Node) -> Node:
 
 
 # Fields of nodes and statements that hold no node.
-PLAIN = {"type", "member", "symbol", "at", "sign_at", "question", "colon", "else_at", "body_at", "sign", "word", "token", "spelling", "unsigned", "arrow", "name", "stars", "bounds", "number"}
+PLAIN = {"type", "member", "symbol", "at", "sign_at", "question", "colon", "else_at", "body_at", "note", "sign", "word", "token", "spelling", "unsigned", "arrow", "name", "stars", "bounds", "number"}
 
 
 INNER: Dict[Any, Tuple[str, ...]] = {}      # the other fields, by the class
