@@ -271,8 +271,8 @@ class Installs(Case):
         self.assertRegex(err, r"^\./demo: dist/cbi\.xz isn't the executable of dist/MANIFEST, [^\n]*\n\./demo: there is no rt on the path; [^\n]*\n$")
 
     def test_check_looks_at_the_released_executable_where_there_is_no_kit(self):
-        for name in ("process", "examples"):
-            self.write("top/checks/" + name, f"#!/bin/sh\necho {name} \"$1\"\n", 0o755)
+        for name, path in (("process", "process/run"), ("examples", "examples")):
+            self.write("top/checks/" + path, f"#!/bin/sh\necho {name} \"$1\"\n", 0o755)
         self.commit("checks")
         self.released()
         os.unlink(self.path("bin/rt"))
