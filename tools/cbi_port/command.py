@@ -50,7 +50,7 @@ def files_of(rows: List[str]) -> List[Tuple[str, Optional[bytes]]]:
 
 
 def put(said: argparse.Namespace, ported: Ported) -> None:
-    """Writes what was ported, and what is told of it."""
+    """Writes what was ported, and what is reported of it."""
     if said.o:
         with open(said.o, "wb") as out:
             out.write(ported.text)
