@@ -13,7 +13,7 @@ from bodies_read import PARTS, Bad, Body, Function, apply, crate_functions, is_n
 from house_crates import below, edges
 
 # Rises with each change of how a try is made or judged: what was kept before is tried again.
-VERSION = 3
+VERSION = 4
 # How a goal was refused, by the prover's own words, the strongest first.
 WAYS = (("values", re.compile(r"allow values at which this goal is false|the goal fails, at|the goal does not follow from what it read")),
         ("types", re.compile(r"two types (?:first )?differ|differ only where")),
@@ -234,8 +234,8 @@ def told(every: List[Function], lines: List[str]) -> Dict[str, List[Refusal]]:
                 # functions that call one another have one proof, whose goals begin with their names
                 of = "::".join([*of.split("::")[:-1], named[1].split("-")[0] if named else ""])
             for it in [it for it in every if it.path == of][:1]:
-                # an error of no answer, as of an import, is of no goal
-                how = way(proof[2]) if named or proof[2].startswith("note: ") else "names"
+                # a line that names no answer, as of an import, is of no goal
+                how = way(proof[2]) if named else "names"
                 found.setdefault(it.path, []).append(Refusal(it.path, named[1] if named else "", how, proof[2]))
     return found
 
