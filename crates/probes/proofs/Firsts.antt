@@ -1,12 +1,12 @@
 -- The distinct sites of a list, one site after another.
-use Rattle.std.proofs.Common.{◌≡◌, ℕ, ◌≤◌, inl, inr, Bool, true, false, not, ◌||◌, ◌==◌, nat_eq, cond, List, [], ◌∷◌, ◌++◌, length, take, filter, refl, sym, ap, ◌∙◌, arith, append_assoc}
+use Rattle.std.proofs.Common.{◌≡◌, ℕ, ◌<◌, ◌≤◌, inl, inr, Bool, true, false, not, ◌||◌, ◌==◌, nat_eq, cond, List, [], ◌∷◌, ◌++◌, length, take, filter, refl, sym, ap, ◌∙◌, arith, append_assoc}
 use Rattle.std.specs.List.{list_any}
-use Rattle.std.proofs.lemmas.Bool.{cases_eq, eq-eqb, ne_eqb}
-use Rattle.std.proofs.lemmas.List.{append-nil, take-append-le, take_all, map-append}
+use Rattle.std.proofs.lemmas.Bool.{cases_eq, cases_lt, eq-eqb, ne_eqb}
+use Rattle.std.proofs.lemmas.List.{append-nil, take-append-le, take_all, length-take-le, length_push, map-append}
 use Rattle.std.proofs.lemmas.List.Elements.{filter-append}
 use Rattle.cbi_base.specs.declared.observation.Observation.{Observation}
 use Rattle.probes.specs.Sites.{most_sites, sites_seen}
-use Rattle.probes.specs.FirstSeen.{firsts_of}
+use Rattle.probes.specs.FirstSeen.{firsts_of, first_of}
 
 abbrev pub others_than : ℕ → ℕ → Bool
 others_than site other = not (other == site)
@@ -84,29 +84,39 @@ firsts_of-append xs (y ∷ ys) =
     let whole : xs ++ y ∷ ys ≡ (xs ++ y ∷ []) ++ ys = sym (append_assoc xs (y ∷ []) ys) in
     (here.0 ++ next.0, ap firsts_of whole ∙ next.1 ∙ ap (λ l. l ++ next.0) (firsts_of-push xs y ∙ here.1) ∙ append_assoc (firsts_of xs) here.0 next.0)
 
+pub not_full : (n : ℕ) → n ≤ most_sites → (n ≡ most_sites → ⊥) → n < most_sites
+not_full n fits room = elim (cases_lt n most_sites) [ inl few ↦ few | inr rest ↦ absurd (room (omega arith)) ]
+
+-- where fewer are taken than the line has, they are all
+first_of-whole : (seen : List ℕ) → length (first_of seen) < most_sites → first_of seen ≡ firsts_of seen
+first_of-whole seen few =
+    elim (cases_lt (length (firsts_of seen)) most_sites) [
+      | inl short ↦ take_all most_sites (firsts_of seen) (omega arith)
+      | inr long ↦ absurd (omega (arith, few, length-take-le most_sites (firsts_of seen) long))
+    ]
+
 -- once there are as many as the line has, no later site counts
-pub firsts_of-full : (xs ys : List ℕ) → length (firsts_of xs) ≡ most_sites → take most_sites (firsts_of (xs ++ ys)) ≡ firsts_of xs
-firsts_of-full xs ys full =
-    let more = firsts_of-append xs ys in
-    let room : most_sites ≤ length (firsts_of xs) = omega arith in
-    ap (take most_sites) more.1 ∙ take-append-le most_sites (firsts_of xs) more.0 room ∙ take_all most_sites (firsts_of xs) (omega arith)
+pub first_of-full : (seen more ks : List ℕ) → ks ≡ first_of seen → length ks ≡ most_sites → ks ≡ first_of (seen ++ more)
+first_of-full seen more ks is full =
+    let grown = firsts_of-append seen more in
+    let known : length (first_of seen) ≡ most_sites = ap length (sym is) ∙ full in
+    elim (cases_lt (length (firsts_of seen)) most_sites) [
+      | inl short ↦ absurd (omega (arith, short, known, ap length (take_all most_sites (firsts_of seen) (omega arith))))
+      | inr long ↦ is ∙ sym (ap (take most_sites) grown.1 ∙ take-append-le most_sites (firsts_of seen) grown.0 long)
+    ]
 
--- the sites of one more observation
-firsts_of-next : (xs : List Observation) (o : Observation) (ks : List ℕ) (there : Bool) → ks ≡ firsts_of (sites_seen xs) → stands_in ks o.site ≡ there → firsts_of (sites_seen (xs ++ o ∷ [])) ≡ added there ks o.site
-firsts_of-next xs o ks there is found =
-    ap firsts_of (map-append (λ (x : Observation). x.site) xs (o ∷ []))
-    ∙ firsts_of-push (sites_seen xs) o.site
-    ∙ ap (λ l. added (stands_in l o.site) l o.site) (sym is)
-    ∙ ap (λ b. added b ks o.site) found
+-- one more site, where there is room
+first_of-next : (seen ks : List ℕ) (site : ℕ) (there : Bool) → ks ≡ first_of seen → length ks < most_sites → stands_in ks site ≡ there → first_of (seen ++ site ∷ []) ≡ take most_sites (added there ks site)
+first_of-next seen ks site there is few found =
+    let whole : ks ≡ firsts_of seen = is ∙ first_of-whole seen (omega (arith, few, ap length is)) in
+    ap (take most_sites) (firsts_of-push seen site ∙ ap (λ l. added (stands_in l site) l site) (sym whole) ∙ ap (λ b. added b ks site) found)
 
-pub firsts_of-known : (xs : List Observation) (o : Observation) (ks : List ℕ) → ks ≡ firsts_of (sites_seen xs) → stands_in ks o.site ≡ true → ks ≡ firsts_of (sites_seen (xs ++ o ∷ []))
-firsts_of-known xs o ks is known = sym (firsts_of-next xs o ks true is known)
+pub first_of-known : (seen ks : List ℕ) (site : ℕ) → ks ≡ first_of seen → length ks < most_sites → stands_in ks site ≡ true → ks ≡ first_of (seen ++ site ∷ [])
+first_of-known seen ks site is few known = sym (first_of-next seen ks site true is few known ∙ take_all most_sites ks (omega arith))
 
-pub firsts_of-new : (xs : List Observation) (o : Observation) (ks : List ℕ) → ks ≡ firsts_of (sites_seen xs) → stands_in ks o.site ≡ false → ks ++ o.site ∷ [] ≡ firsts_of (sites_seen (xs ++ o ∷ []))
-firsts_of-new xs o ks is new = sym (firsts_of-next xs o ks false is new)
+pub first_of-new : (seen ks : List ℕ) (site : ℕ) → ks ≡ first_of seen → length ks < most_sites → stands_in ks site ≡ false → ks ++ site ∷ [] ≡ first_of (seen ++ site ∷ [])
+first_of-new seen ks site is few new = sym (first_of-next seen ks site false is few new ∙ take_all most_sites (ks ++ site ∷ []) (omega (arith, few, length_push ks site)))
 
--- the observations so far have the first sites already, where these are as many as the line has
-pub firsts_of-enough : (xs more seen : List Observation) → xs ++ more ≡ seen → length (firsts_of (sites_seen xs)) ≡ most_sites → take most_sites (firsts_of (sites_seen seen)) ≡ firsts_of (sites_seen xs)
-firsts_of-enough xs more seen is full =
-    let whole : sites_seen seen ≡ sites_seen xs ++ sites_seen more = ap sites_seen (sym is) ∙ map-append (λ (x : Observation). x.site) xs more in
-    ap (λ l. take most_sites (firsts_of l)) whole ∙ firsts_of-full (sites_seen xs) (sites_seen more) full
+-- the sites of observations and of more of them
+pub sites_seen-append : (seen more : List Observation) → sites_seen (seen ++ more) ≡ sites_seen seen ++ sites_seen more
+sites_seen-append seen more = map-append (λ (o : Observation). o.site) seen more

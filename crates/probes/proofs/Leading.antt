@@ -1,5 +1,5 @@
 -- The site that was observed most often.
-use Rattle.std.proofs.Common.{◌≡◌, ℕ, ◌<◌, ◌≤◌, ◌⊎◌, inl, inr, Bool, true, false, ◌&&◌, ◌||◌, ◌==◌, nat_lt, cond, List, [], ◌∷◌, map, fold, Option, Some, None, IfSome, unwrap_or, refl, sym, ap, subst, ◌∙◌, arith}
+use Rattle.std.proofs.Common.{◌≡◌, ℕ, ◌<◌, ◌≤◌, ◌⊎◌, inl, inr, Bool, true, false, ◌&&◌, ◌||◌, ◌==◌, nat_lt, cond, List, [], ◌∷◌, map, fold, Some, None, refl, sym, ap, subst, ◌∙◌, arith}
 use Rattle.std.proofs.lemmas.Bool.{cases_lt, ltb-true, ltb-false, leb-true, eqb-true, eq-eqb, lt-ltb, le-leb, and_parts, and_from, or_cases, or_parts, or_left, or_right}
 use Rattle.probes.specs.Hottest.{times_of, is_site_ahead_of, hottest_of, best_of, hotter_site, IsHottest}
 use Rattle.std.specs.List.{list_all}
@@ -13,7 +13,7 @@ Beats a b = (b.1 < a.1) ⊎ ((b.1 ≡ a.1) × (a.0 ≤ b.0))
 beats-itself : (a : ℕ × ℕ) → Beats a a
 beats-itself a = inr (refl, omega arith)
 
-beats-then : (a b c : ℕ × ℕ) → Beats a b → Beats b c → Beats a c
+pub beats-then : (a b c : ℕ × ℕ) → Beats a b → Beats b c → Beats a c
 beats-then a b c (inl x) (inl y) = inl (omega arith)
 beats-then a b c (inl x) (inr y) = inl (omega (arith, y.0))
 beats-then a b c (inr x) (inl y) = inl (omega (arith, x.0))
@@ -50,14 +50,14 @@ beats-where_gives a b h =
     ]
 
 -- which of the two goes on
-record Winner (a b : ℕ × ℕ) : Type 0 where
+pub record Winner (a b : ℕ × ℕ) : Type 0 where
   pub who : ℕ × ℕ
   pub goes_on : hotter_site (Some a) b ≡ Some who
   pub one : (a ≡ who) ⊎ (b ≡ who)
   pub first : Beats who a
   pub second : Beats who b
 
-winner : (a b : ℕ × ℕ) → Winner a b
+pub winner : (a b : ℕ × ℕ) → Winner a b
 winner a b = at (stays a b) refl
   where
     at : (t : Bool) → stays a b ≡ t → Winner a b
@@ -169,14 +169,6 @@ pub none-is_empty : (sites : List ℕ) → hottest_of sites ≡ None → sites �
 none-is_empty [] is = refl
 none-is_empty (site ∷ more) is = let best = some-is_hottest site more in let found = hottest-is_found (site ∷ more) best.0 best.1 in cc
 
-value-is : (o : Option ℕ) (n : ℕ) → unwrap_or o 0 ≡ n → 0 < n → o ≡ Some n
-value-is None n is some = absurd (omega arith)
-value-is (Some m) n is some = ap Some is
-
-positive-at : (o : Option ℕ) (n : ℕ) → o ≡ Some n → IfSome o (λ m. 0 < m) → 0 < n
-positive-at None n is some = cc
-positive-at (Some m) n is some = let same : m ≡ n = cc in subst (λ i. 0 < i) same some
-
 -- a site with its count that beats each observed one is the best
 pub best_of-from_beats : (sites : List ℕ) (best : ℕ × ℕ) → times_of sites best.0 ≡ best.1 → 0 < best.1 → ((other : ℕ) → IsIn other sites → Beats best (counted sites other)) → Some best ≡ best_of sites
 best_of-from_beats sites best times positive beats =
@@ -186,19 +178,3 @@ best_of-from_beats sites best times positive beats =
     let observed = IsIn-from_count_by sites site (omega (arith, times, positive)) in
     let hottest = hottest-is_found sites site (IsHottest-from_beats sites site observed beats_each) in
     ap Some same ∙ sym (ap (option_map (counted sites)) hottest)
-
--- counts of each site lead to the hottest
-pub fold-hottest : (es : List (ℕ × ℕ)) (sites : List ℕ) (count : ℕ → Option ℕ) → ((site : ℕ) → unwrap_or (count site) 0 ≡ times_of sites site) → ((site : ℕ) → IfSome (count site) (λ n. 0 < n))
-    → ((site n : ℕ) → count site ≡ Some n → IsIn (site, n) es) → ((site n : ℕ) → IsIn (site, n) es → count site ≡ Some n) → fold hotter_site None es ≡ best_of sites
-fold-hottest [] [] count value positive listed known = refl
-fold-hottest [] (site ∷ more) count value positive listed known =
-    let sites = site ∷ more in
-    absurd (listed site (times_of sites site) (value-is (count site) (times_of sites site) (value site) (count_by-positive sites site (inl refl))))
-fold-hottest (e ∷ es) sites count value positive listed known =
-    let best = fold-best es e in
-    let site = best.0.0 in
-    let is : count site ≡ Some best.0.1 = known site best.0.1 best.2.among in
-    let times : times_of sites site ≡ best.0.1 = sym (value site) ∙ ap (λ o. unwrap_or o 0) is in
-    let beats : (other : ℕ) → IsIn other sites → Beats best.0 (counted sites other) =
-    λ other i. best.2.beats (counted sites other) (listed other (times_of sites other) (value-is (count other) (times_of sites other) (value other) (count_by-positive sites other i))) in
-    best.1 ∙ best_of-from_beats sites best.0 times (positive-at (count site) best.0.1 is (positive site)) beats

@@ -3,6 +3,6 @@ pub mod Firsts
 pub mod Members
 pub mod Leading
 pub mod FirstLaws
-pub mod Packing
-pub mod Latest
+pub mod Lasts
 pub mod Listed
+mod Walks

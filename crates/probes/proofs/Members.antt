@@ -1,12 +1,9 @@
 -- What is in a list, by recursion on it, and what a test of each says.
-use Rattle.std.proofs.Common.{◌≡◌, ℕ, zero, suc, ◌+◌, ◌<◌, ◌≤◌, ◌⊎◌, inl, inr, Bool, true, false, cond, nat_eq, List, [], ◌∷◌, ◌++◌, length, get_or, map, Some, refl, sym, ap, ◌∙◌, arith, length-append}
+use Rattle.std.proofs.Common.{◌≡◌, ℕ, zero, suc, ◌+◌, ◌<◌, ◌⊎◌, inl, inr, Bool, true, false, cond, nat_eq, List, [], ◌∷◌, ◌++◌, length, get_or, map, Some, refl, sym, ap, ◌∙◌, arith}
 use Rattle.std.specs.Prelude.{Contains, find}
 use Rattle.std.specs.List.{list_all, count_by}
-use Rattle.std.proofs.lemmas.List.Sums.{sum_by-cons, sum_by-append, count_by-le-length}
-use Rattle.std.proofs.lemmas.List.{length-map, map-append}
+use Rattle.std.proofs.lemmas.List.Sums.{sum_by-cons, sum_by-append}
 use Rattle.std.proofs.lemmas.Bool.{eq-eqb, ne_eqb, cases_eq, false≢true, and_parts, and_from}
-use Rattle.cbi_base.specs.declared.observation.Observation.{Observation}
-use Rattle.probes.specs.Sites.{sites_seen}
 use Rattle.probes.specs.Hottest.{times_of}
 
 abbrev pub IsIn : {X : Type 0} → X → List X → Type 0
@@ -85,13 +82,12 @@ IsIn-from_count_by (y ∷ ys) x some =
       | inr apart ↦ inr (IsIn-from_count_by ys x (omega (arith, count_by-cons x y ys, once false (nat_eq y x) (ne_eqb y x apart))))
     ]
 
--- how often a site was observed so far, and with one more observation
-pub times_of-within : (xs more seen : List Observation) (site : ℕ) → xs ++ more ≡ seen → times_of (sites_seen xs) site ≤ length seen
-times_of-within xs more seen site is =
-    omega (arith, count_by-le-length (λ other. nat_eq other site) (sites_seen xs), length-map xs (λ (o : Observation). o.site), length-append xs more, ap length is)
+-- how often a site was observed, with one more
+pub times_of-push : (xs : List ℕ) (x site : ℕ) → times_of (xs ++ x ∷ []) site ≡ times_of xs site + cond (nat_eq x site) 1 0
+times_of-push xs x site = sum_by-append (λ other. cond (nat_eq other site) 1 0) xs (x ∷ []) ∙ ap (λ n. times_of xs site + n) (omega arith)
 
-pub times_of-push : (xs : List Observation) (o : Observation) (site : ℕ) → times_of (sites_seen (xs ++ o ∷ [])) site ≡ times_of (sites_seen xs) site + cond (nat_eq o.site site) 1 0
-times_of-push xs o site =
-    ap (λ l. times_of l site) (map-append (λ (x : Observation). x.site) xs (o ∷ []))
-    ∙ sum_by-append (λ other. cond (nat_eq other site) 1 0) (sites_seen xs) (o.site ∷ [])
-    ∙ ap (λ n. times_of (sites_seen xs) site + n) (omega arith)
+pub times_of-same : (xs : List ℕ) (x site : ℕ) → x ≡ site → times_of (xs ++ x ∷ []) site ≡ times_of xs site + 1
+times_of-same xs x site same = times_of-push xs x site ∙ ap (λ n. times_of xs site + n) (once true (nat_eq x site) (eq-eqb x site same))
+
+pub times_of-other : (xs : List ℕ) (x site : ℕ) → (x ≡ site → ⊥) → times_of (xs ++ x ∷ []) site ≡ times_of xs site
+times_of-other xs x site apart = omega (arith, times_of-push xs x site, once false (nat_eq x site) (ne_eqb x site apart))

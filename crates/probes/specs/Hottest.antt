@@ -1,6 +1,6 @@
 -- The line of the sites that were seen most often.
-use Rattle.std.specs.Prelude.{◌≡◌, ℕ, ◌≤◌, Bool, ◌&&◌, ◌||◌, ◌==◌, nat_lt, nat_le, List, ◌++◌, Contains, count_by, find, Option, None, Some, if◌then◌else◌}
-use Rattle.std.specs.Prelude.{codes, slice_index}
+use Rattle.std.specs.Prelude.{◌≡◌, ℕ, ◌≤◌, ◌+◌, ◌*◌, ◌^◌, Bool, ◌&&◌, ◌||◌, ◌==◌, nat_lt, nat_le, Option, None, Some, if◌then◌else◌}
+use Rattle.std.specs.Prelude.{List, ◌++◌, length, Contains, count_by, find, codes, slice_index}
 use Rattle.std.specs.List.{list_all}
 use Rattle.std.specs.Option.{option_map}
 use Rattle.cbi_base.specs.Text.{line_with_newline}
@@ -23,9 +23,15 @@ hottest_of sites = find (λ site. list_all (is_site_ahead_of sites site) sites) 
 abbrev pub best_of : List ℕ → Option (ℕ × ℕ)
 best_of sites = option_map (λ site. (site, times_of sites site)) (hottest_of sites)
 
--- each place of a list says how often the site with its number was observed
-abbrev pub AreTimes : List ℕ → List ℕ → Type 0
-AreTimes counts sites = (site : ℕ) → slice_index counts site ≡ times_of sites site
+-- how often a site was observed, from the list of counts by number and the sites whose count was full and began again at zero, one for each time
+abbrev pub whole_count : List ℕ → List ℕ → ℕ → ℕ
+whole_count counts carried site = slice_index counts site + 2 ^ 64 * times_of carried site
+
+-- counts, and what was carried from them, say of each site how often it was observed
+pub record AreCounted (counts carried sites : List ℕ) : Type 0 where
+  pub times : (site : ℕ) → whole_count counts carried site ≡ times_of sites site
+  pub past : (site : ℕ) → length counts ≤ site → times_of carried site ≡ 0
+  pub few : length counts ≤ 2 ^ 32
 
 -- the line with this site and this count
 abbrev pub count_line : Option (ℕ × ℕ) → List ℕ

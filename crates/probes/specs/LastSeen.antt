@@ -7,6 +7,10 @@ use Rattle.probes.specs.Sites.{most_sites, sites_seen, sites_line}
 abbrev pub last_of : ℕ → List ℕ → List ℕ
 last_of most sites = drop (length sites - most) sites
 
+-- the sites of the last observations
+abbrev pub last_sites : List Observation → List ℕ
+last_sites seen = last_of most_sites (sites_seen seen)
+
 -- the sites of the last observations, oldest first
 abbrev pub last_seen_line : List Observation → List ℕ
-last_seen_line seen = sites_line (codes "last") (last_of most_sites (sites_seen seen))
+last_seen_line seen = sites_line (codes "last") (last_sites seen)

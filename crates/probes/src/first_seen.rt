@@ -1,56 +1,68 @@
-ghost use Rattle.std.specs.Prelude.{◌↔◌, ℕ, List, Contains, ◌≡◌, ◌≤◌, [], ◌++◌, ◌∷◌, take, IfOk};
+ghost use Rattle.std.specs.Prelude.{◌↔◌, ℕ, List, Contains, ◌≡◌, ◌≤◌, [], ◌++◌, ◌∷◌};
 ghost use Rattle.cbi_base.specs.declared.observation.Observation.{Observation};
-ghost use Rattle.probes.specs.Sites.{most_sites, sites_seen};
-ghost use Rattle.probes.specs.FirstSeen.{firsts_of, first_line};
+ghost use Rattle.probes.specs.FirstSeen.{firsts_of, first_of, first_sites, first_line};
 ghost use Rattle.probes.specs.Hottest.{times_of};
 
-use crate::history::History;
+use crate::log::Log;
 use crate::sites::{MOST_SITES, sites_line};
+use arrayvec::ArrayVec;
 use cbi_base::{Memory, Observation};
 use probe_base::Probe;
 use std::alloc::Global;
 use std::marker::Model;
 
-/// Says which sites were observed first.
+/// Says which sites were observed first. Of what it was told it keeps these sites alone.
 #[derive(Drop)]
 pub struct FirstSeen {
-    history: History,
+    log: Log,
+    sites: ArrayVec<u32, MOST_SITES>,
 }
 
 impl Model for FirstSeen {
-    ghost use Rattle.std.specs.Prelude.{List};
+    ghost use Rattle.std.specs.Prelude.{◌≡◌, List};
     ghost use Rattle.cbi_base.specs.declared.observation.Observation.{Observation};
+    ghost use Rattle.probes.specs.FirstSeen.{first_sites};
 
     ghost Value = { List Observation };
 
-    ghost view = { λ p. p.history };
+    ghost view = { λ p. p.log.observations };
+
+    ghost invariant = { λ p. p.sites.items ≡ first_sites p.log.observations };
 }
 
 impl FirstSeen {
     /// Nothing is observed yet.
-    pub fn new(alloc: Global) -> FirstSeen
+    pub fn new(_alloc: Global) -> FirstSeen
         ensures { result ≡ [] }
     {
         FirstSeen {
-            history: History::new(alloc),
+            log: Log::new(),
+            sites: ArrayVec::new(),
         }
     }
 }
 
-/// The first distinct sites of these observations.
-fn first_sites(alloc: Global, history: &History) -> Result<Vec<u32>, Memory>
-    ensures { IfOk result (λ sites. sites.items ≡ take most_sites (firsts_of (sites_seen history.now))) }
+/// Adds a site behind those before, if it isn't among them and there is room.
+#[inline]
+fn add_first(sites: &mut ArrayVec<u32, MOST_SITES>, site: u32)
+    ensures { (seen : List ℕ) → sites.old.items ≡ first_of seen → sites.new.items ≡ first_of (seen ++ site ∷ []) }
 {
-    let mut sites = Vec::new(alloc);
-    for observation in history.iter() {
-        if sites.len() == MOST_SITES {
-            return Ok(sites);
-        }
-        if !sites.as_slice().contains(&observation.site) {
-            sites.push(observation.site)?;
-        }
+    if sites.is_full() || sites.as_slice().contains(&site) {
+        return;
     }
-    Ok(sites)
+    sites.push(site);
+}
+
+/// Adds the sites of several observations, in order. Once the list is full there is nothing to do.
+fn add_firsts(sites: &mut ArrayVec<u32, MOST_SITES>, observations: &[Observation])
+    ensures { (seen : List Observation) → sites.old.items ≡ first_sites seen → sites.new.items ≡ first_sites (seen ++ observations.now) }
+{
+    if sites.is_full() {
+        return;
+    }
+    for observation in observations {
+        add_first(sites, observation.site);
+    }
 }
 
 impl Probe for FirstSeen {
@@ -59,17 +71,20 @@ impl Probe for FirstSeen {
     ghost line_text = { λ p. first_line p };
 
     fn see(&mut self, observation: Observation) -> Result<(), Memory> {
-        self.history.push(observation)
+        add_first(&mut self.sites, observation.site);
+        self.log = self.log.with(&observation);
+        Ok(())
     }
 
     fn see_several(&mut self, observations: &[Observation]) -> Result<(), Memory> {
-        self.history.push_several(observations)
+        add_firsts(&mut self.sites, observations);
+        self.log = self.log.with_several(observations);
+        Ok(())
     }
 
     fn line(&self, text: &mut Vec<u8>) -> Result<(), Memory> {
         let alloc = *text.allocator();
-        let sites = first_sites(alloc, &self.history)?;
-        let line = sites_line(alloc, b"first".as_slice(), sites.as_slice())?;
+        let line = sites_line(alloc, b"first".as_slice(), self.sites.as_slice())?;
         text.extend_from_slice(line.as_slice())?;
         Ok(())
     }

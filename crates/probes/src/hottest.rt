@@ -1,34 +1,36 @@
-ghost use Rattle.std.specs.Prelude.{◌≡◌, ◌<◌, ◌≤◌, [], ◌++◌, ◌∷◌, ℕ, List, nat_eq, fold, None, unwrap_or, Some, IfSome, IfOk, OnOk};
-ghost use Rattle.std.specs.Prelude.{length, slice_index, vec_len};
-ghost use Rattle.indexmap.specs.IndexMap.{get, IsUnique};
+ghost use Rattle.std.specs.Prelude.{◌≡◌, ◌<◌, ◌≤◌, ◌+◌, ◌*◌, ◌^◌, [], ◌++◌, ◌∷◌, ℕ, List, length, take, slice_index, vec_len};
+ghost use Rattle.std.specs.Prelude.{None, Some, IfOk, OnOk, OnErr};
 ghost use Rattle.cbi_base.specs.declared.observation.Observation.{Observation};
 ghost use Rattle.probes.specs.Sites.{sites_seen};
-ghost use Rattle.probes.specs.Hottest.{hottest_of, best_of, hottest_line, count_line, hotter_site, times_of, AreTimes, IsHottest};
+ghost use Rattle.probes.specs.Hottest.{hottest_of, best_of, hottest_line, count_line, hotter_site, times_of, AreCounted, IsHottest};
 
-use crate::history::History;
+use crate::log::Log;
 use crate::sites::push_number;
 use cbi_base::{Memory, Observation};
-use indexmap::IndexMap;
 use probe_base::Probe;
 use std::alloc::Global;
 use std::marker::Model;
 
-/// Below this number a site is counted in a list, by its number.
-const MOST_LISTED: usize = 65_536;
-
-/// Says which site was observed most often.
+/// Says which site was observed most often. Of what it was told it keeps how often each site was: the place of a count is the site's number. A count
+/// that is full begins again at zero, and then the site stands once more among those that were carried.
 #[derive(Drop)]
 pub struct Hottest {
-    history: History,
+    log: Log,
+    counts: Vec<u64>,
+    carried: Vec<u32>,
 }
 
 impl Model for Hottest {
     ghost use Rattle.std.specs.Prelude.{List};
     ghost use Rattle.cbi_base.specs.declared.observation.Observation.{Observation};
+    ghost use Rattle.probes.specs.Sites.{sites_seen};
+    ghost use Rattle.probes.specs.Hottest.{AreCounted};
 
     ghost Value = { List Observation };
 
-    ghost view = { λ p. p.history };
+    ghost view = { λ p. p.log.observations };
+
+    ghost invariant = { λ p. AreCounted p.counts.items p.carried.items (sites_seen p.log.observations) };
 }
 
 impl Hottest {
@@ -37,57 +39,92 @@ impl Hottest {
         ensures { result ≡ [] }
     {
         Hottest {
-            history: History::new(alloc),
+            log: Log::new(),
+            counts: Vec::new(alloc),
+            carried: Vec::new(alloc),
         }
     }
 }
 
 /// Leaves the list as it is read, and so long that it has this place.
 #[inline]
-fn lengthen(counts: &mut Vec<u64>, site: usize) -> Result<(), Memory>
-    requires { site < MOST_LISTED }
-    ensures there { OnOk result (site < vec_len counts.new) }
-    ensures few { OnOk result (vec_len counts.old ≤ MOST_LISTED → vec_len counts.new ≤ MOST_LISTED) }
-    ensures same { OnOk result ((place : ℕ) → slice_index counts.new.items place ≡ slice_index counts.old.items place) }
+fn lengthen(counts: &mut Vec<u64>, place: usize) -> Result<(), Memory>
+    requires { place < 2 ^ 32 }
+    ensures there { OnOk result (place < vec_len counts.new) }
+    ensures grown { vec_len counts.old ≤ vec_len counts.new }
+    ensures few { vec_len counts.old ≤ 2 ^ 32 → vec_len counts.new ≤ 2 ^ 32 }
+    ensures same { (other : ℕ) → slice_index counts.new.items other ≡ slice_index counts.old.items other }
 {
-    if counts.len() <= site {
-        counts.resize(site + 1, 0)?;
+    if counts.len() <= place {
+        counts.resize(place + 1, 0)?;
     }
     Ok(())
 }
 
-/// How often each site was observed, by its number, where no number is too great for a list.
-fn listed_times(alloc: Global, history: &History) -> Result<Option<Vec<u64>>, Memory>
-    ensures value { IfOk result (λ found. IfSome found (λ counts. AreTimes counts.items (sites_seen history.now))) }
-    ensures few { IfOk result (λ found. IfSome found (λ counts. vec_len counts ≤ MOST_LISTED)) }
+/// Counts a site once more. After `Memory` each is counted as before.
+#[inline]
+fn count(counts: &mut Vec<u64>, carried: &mut Vec<u32>, site: u32) -> Result<(), Memory>
+    ensures ok { OnOk result ((sites : List ℕ) → AreCounted counts.old.items carried.old.items sites
+        → AreCounted counts.new.items carried.new.items (sites ++ site ∷ [])) }
+    ensures memory { OnErr result ((sites : List ℕ) → AreCounted counts.old.items carried.old.items sites
+        → AreCounted counts.new.items carried.new.items sites) }
 {
-    let mut counts = Vec::new(alloc);
-    for observation in history.iter() {
-        let site = observation.site as usize;
-        if site >= MOST_LISTED {
-            return Ok(None);
-        }
-        lengthen(&mut counts, site)?;
-        counts[site] += 1;
+    let place = site as usize;
+    lengthen(counts, place)?;
+    if counts[place] == u64::MAX {
+        carried.push(site)?;
+        counts[place] = 0;
+        return Ok(());
     }
-    Ok(Some(counts))
+    counts[place] += 1;
+    Ok(())
 }
 
-/// How often each site was observed, whatever its number.
-fn times(alloc: Global, history: &History) -> Result<IndexMap<u32, u64>, Memory>
-    ensures value { IfOk result (λ counts. (site : ℕ) → unwrap_or (get nat_eq counts site) 0 ≡ times_of (sites_seen history.now) site) }
-    ensures positive { IfOk result (λ counts. (site : ℕ) → IfSome (get nat_eq counts site) (λ count. 0 < count)) }
+/// Counts the first of these observations, as long as each has a place and its count isn't full. Says how many.
+fn count_listed(counts: &mut [u64], observations: &[Observation]) -> usize
+    ensures few { result ≤ length observations.now }
+    ensures len { length counts.new ≡ length counts.old }
+    ensures counted { (carried : List ℕ) (seen : List Observation) → AreCounted counts.old carried (sites_seen seen)
+        → AreCounted counts.new carried (sites_seen (seen ++ take result observations.now)) }
 {
-    let mut counts = IndexMap::new(alloc);
-    for observation in history.iter() {
-        let count = counts.get(&observation.site).copied().unwrap_or(0);
-        counts.insert(observation.site, count + 1)?;
+    for (i, observation) in observations.iter().enumerate() {
+        let place = observation.site as usize;
+        if place >= counts.len() || counts[place] == u64::MAX {
+            return i;
+        }
+        counts[place] += 1;
     }
-    Ok(counts)
+    observations.len()
+}
+
+impl Hottest {
+    /// Sees the first of these, as long as that takes no memory. Says how many.
+    fn see_listed(&mut self, observations: &[Observation]) -> usize
+        ensures few { result ≤ length observations.now }
+        ensures added { self.new ≡ self.old ++ take result observations.now }
+    {
+        let count = count_listed(self.counts.as_mut_slice(), observations);
+        self.log = self.log.with_several(&observations[..count]);
+        count
+    }
+}
+
+/// How often a site was observed, from its count and the sites that were carried.
+#[inline]
+fn whole_count(count: u64, carried: &[u32], site: u32) -> u128
+    ensures { result ≡ count + 2 ^ 64 * times_of carried.now site }
+{
+    let mut total = u128::from(count);
+    for other in carried {
+        if *other == site {
+            total += 1 << 64;
+        }
+    }
+    total
 }
 
 /// Whichever of the two sites was observed more often: the smaller one where that is as often.
-fn hotter(best: Option<(u32, u64)>, site: u32, count: u64) -> Option<(u32, u64)>
+fn hotter(best: Option<(u32, u128)>, site: u32, count: u128) -> Option<(u32, u128)>
     ensures { result ≡ hotter_site best (site, count) }
 {
     match best {
@@ -96,32 +133,24 @@ fn hotter(best: Option<(u32, u64)>, site: u32, count: u64) -> Option<(u32, u64)>
     }
 }
 
-/// The site with the greatest count of the list, the smallest among equals, and its count.
-fn hottest_listed(counts: &[u64]) -> Option<(u32, u64)>
-    requires { length counts.now ≤ MOST_LISTED }
-    ensures { (sites : List ℕ) → AreTimes counts.now sites → result ≡ best_of sites }
+/// The site that was observed most often, the smallest among equals, and how often it was.
+fn hottest_counted(counts: &[u64], carried: &[u32]) -> Option<(u32, u128)>
+    requires { length counts.now ≤ 2 ^ 32 }
+    ensures { (sites : List ℕ) → AreCounted counts.now carried.now sites → result ≡ best_of sites }
 {
     let mut best = None;
-    for (site, count) in counts.iter().enumerate() {
-        if *count != 0 {
-            best = hotter(best, site as u32, *count);
+    for (place, count) in counts.iter().enumerate() {
+        let site = place as u32;
+        let total = whole_count(*count, carried, site);
+        if total != 0 {
+            best = hotter(best, site, total);
         }
     }
     best
 }
 
-/// The site with the greatest count, the smallest among equals, and its count.
-fn hottest_site(counts: &IndexMap<u32, u64>) -> Option<(u32, u64)>
-    ensures value { result ≡ fold hotter_site None counts.now.entries }
-    ensures unique { IsUnique nat_eq counts.now }
-{
-    counts
-        .iter()
-        .fold(None, |best, (site, count)| hotter(best, *site, *count))
-}
-
 /// The line with this site and its count.
-fn count_line(alloc: Global, best: Option<(u32, u64)>) -> Result<Vec<u8>, Memory>
+fn count_line(alloc: Global, best: Option<(u32, u128)>) -> Result<Vec<u8>, Memory>
     ensures { IfOk result (λ line. line.items ≡ count_line best) }
 {
     let mut line = Vec::from_slice(alloc, b"hottest".as_slice())?;
@@ -129,29 +158,9 @@ fn count_line(alloc: Global, best: Option<(u32, u64)>) -> Result<Vec<u8>, Memory
         line.extend_from_slice(b" none\n".as_slice())?;
         return Ok(line);
     };
-    push_number(&mut line, u64::from(site))?;
+    push_number(&mut line, u128::from(site))?;
     push_number(&mut line, count)?;
     line.push(b'\n')?;
-    Ok(line)
-}
-
-/// The site that was observed most often, and how often it was.
-fn hottest_seen(alloc: Global, history: &History) -> Result<Option<(u32, u64)>, Memory>
-    ensures { IfOk result (λ best. best ≡ best_of (sites_seen history.now)) }
-{
-    if let Some(listed) = listed_times(alloc, history)? {
-        return Ok(hottest_listed(listed.as_slice()));
-    }
-    let counts = times(alloc, history)?;
-    Ok(hottest_site(&counts))
-}
-
-/// The line of this history.
-fn line_of(alloc: Global, history: &History) -> Result<Vec<u8>, Memory>
-    ensures { IfOk result (λ line. line.items ≡ hottest_line history.now) }
-{
-    let best = hottest_seen(alloc, history)?;
-    let line = count_line(alloc, best)?;
     Ok(line)
 }
 
@@ -161,15 +170,26 @@ impl Probe for Hottest {
     ghost line_text = { λ p. hottest_line p };
 
     fn see(&mut self, observation: Observation) -> Result<(), Memory> {
-        self.history.push(observation)
+        count(&mut self.counts, &mut self.carried, observation.site)?;
+        self.log = self.log.with(&observation);
+        Ok(())
     }
 
     fn see_several(&mut self, observations: &[Observation]) -> Result<(), Memory> {
-        self.history.push_several(observations)
+        let mut added = 0;
+        while added < observations.len() {
+            added += self.see_listed(&observations[added..]);
+            if added < observations.len() {
+                self.see(observations[added])?;
+                added += 1;
+            }
+        }
+        Ok(())
     }
 
     fn line(&self, text: &mut Vec<u8>) -> Result<(), Memory> {
-        let line = line_of(*text.allocator(), &self.history)?;
+        let best = hottest_counted(self.counts.as_slice(), self.carried.as_slice());
+        let line = count_line(*text.allocator(), best)?;
         text.extend_from_slice(line.as_slice())?;
         Ok(())
     }

@@ -2,13 +2,12 @@
 #![tactic(auto)]
 
 mod first_seen;
-mod history;
 mod hottest;
 mod last_seen;
+mod log;
 mod sites;
 
 pub use first_seen::{FirstSeen, first_sites_in_order};
-pub use history::packed_observations_are_read;
 pub use hottest::{Hottest, hottest_leads};
 pub use last_seen::LastSeen;
 pub use probe_base::{Probe, push_lines, tell_all};

@@ -8,11 +8,11 @@ use std::alloc::Global;
 pub const MOST_SITES: usize = 16;
 
 /// Appends a space and a number.
-pub fn push_number(line: &mut Vec<u8>, number: u64) -> Result<(), Memory>
+pub fn push_number(line: &mut Vec<u8>, number: u128) -> Result<(), Memory>
     ensures ok { OnOk result (line.new.items ≡ line.old.items ++ number_field number) }
 {
     line.push(b' ')?;
-    push_decimal(line, u128::from(number))
+    push_decimal(line, number)
 }
 
 /// The line that begins with this word and lists these sites.
@@ -24,7 +24,7 @@ pub fn sites_line(alloc: Global, word: &[u8], sites: &[u32]) -> Result<Vec<u8>, 
         line.extend_from_slice(b" none".as_slice())?;
     }
     for site in sites {
-        push_number(&mut line, u64::from(*site))?;
+        push_number(&mut line, u128::from(*site))?;
     }
     line.push(b'\n')?;
     Ok(line)
