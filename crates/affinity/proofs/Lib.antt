@@ -1,6 +1,7 @@
 pub mod FirstLemmas
 pub mod OneFirst
 pub mod FallLemmas
+pub mod StillLemmas
 pub mod NearLemmas
 pub mod RemainingLemmas
 pub mod FailingLemmas

@@ -15,6 +15,7 @@ use Rattle.elimination_tallies.specs.Recount.{failing_runs, is_true}
 use Rattle.elimination_tallies.specs.Tallies.{AreRecounts, Tallies}
 use Rattle.elimination_tallies.proofs.RecountLemmas.{fails-most, recounts-numbers, recounts-scanned}
 use Rattle.elimination.specs.Elimination.{IsElimination, runs_after_leader}
+use Rattle.elimination.proofs.EliminationLemmas.{after-counts}
 use Rattle.affinity.specs.declared.neighbour.Neighbour.{Neighbour}
 use Rattle.affinity.specs.declared.remaining.Remaining.{Remaining}
 use Rattle.affinity.specs.Falls.{IsFall, IsWorth, Scores, scores_over, share_of}
@@ -82,6 +83,7 @@ comparable branches runs p whole left few recounts without =
       left_scanned = recounts-scanned branches rest left.numbers left.failing without.recounts few_left without.failing;
       few = omega (arith, without.all, fails-most runs, few);
       few_left = omega (arith, without.failing, fails-most rest, few_left);
+      fewer = omega (arith, without.failing, without.all, after-counts branches Every p runs);
     }
 
 -- laws

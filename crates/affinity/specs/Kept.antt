@@ -26,3 +26,4 @@ pub record AreComparable (whole : Tallies) (w : Remaining) : Type 0 where
   pub left_scanned : AreScanned w.numbers.tallies w.failing
   pub few : w.all ≤ 100000
   pub few_left : w.failing ≤ 100000
+  pub fewer : w.failing ≤ w.all

@@ -1,4 +1,4 @@
-ghost use Rattle.std.specs.Prelude.{◌≡◌, ◌<◌, ◌≤◌, ℕ, IfOk, IfSome, IfNone};
+ghost use Rattle.std.specs.Prelude.{◌≡◌, ◌<◌, ◌≤◌, ℕ, IfOk, IfSome, IfNone, IsTrue};
 ghost use Rattle.fractions.specs.Tally.{Passes};
 ghost use Rattle.elimination_tallies.specs.Predicates.{predicates_in};
 ghost use Rattle.elimination_tallies.specs.Scanning.{AreScanned, tally_at};
@@ -43,6 +43,15 @@ fn worth(numbers: &Numbers, failing: u32, predicate: u32) -> u64
     }
 }
 
+// Whether a predicate has the same numbers without the runs that were taken away, as where none of these observed its site: then it can't fall.
+fn stays(numbers: &Numbers, rest: &Numbers, predicate: u32) -> bool
+    requires predicate { predicate < predicates_in numbers.now.branches }
+    requires branches { rest.now.branches ≡ numbers.now.branches }
+    ensures { IsTrue result → tally_at numbers.now.tallies predicate ≡ tally_at rest.now.tallies predicate }
+{
+    numbers.tally(predicate) == rest.tally(predicate)
+}
+
 // Another predicate as a neighbour; None exactly where it is the same one, doesn't pass, or doesn't fall.
 fn neighbour(predicate: u32, other: u32, whole: &Numbers, rest: &Remaining) -> Option<Neighbour>
     requires other { other < predicates_in whole.now.branches }
@@ -55,6 +64,9 @@ fn neighbour(predicate: u32, other: u32, whole: &Numbers, rest: &Remaining) -> O
         other fall → 0 < fall → ⊥) }
 {
     if other == predicate {
+        return None;
+    }
+    if stays(whole, &rest.numbers, other) {
         return None;
     }
     let Some(before) = share(whole, rest.all, other) else {

@@ -1,5 +1,6 @@
 pub mod PredicateLemmas
 pub mod ChangeLemmas
+pub mod SurpassedLemmas
 pub mod ScanLemmas
 pub mod ScanState
 pub mod SiteChanges

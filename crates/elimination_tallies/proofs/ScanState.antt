@@ -1,14 +1,16 @@
 -- What a scan knows of the predicates below a number.
 use Rattle.std.proofs.Common.{◌≡◌, ℕ, ◌+◌, ◌*◌, inl, inr, cond, Option, None, Some, sym, subst, ◌∙◌, arith}
-use Rattle.std.specs.Prelude.{MatchOption}
+use Rattle.std.specs.Prelude.{◌≤◌, IfSome, MatchOption}
 use Rattle.std.proofs.lemmas.Bool.{cases_Bool, ltb-true, ltb-false, cond-true, cond-false}
 use Rattle.fractions.specs.declared.fraction.Fraction.{Fraction}
 use Rattle.fractions.specs.declared.tally.Tally.{Tally}
 use Rattle.fractions.specs.Fraction.{IsAtMost}
-use Rattle.fractions.specs.Tally.{Passes, importance_of}
+use Rattle.fractions.specs.Tally.{IsTally, Passes, importance_of}
 use Rattle.elimination_tallies.specs.declared.scan.Candidate.{Candidate}
 use Rattle.elimination_tallies.specs.Leading.{Leads, NonePass}
 use Rattle.elimination_tallies.specs.Scanning.{IsCandidate, is_greater_fraction}
+use Rattle.elimination_tallies.specs.Surpassing.{CannotLead, IsNoGreater}
+use Rattle.elimination_tallies.proofs.SurpassedLemmas.{surpassed}
 use Rattle.elimination_tallies.proofs.ScanLemmas.{AreFractions, first-leads, leads-instead, leads-on, none-more}
 
 -- the best so far leads those below
@@ -50,6 +52,22 @@ next-best numbers k failing b next new fractions best here is =
           let now : IsBest numbers (k + 1) failing b = record { leads = leads-on numbers k failing b.predicate best.leads (λ _. to_best); is = best.is } in
           subst (IsBest numbers (k + 1) failing) (sym (is ∙ cond-false (is_greater_fraction next.importance b.importance) next b most)) now
     ]
+
+-- one that can't lead
+pub behind-best : (best : Option Candidate) (numbers : ℕ → Tally) (k failing : ℕ) → ((q : ℕ) → IsTally (numbers q) × ((numbers q).c ≤ failing)) → failing ≤ 100000 → BestSoFar numbers k failing best → CannotLead (numbers k) best → BestSoFar numbers (k + 1) failing best
+behind-best None numbers k failing tallies few so_far behind = none-more numbers k so_far behind
+behind-best (Some b) numbers k failing tallies few so_far behind =
+    let best = numbers b.predicate in
+    record {
+      leads = leads-on numbers k failing b.predicate so_far.leads
+          (λ passes. surpassed (numbers k) best failing (tallies b.predicate).0 (tallies b.predicate).1 few passes so_far.leads.passes (subst (λ (t : Tally). IsNoGreater (numbers k) t) so_far.is.tally_is (behind passes)));
+      is = so_far.is;
+    }
+
+-- the best so far has the numbers of a predicate
+pub best-tally : (best : Option Candidate) (numbers : ℕ → Tally) (k failing : ℕ) → ((q : ℕ) → IsTally (numbers q) × ((numbers q).c ≤ failing)) → BestSoFar numbers k failing best → IfSome best (λ b. IsTally b.tally)
+best-tally None numbers k failing tallies so_far = tt
+best-tally (Some b) numbers k failing tallies so_far = subst IsTally (sym so_far.is.tally_is) (tallies b.predicate).0
 
 -- one that passes
 pub looked-at : (best : Option Candidate) (numbers : ℕ → Tally) (k failing : ℕ) (next new : Candidate) → AreFractions numbers k failing → BestSoFar numbers k failing best → IsCandidate k (numbers k) failing next

@@ -5,3 +5,4 @@ pub mod Scanning
 pub mod Tallies
 pub mod Table
 pub mod Runs
+pub mod Surpassing

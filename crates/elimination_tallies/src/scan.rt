@@ -1,10 +1,11 @@
-ghost use Rattle.std.specs.Prelude.{◌≡◌, ◌≤◌, ℕ, Some, if◌then◌else◌, IfSome, IfNone, MatchOption};
+ghost use Rattle.std.specs.Prelude.{◌≡◌, ◌≤◌, ℕ, Some, if◌then◌else◌, IfSome, IfNone, IsTrue, MatchOption};
 ghost use Rattle.fractions.specs.declared.tally.Tally.{Tally};
 ghost use Rattle.fractions.specs.Fraction.{IsFraction};
-ghost use Rattle.fractions.specs.Tally.{IsTally, Passes};
+ghost use Rattle.fractions.specs.Tally.{IsTally, Passes, spread_of, surplus_of};
 ghost use Rattle.elimination_tallies.specs.Predicates.{predicates_in};
 ghost use Rattle.elimination_tallies.specs.Leading.{Leads, NonePass};
 ghost use Rattle.elimination_tallies.specs.Scanning.{AreScanned, IsCandidate, is_greater_fraction, tally_at};
+ghost use Rattle.elimination_tallies.specs.Surpassing.{CannotLead, IsNoGreater};
 
 use crate::listed::Listed;
 use crate::numbers::Numbers;
@@ -32,6 +33,54 @@ fn better(best: Option<Candidate>, next: Candidate) -> Candidate
         next
     } else {
         best
+    }
+}
+
+// The top of Increase, or 0 where that isn't positive.
+fn surplus(tally: Tally) -> u64
+    ensures { result ≡ surplus_of tally }
+{
+    let gain = u64::from(tally.a) * u64::from(tally.d);
+    let loss = u64::from(tally.b) * u64::from(tally.c);
+    gain.saturating_sub(loss)
+}
+
+// The bottom of Increase.
+fn spread(tally: Tally) -> u64
+    requires { IsTally tally }
+    ensures { result ≡ spread_of tally }
+{
+    u64::from(tally.a + tally.b) * u64::from(tally.c + tally.d)
+}
+
+// Whether the numbers can't give a greater importance than the others, however many runs fail. It takes no logarithm.
+fn is_no_greater(tally: Tally, other: Tally) -> bool
+    requires tally { IsTally tally }
+    requires other { IsTally other }
+    ensures { IsTrue result → IsNoGreater tally other }
+{
+    if tally.a <= 1 {
+        return true;
+    }
+    if tally.a > other.a {
+        return false;
+    }
+    let own = u128::from(surplus(tally)) * u128::from(spread(other));
+    own <= u128::from(surplus(other)) * u128::from(spread(tally))
+}
+
+// Whether a predicate can't lead: it doesn't pass, or can't have a greater importance than the best so far.
+fn stays_behind(tally: Tally, best: Option<Candidate>) -> bool
+    requires tally { IsTally tally }
+    requires best { IfSome best (λ b. IsTally b.tally) }
+    ensures { IsTrue result → CannotLead tally best }
+{
+    if surplus(tally) == 0 {
+        return true;
+    }
+    match best {
+        None => false,
+        Some(best) => is_no_greater(tally, best.tally),
     }
 }
 
@@ -64,6 +113,9 @@ pub fn leader_in(numbers: &Numbers, failing: u32) -> Option<Listed>
     let mut best = None;
     for predicate in 0..numbers.predicates() {
         let tally = numbers.tally(predicate);
+        if stays_behind(tally, best) {
+            continue;
+        }
         let Some(next) = candidate_of(predicate, tally, failing) else {
             continue;
         };
