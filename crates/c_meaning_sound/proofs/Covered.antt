@@ -38,7 +38,8 @@ use Rattle.sites.specs.Rising.{RisesWithin}
 use Rattle.sites.specs.SitesAt.{Body, change_sites, is_observed, named_pairs, pair_on, pairs_of, pairs_on, partners_of, site_on, sites_at, sites_in}
 use Rattle.sites.specs.SitesAt.{sites_standing, stand_on}
 use Rattle.sites.specs.Table as table
-use Rattle.sites.specs.Table.{body_with, defined_by, item_sites, items_sites}
+use Rattle.defined_functions.specs.Functions.{defined_by}
+use Rattle.sites.specs.Table.{body_with, item_sites, items_sites}
 use Rattle.sites.specs.Visible.{slot_of}
 use Rattle.sites.proofs.RisesTable.{rises-item}
 

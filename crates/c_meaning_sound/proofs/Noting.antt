@@ -1,4 +1,4 @@
--- What a part of the walk notes, at which tokens, and what holds where nothing is noted there later.
+-- Checking a part of the text writes types at that part's tokens only; a property of these holds of the final table if nobody overwrites them.
 use Rattle.std.proofs.Common.{◌≡◌, ℕ, ◌≤◌, ◌<◌, refl, ap, ◌∙◌, arith, List, [], ◌∷◌, Some, None, ◌+◌, Bool, true, false, length}
 use Rattle.std.specs.Prelude.{Option, slice_get, if◌then◌else◌}
 use Rattle.std.specs.Option.{option_map}

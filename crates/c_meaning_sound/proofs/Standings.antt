@@ -41,7 +41,8 @@ use Rattle.sites.specs.declared.spots.Spot.TheVariants as spot
 use Rattle.sites.specs.Bodies.{entries_spots}
 use Rattle.sites.specs.Constants.{constants_of, new_constants}
 use Rattle.sites.specs.SitesAt.{Body, is_observed, pair_on, pairs_of, pairs_on, partners_of, site_on, sites_at, sites_in, sites_standing, spot_sites, stand_on}
-use Rattle.sites.specs.Table.{body_sites, defined_by, item_sites, items_sites, sites_of}
+use Rattle.defined_functions.specs.Functions.{defined_by}
+use Rattle.sites.specs.Table.{body_sites, item_sites, items_sites, sites_of}
 use Rattle.sites.specs.Visible.{is_hidden, is_partner, is_type, is_visible, slot_of, variable_partners}
 use Rattle.sites.proofs.Owners.{either}
 use Rattle.sites.proofs.Rises as rising

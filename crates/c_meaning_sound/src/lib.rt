@@ -1,4 +1,4 @@
-//! Accepted texts have types that fit: no run of one comes to trap Internal, and its sites change nothing but what is seen.
+//! Soundness of type checking: no run of an accepted text gets stuck (trap `Internal`), and its sites change nothing but what is observed.
 #![tactic(auto)]
 
 mod laws;

@@ -30,7 +30,7 @@ follows_then {w = w} a b = record {
   declared = b.declared ∙ ap (λ l. l ++ b.more) a.declared ∙ append_assoc w.declared_types a.more b.more;
 }
 
--- an item with so many definitions, of which this holds by what is known at the end
+-- An item that defines `count` functions; `P` holds of them in the final table.
 pub record Filed (count : ℕ) (es : List Event) (P : Walk → List Typed → Type 0) (w v : Walk) : Type 0 where
   pub own : List Typed
   pub log : Log

@@ -23,7 +23,7 @@ use Rattle.c_types_faults.specs.Events.{Calls, Other, Event, Value, Initialises,
 use Rattle.c_types_faults.specs.Events.{construct_at, declaration_events, entries_events, events_of, expr_events, exprs_events, for_start_events, initial_events}
 use Rattle.c_types_faults.specs.Events.{item_events, items_events, links_events, optional_events, params_events, postfix_events, scope_events, start_events}
 use Rattle.c_types_faults.specs.Events.{starts_events, statement_events}
-use Rattle.sites.specs.Table.{defined_by, defined_in}
+use Rattle.defined_functions.specs.Functions.{defined_by, defined_in}
 use Rattle.c_types_faults.specs.Known.{Known, Object}
 use Rattle.c_types_faults.specs.Context.{Context, name_declared, declared_in, empty_context, inner_context, known_identifiers}
 use Rattle.c_types_faults.specs.Functions.{Formal, FunctionGives, with_formals}

@@ -36,7 +36,7 @@ use Rattle.c_types_laws.proofs.Leading.{allowed, refused}
 use Rattle.c_types_faults.specs.Events.{Event, Closes, Defines, Names as Naming, Struct, entries_events, item_events, items_events, named_events}
 use Rattle.c_types_faults.specs.Events.{params_events, scope_events}
 use Rattle.c_types_faults.specs.Scopes.{start_of}
-use Rattle.sites.specs.Table.{defined_by}
+use Rattle.defined_functions.specs.Functions.{defined_by}
 use Rattle.c_types_faults.specs.Agrees.{Denotes, IsType}
 use Rattle.c_types_faults.specs.Known.{Entity, Function}
 use Rattle.c_types_faults.specs.Context.{Context, declared_in, inner_context, known_identifiers}

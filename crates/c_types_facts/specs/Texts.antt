@@ -11,7 +11,7 @@ use Rattle.c_types_rules.specs.Words.{cells_of, TypeTree}
 use Rattle.c_types_expressions.specs.declared.walk.Walk.{Walk}
 use Rattle.c_types_walk.specs.ItemWalk.{listed_params}
 use Rattle.c_meaning.specs.Words.{Signature, computed_type, main_of, signature_of}
-use Rattle.sites.specs.Table.{defined_by, functions_of}
+use Rattle.defined_functions.specs.Functions.{defined_by, functions_of}
 use Rattle.c_types.specs.Answers.{type_at}
 use Rattle.c_types.specs.Parts.{Part, Declared, parts_of}
 use Rattle.c_types_faults.specs.NotedCalls.{name_number}

@@ -1,4 +1,5 @@
-//! What is noted of a checked text is what its declarations say: the types of its expressions and variables, its functions' signatures, and where a run begins.
+//! What type checking notes of an accepted text is what its declarations say: the types of its expressions and variables, its functions' signatures,
+//! and where a run begins.
 #![tactic(auto)]
 
 mod laws;

@@ -19,7 +19,7 @@ use Rattle.c_types_expressions.specs.Words.{Fine, declared_meaning, is_reserved,
 use Rattle.c_types_expressions.specs.declared.names.Meaning.{Meaning}
 use Rattle.c_types_expressions.specs.declared.names.Meaning.TheVariants as meaning
 use Rattle.c_types_expressions.specs.declared.walk.Walk.{Walk}
-use Rattle.sites.specs.Table.{functions_of}
+use Rattle.defined_functions.specs.Functions.{functions_of}
 use Rattle.c_types_faults.specs.NotedCalls.{name_number, number_called}
 use Rattle.c_types_faults.specs.Events.{Construct, Calls, Selects, Other, Value, construct_at, events_of}
 use Rattle.c_types_faults.specs.Scopes.{scopes_of}

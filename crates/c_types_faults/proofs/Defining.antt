@@ -21,7 +21,7 @@ use Rattle.c_types_expressions.specs.declared.walk.FunctionEntry.{FunctionEntry}
 use Rattle.c_types_expressions.specs.declared.walk.Walk.{Walk}
 use Rattle.c_types_expressions.specs.Names.{declared_meaning, meaning_of}
 use Rattle.c_types_walk.specs.ItemWalk.{is_defined}
-use Rattle.sites.specs.Table.{functions_of}
+use Rattle.defined_functions.specs.Functions.{functions_of}
 use Rattle.c_types_faults.specs.Events.{Construct, Calls, Selects, Other, Event, Value, Initialises, Variable, Opens, Closes, Struct, Names, Defines}
 use Rattle.c_types_faults.specs.Events.{construct_at, events_of}
 use Rattle.c_types_faults.specs.Scopes.{scopes_of}

@@ -1,6 +1,6 @@
 -- Items: what the walk takes is declared behind it, and where it stops a rule is broken.
 use Rattle.std.proofs.Common.{◌++◌, ⊎_elim, inl, inr, map, ◌≡◌, ℕ, refl, ap, subst, sym, ◌∙◌, List, [], ◌∷◌, Bool, true, false, length, Some, None}
-use Rattle.sites.specs.Table.{defined_in}
+use Rattle.defined_functions.specs.Functions.{defined_in}
 use Rattle.c_syntax.specs.declared.parts.Base.{Base}
 use Rattle.std.specs.Prelude.{slice_get, Option, is_some, ◌||◌}
 use Rattle.std.specs.Str.{bytes_eq}

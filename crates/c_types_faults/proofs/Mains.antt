@@ -11,7 +11,7 @@ use Rattle.c_types_expressions.specs.declared.names.Meaning.{Meaning}
 use Rattle.c_types_expressions.specs.declared.names.Meaning.TheVariants as meaning
 use Rattle.c_types_expressions.specs.declared.walk.Walk.{Walk}
 use Rattle.c_meaning.specs.Words.{main_of, number_defined}
-use Rattle.sites.specs.Table.{functions_of}
+use Rattle.defined_functions.specs.Functions.{functions_of}
 use Rattle.c_types_faults.specs.NotedCalls.{name_number}
 use Rattle.c_types_faults.specs.Events.{events_of}
 use Rattle.c_types_faults.proofs.Calls.{number_at}

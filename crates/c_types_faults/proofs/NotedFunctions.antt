@@ -20,7 +20,7 @@ use Rattle.c_types_expressions.specs.Names.{names_after_scope, declared_meaning,
 use Rattle.c_types_walk.specs.ItemWalk.{is_clashing_name, has_type, known_as, listed_params, with_function}
 use Rattle.c_types_laws.proofs.Declaring.{more_stays}
 use Rattle.c_types_laws.proofs.Steps.{IsFlat}
-use Rattle.sites.specs.Table.{defined_by, defined_in}
+use Rattle.defined_functions.specs.Functions.{defined_by, defined_in}
 use Rattle.c_types_faults.specs.Events.{Event, Closes, Names, declaration_events, entries_events, params_events, scope_events}
 use Rattle.c_types_faults.specs.Scopes.{Scope, declaration_scopes}
 use Rattle.c_types_faults.proofs.Leaving.{AreVariables, Leaves, Left, closed_new}

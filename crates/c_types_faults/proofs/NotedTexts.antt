@@ -8,7 +8,7 @@ use Rattle.c_types.specs.Answers.{note_at}
 use Rattle.c_types.specs.Fault.{walk_tree}
 use Rattle.c_types_expressions.specs.Words.{empty_walk, Fine}
 use Rattle.c_types_expressions.specs.declared.walk.Walk.{Walk}
-use Rattle.sites.specs.Table.{functions_of}
+use Rattle.defined_functions.specs.Functions.{functions_of}
 use Rattle.c_types_faults.specs.Events.{events_of}
 use Rattle.c_types_faults.specs.Scopes.{scopes_of}
 use Rattle.c_types_faults.proofs.NotedFunctions.{Known, items_known}

@@ -6,7 +6,7 @@ use Rattle.c_types_rules.specs.declared.fault.FaultKind.{FaultKind}
 use Rattle.c_types_rules.specs.declared.fault.FaultKind.TheVariants as fault
 use Rattle.c_types_rules.specs.declared.function.FunctionType.{FunctionType}
 use Rattle.c_types_rules.specs.TypeTree.{Int}
-use Rattle.sites.specs.Table.{functions_of}
+use Rattle.defined_functions.specs.Functions.{functions_of}
 use Rattle.c_types_faults.specs.Events.{Event, Calls, Value, events_of}
 use Rattle.c_types_faults.specs.Known.{Entity, Function}
 use Rattle.c_types_faults.specs.Context.{Context, Declared, empty_context}

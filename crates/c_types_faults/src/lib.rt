@@ -1,5 +1,5 @@
-//! Where a text is refused for its types, it breaks a rule of C or of the dialect at that token, and none before it; and where it is
-//! accepted, it keeps them, and what is noted of it says where a variable is in scope, which member lies where, and which function a call is of.
+//! Type checking against the rules of C: a text is refused at the first token at which it breaks a rule of C or of the dialect. An accepted text
+//! keeps them all, and what checking noted of it says where a variable is in scope, which member lies where, and which function a call is of.
 #![tactic(auto)]
 
 mod laws;

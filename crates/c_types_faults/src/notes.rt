@@ -5,7 +5,7 @@ ghost use Rattle.c_types.specs.Fault.{walk_tree};
 ghost use Rattle.c_types_expressions.specs.Walked.{Fine};
 ghost use Rattle.c_types_expressions.specs.declared.walk.Walk.{Walk};
 ghost use Rattle.c_types_faults.specs.NotedCalls.{number_called};
-ghost use Rattle.sites.specs.Table.{functions_of};
+ghost use Rattle.defined_functions.specs.Functions.{functions_of};
 ghost use Rattle.c_types_faults.specs.Events.{construct_at, events_of, is_point};
 ghost use Rattle.c_types_faults.specs.Offsets.{HasOffset};
 ghost use Rattle.c_types_faults.specs.Scopes.{lies_in_scope, scope_name, scopes_of, start_of};

@@ -20,7 +20,7 @@ use Rattle.collector.specs.Sites.{branches_of}
 use Rattle.collector.specs.Spelling.{IsText}
 use Rattle.flow.specs.declared.choice.Part.{Part}
 use Rattle.site_parts.specs.Laws.{FitsWhenWidened, MayWidenWhatFits}
-use Rattle.site_parts.specs.Part.{part_of}
+use Rattle.program_parts.specs.Part.{part_of}
 use Rattle.site_parts.specs.Widened.{MayWiden, MayWidenAll, widened_bundle, widened_report}
 use Rattle.command_inputs.specs.Collections.{fault_of}
 use Rattle.command_inputs.specs.Runs.{HaveSites}

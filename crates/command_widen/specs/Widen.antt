@@ -13,7 +13,7 @@ use Rattle.report_file.specs.declared.draft.Version.TheVariants.{Second}
 use Rattle.collector.specs.declared.collection.Bundle.{Bundle}
 use Rattle.collector.specs.Spelling.{bundle_text}
 use Rattle.flow.specs.declared.choice.Part.{Part}
-use Rattle.site_parts.specs.Program.{part_table}
+use Rattle.program_parts.specs.Program.{part_table}
 use Rattle.site_parts.specs.Widened.{widened_bundle}
 use Rattle.command_base.specs.Limits.{program_limit}
 use Rattle.command_inputs.specs.Programs.{IsNoProgram, IsSpelled}

@@ -12,8 +12,8 @@ use cbi_base::Refusal;
 use command_base::Fault;
 use flow::{Part, Site, SiteKind};
 use program_file::program_id;
+use program_parts::is_part;
 use report_file::{Entry, Report};
-use site_parts::is_part;
 
 // Whether the entry's site is one of these, and has no third counter at a branch.
 fn has_site(sites: &[Site], entry: Entry) -> bool

@@ -1,6 +1,6 @@
 -- What each command reads, does, leaves, tells and refuses. Where the words read as none, nothing is done, left, told or refused.
 -- `told` is what one watcher was told.
-use Rattle.std.specs.Prelude.{◌≡◌, ◌⊎◌, ℕ, List, [], ◌++◌, codes, decimal, Option, Some, None}
+use Rattle.std.specs.Prelude.{◌≡◌, ◌⊎◌, ℕ, List, [], Option, Some, None}
 use Rattle.cbi_base.specs.declared.observation.Observation.{Observation}
 use Rattle.cbi_base.specs.Store.{Held}
 use Rattle.cbi_base.specs.declared.refusal.Refusal.{Refusal}
@@ -11,7 +11,7 @@ use Rattle.command_base.specs.declared.fault.Fault.{Fault}
 use Rattle.command_base.specs.declared.fault.Fault.TheVariants as command_fault
 use Rattle.command_base.specs.declared.done.Done.{Done}
 use Rattle.command_base.specs.declared.done.Done.TheVariants as done
-use Rattle.command_base.specs.declared.done.Done.TheVariants.{Nothing, Added, Counted}
+use Rattle.command_base.specs.declared.done.Done.TheVariants.{Nothing}
 use Rattle.command_base.specs.Faults.{WriteFaultOf}
 use Rattle.command_base.specs.Names.{AreHeld, IsFirstMissing, IsOneOf}
 use Rattle.command_base.specs.Outside.{IsUnmoved, Outside, Wrote, WroteWithin}
@@ -84,14 +84,6 @@ Did told (Some (Pairs words)) before after said = Wrote (IsPaired before.held wo
 Did told (Some (Lines words)) before after said = Wrote (AreLinesListed before.held words) before after × (said ≡ Nothing)
 Did told (Some (Bugs words)) before after said = Wrote (AreBugsListed before.held words) before after × (said ≡ Nothing)
 Did told (Some (Runs words)) before after said = RunsDone told words before after said
-
--- what err is told of it, of the lines of the watchers
-abbrev pub done_text : (said : Done) → (lines : List ℕ) → List ℕ
-done_text done.Lines lines = lines
-done_text Nothing lines = []
-done_text (Added added repeated) lines = codes "added " ++ decimal added ++ codes " repeated " ++ decimal repeated ++ codes "\n"
-done_text (Counted runs failed succeeded neither) lines = lines ++ codes "runs " ++ decimal runs ++ codes " failed " ++ decimal failed
-    ++ codes " succeeded " ++ decimal succeeded ++ codes " neither " ++ decimal neither ++ codes "\n"
 
 -- what it leaves where out or the store doesn't take all that is written
 abbrev pub LeftOn : {B : Type 0} → (told : B → List Observation) → Option Command → (before after : Outside B) → Type 0

@@ -1,4 +1,4 @@
-//! Which command does what the words ask for.
+//! Dispatch: which command does what the words ask for.
 #![tactic(auto)]
 
 mod dispatch;

@@ -18,9 +18,9 @@ use Rattle.sites.specs.Table.{sites_of}
 use Rattle.clone_paths.specs.Cloned.{Cloned, MayClone}
 use Rattle.sampling.specs.Runs.{RunsLike, Samples}
 use Rattle.flow.specs.declared.choice.Part.{Part}
-use Rattle.site_parts.specs.Part.{part_of, part_visits}
-use Rattle.site_parts.specs.Program.{part_table}
-use Rattle.site_parts.specs.Runs.{RunsInPart, part_ending}
+use Rattle.program_parts.specs.Part.{part_of, part_visits}
+use Rattle.program_parts.specs.Program.{part_table}
+use Rattle.program_parts.specs.Runs.{RunsInPart, part_ending}
 use Rattle.lower.specs.Means.{MeansText}
 use Rattle.lower.specs.Programs.{node_count}
 use Rattle.compiler.specs.Accepted.{IsAccepted}

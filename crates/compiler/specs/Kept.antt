@@ -3,7 +3,7 @@ use Rattle.std.specs.Prelude.{List, Option, None, Some}
 use Rattle.cbi_base.specs.declared.observation.Observation.{Observation}
 use Rattle.flow.specs.declared.site.Site.{Site}
 use Rattle.flow.specs.declared.choice.Part.{Part}
-use Rattle.site_parts.specs.Part.{part_of, part_visits}
+use Rattle.program_parts.specs.Part.{part_of, part_visits}
 
 -- the sites of the part, numbered anew; all of them where none is named
 abbrev pub kept_sites : Option Part → List Site → List Site

@@ -1,4 +1,4 @@
-//! From the bytes of a text to its program by a plan: which texts are accepted, what they are compiled to, and why others are refused.
+//! From the bytes of a text to its program by a plan: which texts are accepted, what they are compiled to, and the error for each other text.
 #![tactic(auto)]
 
 mod compile_error;

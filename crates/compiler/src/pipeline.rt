@@ -4,7 +4,7 @@ ghost use Rattle.c_syntax.specs.ItemTree.{SourceTree};
 ghost use Rattle.c_types_expressions.specs.declared.walk.Walk.{Walk};
 ghost use Rattle.c_types.specs.Answers.{known_of, tree_of};
 ghost use Rattle.flow.specs.declared.site.Site.{Site};
-ghost use Rattle.sites.specs.Table.{functions_of};
+ghost use Rattle.defined_functions.specs.Functions.{functions_of};
 ghost use Rattle.clone_paths.specs.Cloned.{MayClone};
 ghost use Rattle.compiler.specs.Accepted.{IsAccepted};
 ghost use Rattle.compiler.specs.Compiled.{DoesPlan, IsCompiled};
@@ -21,8 +21,8 @@ use cbi_base::{Memory, Refusal};
 use flow::{Part, Program, SiteTable};
 use lower::lower;
 use lower_fits::kept_texts_are_whole;
+use program_parts::keep_part;
 use sampling::sample;
-use site_parts::keep_part;
 use sites::{SiteError, schemes_choose_sites, site_table};
 use std::alloc::Global;
 

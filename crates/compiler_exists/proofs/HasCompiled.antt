@@ -6,15 +6,15 @@ use Rattle.c_types_expressions.specs.declared.walk.Walk.{Walk}
 use Rattle.flow.specs.declared.program.ProgramParts.{ProgramParts}
 use Rattle.flow.specs.declared.site.TableParts.{TableParts}
 use Rattle.c_meaning.specs.Texts.{source_of}
-use Rattle.sites.specs.Table.{functions_of}
+use Rattle.defined_functions.specs.Functions.{functions_of}
 use Rattle.clone_paths.specs.Cloned.{MayClone}
 use Rattle.sampling.specs.Runs.{SampledRuns}
 use Rattle.compiler_exists.specs.Cloned.{HasClone}
 use Rattle.flow.specs.declared.choice.Part.{Part}
-use Rattle.site_parts.specs.Part.{part_of}
-use Rattle.site_parts.specs.Program.{part_program}
-use Rattle.site_parts.proofs.Programs.{names_same, nodes_kept, part_is_program, plain_functions, ready_part}
-use Rattle.site_parts.proofs.Whole.{runs_in_part}
+use Rattle.program_parts.specs.Part.{part_of}
+use Rattle.program_parts.specs.Program.{part_program}
+use Rattle.program_parts.proofs.Programs.{names_same, nodes_kept, part_is_program, plain_functions, ready_part}
+use Rattle.program_parts.proofs.Whole.{runs_in_part}
 use Rattle.lower_fits.specs.Ready.{IsReadyText, IsWholeText}
 use Rattle.lower.specs.Means.{MeansText}
 use Rattle.lower.proofs.Graphing.{graph_means}

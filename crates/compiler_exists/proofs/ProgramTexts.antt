@@ -19,7 +19,7 @@ use Rattle.c_meaning_sound.proofs.Whole.{none_fits}
 use Rattle.lower_globals.proofs.Counted.{globals_are}
 use Rattle.lower_fits.proofs.BegunGlobals.{objects_there}
 use Rattle.lower_fits.proofs.DefinedFunctions.{as_many}
-use Rattle.sites.specs.Table.{functions_of}
+use Rattle.defined_functions.specs.Functions.{functions_of}
 use Rattle.compiler_exists.proofs.Cells.{IfGlobals, typed_globals}
 
 module _ (tree : SourceTree) (walk : Walk) (accepted : IsAcceptedTree tree walk) where

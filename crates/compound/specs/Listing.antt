@@ -36,7 +36,7 @@ rates_above None None a b = nat_lt b a
 abbrev pub is_ranked_above : Candidate → Candidate → Bool
 is_ranked_above x y = rates_above x.rating y.rating x.failing y.failing
 
--- the place of a further one: it ranks above those from there on, and not above the one before
+-- where a new pair is inserted: behind the last pair that ranks at least as high
 pub record IsPlaceOf (list : List Candidate) (next : Candidate) (place : ℕ) : Type 0 where
   pub within : place ≤ length list
   pub behind : (k : ℕ) (d : Candidate) → place ≤ k → k < length list → is_ranked_above next (slice_index_or list k d) ≡ true

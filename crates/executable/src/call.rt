@@ -1,7 +1,7 @@
 //! That each call of the top call is one as the laws of calls take it, on a function without a body.
 ghost use Rattle.std.specs.Prelude.{List};
 ghost use Rattle.cbi_base.specs.declared.observation.Observation.{Observation};
-ghost use Rattle.top_call.specs.Told.{IsToldOn};
+ghost use Rattle.cbi_messages.specs.Told.{IsToldOn};
 ghost use Rattle.executable.specs.Call.{MakesACall};
 
 use cbi_base::Sink;

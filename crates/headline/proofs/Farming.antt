@@ -20,8 +20,8 @@ use Rattle.collector.specs.Spelling.{SpellsBundle, bundle_text}
 use Rattle.elimination_tallies.specs.declared.labelled.LabelledRun.{LabelledRun}
 use Rattle.elimination_tallies.specs.Recount.{run_of_report, runs_of}
 use Rattle.ranking.specs.Ranked.{IsRankingOf}
-use Rattle.site_parts.specs.Laws.{HasItsSites}
-use Rattle.site_parts.specs.Part.{part_of, whole_number}
+use Rattle.program_parts.specs.Laws.{HasItsSites}
+use Rattle.program_parts.specs.Part.{part_of, whole_number}
 use Rattle.site_parts.specs.Widened.{widened_entries, widened_report}
 use Rattle.compiler.specs.Accepted.{IsAccepted}
 use Rattle.compiler.proofs.Refusing.{OneKnown, OneTree}

@@ -9,7 +9,7 @@ use Rattle.flow.specs.declared.program.ProgramParts.{ProgramParts}
 use Rattle.flow.specs.declared.site.Site.{Site}
 use Rattle.flow.specs.declared.site.TableParts.{TableParts}
 use Rattle.flow.specs.Words.{counts_of, OneEnding, table_of, SpellsProgram}
-use Rattle.sites.specs.Table.{functions_of}
+use Rattle.defined_functions.specs.Functions.{functions_of}
 use Rattle.countdown_bank.specs.Bank.{number_after}
 use Rattle.report_file.specs.declared.report.Report.{Report}
 use Rattle.report_file.specs.Label.{label_of}

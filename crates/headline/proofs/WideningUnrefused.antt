@@ -7,7 +7,7 @@ use Rattle.flow.specs.declared.choice.Part.{Part}
 use Rattle.flow.specs.declared.choice.Schemes.{Schemes}
 use Rattle.flow.specs.declared.program.ProgramParts.{ProgramParts}
 use Rattle.flow.specs.Words.{OneEnding, SpellsProgram}
-use Rattle.site_parts.specs.Program.{part_table}
+use Rattle.program_parts.specs.Program.{part_table}
 use Rattle.compiler.proofs.Refusing.{OneKnown, OneTree}
 use Rattle.command_base.specs.Limits.{program_limit}
 use Rattle.command_base.proofs.ReadLemmas.{read-once}

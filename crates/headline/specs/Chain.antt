@@ -6,7 +6,7 @@ use Rattle.cbi_base.specs.declared.outcome.Work.{Work}
 use Rattle.c_syntax.specs.ItemTree.{SourceTree}
 use Rattle.c_types_expressions.specs.declared.walk.Walk.{Walk}
 use Rattle.c_meaning.specs.Words.{Behaviour, text_meaning}
-use Rattle.sites.specs.Table.{functions_of}
+use Rattle.defined_functions.specs.Functions.{functions_of}
 use Rattle.flow.specs.declared.program.ProgramParts.{ProgramParts}
 use Rattle.flow.specs.declared.site.Site.{Site}
 use Rattle.flow.specs.declared.site.TableParts.{TableParts}

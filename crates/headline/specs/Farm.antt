@@ -9,7 +9,7 @@ use Rattle.c_syntax.specs.ItemTree.{SourceTree}
 use Rattle.c_types_expressions.specs.declared.walk.Walk.{Walk}
 use Rattle.elimination_tallies.specs.declared.labelled.LabelledRun.{LabelledRun}
 use Rattle.ranking.specs.Ranked.{IsRankingOf}
-use Rattle.site_parts.specs.Part.{whole_number}
+use Rattle.program_parts.specs.Part.{whole_number}
 use Rattle.site_parts.specs.Widened.{widened_entries}
 use Rattle.compiler.specs.Accepted.{IsAccepted}
 use Rattle.compiler.specs.declared.plan.Plan.{Plan}

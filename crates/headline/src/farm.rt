@@ -6,8 +6,8 @@ use collector::{one_collection, order_does_not_matter, written_collection};
 use compiler::one_accepted_text;
 use flow::one_ending;
 use program_file::one_program;
+use program_parts::parts_have_their_sites;
 use report_file::one_report;
-use site_parts::parts_have_their_sites;
 use std::alloc::Global;
 
 /// A farm: each machine runs the program of a part of the sites, and its collection is widened. What `rank` writes of these, collected for the program

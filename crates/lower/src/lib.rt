@@ -1,4 +1,4 @@
-//! From the tree of a text to a program that does what the text means.
+//! Lowering: from the abstract syntax of a checked text to a control-flow graph that does what the text means.
 #![tactic(auto)]
 
 mod functions;

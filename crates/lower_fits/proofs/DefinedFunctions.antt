@@ -19,7 +19,7 @@ use Rattle.c_types_expressions.specs.Walked.{Fine}
 use Rattle.c_types.proofs.FunctionLaws.{frames_are}
 use Rattle.c_meaning.specs.Words.{signature_of, main_of}
 use Rattle.flow.specs.Limits.{function_limit}
-use Rattle.sites.specs.Table.{defined_by, defined_in, functions_of}
+use Rattle.defined_functions.specs.Functions.{defined_by, defined_in, functions_of}
 use Rattle.c_meaning_sound.specs.Accepted.{IsAcceptedTree}
 use Rattle.c_meaning_sound.specs.Sited.{IsSited, IsSitedToken}
 use Rattle.c_meaning_sound.proofs.Spotting.{in_middle}

@@ -24,7 +24,7 @@ use Rattle.c_types_walk.specs.StatementWalk.{walk_declaration}
 use Rattle.c_types.specs.Parts.{declaration_parts}
 use Rattle.c_types.proofs.Noted.{Step, stage}
 use Rattle.c_types.proofs.NotedStatements.{declaration_notes}
-use Rattle.sites.specs.Table.{defined_by, defined_in, functions_of}
+use Rattle.defined_functions.specs.Functions.{defined_by, defined_in, functions_of}
 use Rattle.c_meaning_sound.proofs.Ending.{Follows, Sums, item_follows, items_follow, struct_is, tree_is}
 use Rattle.c_meaning_sound.proofs.Reaching.{Grown, begun_long, begun_stays, comes, definitions_same, fine_known, functions_same, longer_grows, taken}
 use Rattle.c_meaning_sound.proofs.Sizing.{Sized, object_stays}

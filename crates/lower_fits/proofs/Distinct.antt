@@ -10,7 +10,7 @@ use Rattle.c_types.specs.Answers.{note_at}
 use Rattle.c_types_expressions.specs.Names.{declared_meaning}
 use Rattle.c_types.specs.Numbers.{function_of}
 use Rattle.c_types.proofs.FunctionLaws.{functions_numbered}
-use Rattle.sites.specs.Table.{functions_of}
+use Rattle.defined_functions.specs.Functions.{functions_of}
 use Rattle.c_meaning_sound.specs.Accepted.{IsAcceptedTree}
 use Rattle.lower_fits.proofs.Definitions.{AllFit, FitsIn, all_fit, second_both}
 

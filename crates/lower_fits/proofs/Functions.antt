@@ -14,7 +14,7 @@ use Rattle.flow.specs.declared.program.Function.{Function}
 use Rattle.flow.specs.declared.program.Global.{Global}
 use Rattle.flow.specs.declared.site.TableParts.{TableParts}
 use Rattle.flow.specs.Words.{NodesFit, AreDistinct, AreLocals, FunctionsFit, HasMain, IsFunction, IsMain, bounds_of, names_of, parts_of}
-use Rattle.sites.specs.Table.{functions_of}
+use Rattle.defined_functions.specs.Functions.{functions_of}
 use Rattle.c_meaning_sound.specs.Sited.{count_of, local_counts}
 use Rattle.lower_fits.specs.Brought.{IsMainSignature, IsSigned}
 use Rattle.lower_fits.specs.Parts.{ArePartsOf, FitsAsFunction}

@@ -97,7 +97,7 @@ module _ (tree : SourceTree) (z : Walk) (sums : Sums z) (structs : List StructTy
   abbrev pub AllGood : List Operand → Walk → Type 0
   AllGood xs v = AllByRecursion (Steady tree z) xs × Known v
 
-  -- a named type points to what has steps
+  -- a named pointer type points to a type of known size, so arithmetic on it is defined
   pub named_deep : (of : TypeTree) → Flat of → Deep tree z of
   named_deep of h = core_is_deep tree z sums of h
 

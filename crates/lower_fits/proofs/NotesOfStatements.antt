@@ -117,7 +117,7 @@ module _ (tree : SourceTree) (z : Walk) (ends : Ended tree z) (sums : Sums z) (s
       either true e = and_then (counted_known global token (cells_of w.structs of) w k) (λ done v g. h v g e)
       either false e = record { by = tt }
 
-  -- an object's type points to what has steps
+  -- an object's pointer type points to a type of known size, so arithmetic on it is defined
   object_deep : (of : TypeTree) → Deep tree z (core of) → is_object structs of ≡ true → Deep tree z of
   object_deep of d h = (whole_by tree z of d (object_stays structs z.structs of grows stays h)).0
 

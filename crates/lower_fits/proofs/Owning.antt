@@ -19,7 +19,8 @@ use Rattle.sites.specs.Bodies.{entries_spots}
 use Rattle.sites.specs.Rising.{RisesWithin}
 use Rattle.sites.specs.SitesAt.{Body, sites_in}
 use Rattle.sites.specs.Table as table
-use Rattle.sites.specs.Table.{body_with, defined_by, item_sites, items_sites}
+use Rattle.defined_functions.specs.Functions.{defined_by}
+use Rattle.sites.specs.Table.{body_with, item_sites, items_sites}
 use Rattle.sites.proofs.Owners.{BelongsTo, in-body}
 use Rattle.sites.proofs.RisesTable.{rises-item}
 use Rattle.c_meaning_sound.proofs.Accepting.{body_long}

@@ -6,7 +6,8 @@ use Rattle.c_types_expressions.specs.declared.walk.Walk.{Walk}
 use Rattle.flow.specs.declared.site.Site.{Site}
 use Rattle.flow.specs.declared.site.TableParts.{TableParts}
 use Rattle.flow.specs.declared.choice.Schemes.{Schemes}
-use Rattle.sites.specs.Table.{functions_of, sites_of}
+use Rattle.defined_functions.specs.Functions.{functions_of}
+use Rattle.sites.specs.Table.{sites_of}
 use Rattle.c_meaning_sound.specs.Accepted.{IsAcceptedTree}
 use Rattle.c_meaning_sound.specs.Sited.{IsSited}
 

@@ -1,6 +1,5 @@
-//! A compiled text fits: what is known of the tokens of an accepted text is what nodes may name, the nodes of each body are ones that may stand in a
-//! program, of which there are at most 16 for each token, and one more for each site; and its strings, its functions with their names and locals, and
-//! its globals with what they begin with are the parts of one.
+//! A lowered program is well-formed: its nodes name only what there is, they are at most 16 for each token of the text and one more for each site,
+//! and its strings, its functions with their names and locals, and its globals with their initial values are the parts of one program.
 #![tactic(auto)]
 
 mod facts;

@@ -7,7 +7,7 @@ ghost use Rattle.c_types_expressions.specs.declared.walk.Walk.{Walk};
 ghost use Rattle.c_meaning.specs.Words.{facts_of, main_of, Signature};
 ghost use Rattle.flow.specs.Words.{byte_limit, function_limit, local_limit, text_limit, AreLocals, AreTexts};
 ghost use Rattle.flow.specs.declared.program.Text.{Text};
-ghost use Rattle.sites.specs.Table.{functions_of};
+ghost use Rattle.defined_functions.specs.Functions.{functions_of};
 ghost use Rattle.c_meaning_sound.specs.Accepted.{IsAcceptedTree};
 ghost use Rattle.c_meaning_sound.specs.Sited.{IsSited, count_of};
 ghost use Rattle.lower_facts.specs.Signatures.{AreSized};

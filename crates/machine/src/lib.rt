@@ -1,4 +1,4 @@
-//! Runs a program on an input, with a bank of countdowns and within a bound of turns, as the definition of the machine says.
+//! The interpreter: runs a program on an input, with a bank of countdowns, as the definition of the machine says. The bound of turns is its fuel.
 #![tactic(auto)]
 
 mod pending;

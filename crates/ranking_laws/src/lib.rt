@@ -1,5 +1,5 @@
-//! Laws: of each kind of answer that is computed from runs there is one, and no other: eliminations and rankings, predicates near another one and cards,
-//! and the best pair.
+//! Determinism of what is computed from runs: there is exactly one elimination and ranking, one list of predicates near another one, one text of
+//! cards, and one best pair.
 #![tactic(auto)]
 
 mod laws;

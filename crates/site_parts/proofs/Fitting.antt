@@ -11,9 +11,9 @@ use Rattle.report_file.specs.Report.{greatest_site}
 use Rattle.collector.specs.Sites.{branches_of, first_bad, has_site, is_branch, takes_third}
 use Rattle.flow.specs.declared.choice.Part.{Part}
 use Rattle.site_parts.specs.Laws.{FitsWhenWidened, MayWidenWhatFits}
-use Rattle.site_parts.specs.Part.{part_of, whole_number}
+use Rattle.program_parts.specs.Part.{part_of, whole_number}
 use Rattle.site_parts.specs.Widened.{MayWiden, widened_entries, widened_entry}
-use Rattle.site_parts.proofs.Lists.{item_at}
+use Rattle.program_parts.proofs.Lists.{item_at}
 
 branch_at : (part : Part) (sites : List Site) (number : ℕ) → PartFits part → slice_get (branches_of (part_of part sites)) number ≡ slice_get (branches_of sites) (whole_number part number)
 branch_at part sites number is =

@@ -1,12 +1,3 @@
-pub mod Numbers
-pub mod Visits
-pub mod Faults
-pub mod Steps
-pub mod Lists
-pub mod Runs
-pub mod Programs
-pub mod Whole
 pub mod Widening
-pub mod Once
 pub mod Fitting
 pub mod Farms

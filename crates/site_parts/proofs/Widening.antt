@@ -15,7 +15,7 @@ use Rattle.collector.specs.Collected.{marks_of}
 use Rattle.collector.specs.Merging.{AreOfBundle, AreReports, IsBundle}
 use Rattle.collector.specs.Spelling.{IsText, RunsFrom}
 use Rattle.flow.specs.declared.choice.Part.{Part}
-use Rattle.site_parts.specs.Part.{whole_number}
+use Rattle.program_parts.specs.Part.{whole_number}
 use Rattle.site_parts.specs.Widened.{MayWiden, MayWidenAll, widened_entries, widened_bundle, widened_entry, widened_report}
 
 whole_rises : (part : Part) (low site : ℕ) → low ≤ site → whole_number part low ≤ whole_number part site

@@ -1,5 +1,2 @@
-pub mod Part
-pub mod Program
-pub mod Runs
 pub mod Widened
 pub mod Laws

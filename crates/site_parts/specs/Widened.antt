@@ -7,7 +7,7 @@ use Rattle.report_file.specs.declared.report.Report.{Report}
 use Rattle.report_file.specs.Report.{greatest_site}
 use Rattle.collector.specs.declared.collection.Bundle.{Bundle}
 use Rattle.flow.specs.declared.choice.Part.{Part}
-use Rattle.site_parts.specs.Part.{whole_number}
+use Rattle.program_parts.specs.Part.{whole_number}
 
 -- the counters of a site, under its number in the whole table
 abbrev pub widened_entry : Part → Entry → Entry

@@ -3,7 +3,7 @@ ghost use Rattle.flow.specs.Sites.{PartFits};
 ghost use Rattle.report_file.specs.Report.{greatest_site};
 ghost use Rattle.collector.specs.Merging.{IsBundle};
 ghost use Rattle.collector.specs.Spelling.{IsText};
-ghost use Rattle.site_parts.specs.Part.{whole_number};
+ghost use Rattle.program_parts.specs.Part.{whole_number};
 ghost use Rattle.site_parts.specs.Widened.{MayWiden, MayWidenAll, widened_entries, widened_bundle, widened_entry, widened_report};
 
 use cbi_base::{ProgramId, Seq};

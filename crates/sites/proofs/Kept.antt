@@ -19,7 +19,8 @@ use Rattle.sites.specs.Bodies.{entries_spots}
 use Rattle.sites.specs.SitesAt.{Body, stand_on, site_on, is_observed, pair_on, partners_of, pairs_of}
 use Rattle.sites.specs.SitesAt.{pairs_on, spot_sites, sites_standing, sites_at_token, sites_at, sites_in, spot_token}
 use Rattle.sites.specs.Visible.{slot_of}
-use Rattle.sites.specs.Table.{body_with, defined_by, item_sites, items_sites, sites_of}
+use Rattle.defined_functions.specs.Functions.{defined_by}
+use Rattle.sites.specs.Table.{body_with, item_sites, items_sites, sites_of}
 use Rattle.sites.specs.Wanted.{all_schemes, no_schemes, is_site_wanted, wanted_sites}
 
 -- a filter keeps all of a list, or nothing

@@ -21,7 +21,8 @@ use Rattle.sites.specs.Bodies.{entries_spots}
 use Rattle.sites.specs.SitesAt.{Body, stand_on, site_on, is_observed, pair_on, partners_of, pairs_of}
 use Rattle.sites.specs.SitesAt.{pairs_on, named_pairs, spot_sites, sites_standing, sites_at_token, sites_at, sites_in, spot_token}
 use Rattle.sites.specs.Visible.{slot_of}
-use Rattle.sites.specs.Table.{body_with, defined_by, defined_in, item_sites, items_sites}
+use Rattle.defined_functions.specs.Functions.{defined_by, defined_in}
+use Rattle.sites.specs.Table.{body_with, item_sites, items_sites}
 
 -- what holds of every one of a list that may be left out
 pub either : {X : Type 0} (P : X → Type 0) (c : Bool) (xs : List X) → All P xs → All P (if c then xs else [])

@@ -16,7 +16,8 @@ use Rattle.sites.specs.Bodies.{entries_spots}
 use Rattle.sites.specs.Rising.{RisesWithin}
 use Rattle.sites.specs.SitesAt.{Body, stand_on, sites_standing, sites_at_token, sites_at, sites_in}
 use Rattle.sites.specs.Standing.{item_spots}
-use Rattle.sites.specs.Table.{body_with, defined_by, item_sites, items_sites, sites_of}
+use Rattle.defined_functions.specs.Functions.{defined_by}
+use Rattle.sites.specs.Table.{body_with, item_sites, items_sites, sites_of}
 use Rattle.sites.proofs.Owners.{standing}
 use Rattle.sites.proofs.Rises.{Rises, len4, paren-length, wider}
 use Rattle.sites.proofs.RisesBodies.{brace-length, rises-entries}

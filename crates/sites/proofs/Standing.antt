@@ -14,7 +14,7 @@ use Rattle.sites.specs.declared.spots.Spot.TheVariants as spot
 use Rattle.sites.specs.Noted.{IsNotedFor, IsNotedTo}
 use Rattle.sites.specs.SitesAt.{spot_token}
 use Rattle.sites.specs.Standing.{EachToken, IsFrom, IsToken, IsUpTo, StandAtTokens, StandFrom, begins_at, item_spots}
-use Rattle.sites.specs.Table.{defined_by}
+use Rattle.defined_functions.specs.Functions.{defined_by}
 use Rattle.sites.proofs.Rises.{Rises, len4}
 use Rattle.sites.proofs.RisesTable.{rises-held}
 

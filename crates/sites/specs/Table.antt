@@ -4,6 +4,7 @@ use Rattle.std.specs.Prelude.{ℕ, ◌+◌, List, [], ◌∷◌, ◌++◌, lengt
 use Rattle.c_syntax.specs.ItemTree as i
 use Rattle.c_syntax.specs.ItemTree.{ItemTree, SourceTree}
 use Rattle.c_types_expressions.specs.declared.walk.Walk.{Walk}
+use Rattle.defined_functions.specs.Functions.{defined_by}
 use Rattle.flow.specs.declared.site.Site.{Site}
 use Rattle.flow.specs.declared.choice.Schemes.{Schemes}
 use Rattle.sites.specs.declared.spots.Spot.{Spot}
@@ -18,19 +19,9 @@ body_with w lines schemes number spots = record { known = w; lines = lines; sche
 abbrev pub body_sites : Walk → List ℕ → Schemes → ℕ → List Spot → List Site
 body_sites w lines schemes number spots = sites_in (body_with w lines schemes number spots) spots
 
--- the name of the function that the item defines, if it defines one
-abbrev pub defined_by : ItemTree → List (List ℕ)
-defined_by (i.Function token b stars name ps (Some body)) = name ∷ []
-defined_by item = []
-
 abbrev pub item_sites : Walk → List ℕ → Schemes → ℕ → ItemTree → List Site
 item_sites w lines schemes number (i.Function token b stars name ps (Some body)) = body_sites w lines schemes number (entries_spots body)
 item_sites w lines schemes number item = []
-
--- the names of the defined functions
-abbrev pub defined_in : List ItemTree → List (List ℕ)
-defined_in [] = []
-defined_in (x ∷ xs) = defined_by x ++ defined_in xs
 
 -- the sites of these items, of which the first definition has this number
 abbrev pub items_sites : Walk → List ℕ → Schemes → ℕ → List ItemTree → List Site
@@ -40,7 +31,3 @@ items_sites w lines schemes number (x ∷ xs) = item_sites w lines schemes numbe
 -- the sites of a tree of which this is known, for some schemes
 abbrev pub sites_of : SourceTree → Walk → Schemes → List Site
 sites_of t w schemes = items_sites w t.lines schemes 0 t.items
-
--- the names of its functions, by their numbers
-abbrev pub functions_of : SourceTree → List (List ℕ)
-functions_of t = defined_in t.items

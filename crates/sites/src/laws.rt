@@ -5,7 +5,8 @@ ghost use Rattle.c_types_expressions.specs.declared.walk.Walk.{Walk};
 ghost use Rattle.flow.specs.declared.site.Site.{Site};
 ghost use Rattle.flow.specs.declared.choice.Schemes.{Schemes};
 ghost use Rattle.sites.specs.Rising.{RisesWithin};
-ghost use Rattle.sites.specs.Table.{functions_of, item_sites, sites_of};
+ghost use Rattle.defined_functions.specs.Functions.{functions_of};
+ghost use Rattle.sites.specs.Table.{item_sites, sites_of};
 ghost use Rattle.sites.specs.Wanted.{all_schemes, no_schemes, wanted_sites};
 
 /// The table for some schemes has those sites of the table for all that the schemes want, in the same order. So two tables for

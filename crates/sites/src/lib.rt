@@ -1,4 +1,4 @@
-//! The sites of a checked tree: the places at which a run of its program is observed.
+//! The site table of a checked tree: the places at which instrumentation observes a run of its program.
 #![tactic(auto)]
 
 mod constants;

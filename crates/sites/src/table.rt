@@ -8,7 +8,8 @@ ghost use Rattle.sites.specs.Ground.{body_of};
 ghost use Rattle.sites.specs.Noted.{IsEnoughFor, IsNotedFor};
 ghost use Rattle.sites.specs.SitesAt.{branch_sites, change_sites, gives_scalar, is_observed, return_sites, sites_at, sites_in, spot_token};
 ghost use Rattle.sites.specs.Standing.{EachToken, StandAtTokens, StandFrom, begins_at, item_spots};
-ghost use Rattle.sites.specs.Table.{body_sites, defined_by, functions_of, item_sites, sites_of};
+ghost use Rattle.defined_functions.specs.Functions.{defined_by, functions_of};
+ghost use Rattle.sites.specs.Table.{body_sites, item_sites, sites_of};
 
 use crate::constants::constants_of;
 use crate::ground::{Ground, Stand, add_site, stand_at};

@@ -21,7 +21,8 @@ use Rattle.sites.specs.declared.spots.Spot.{Spot}
 use Rattle.sites.specs.declared.spots.Spot.TheVariants as spot
 use Rattle.sites.specs.Bodies.{entries_spots}
 use Rattle.sites.specs.SitesAt.{Body, gives_scalar, pair_on, site_on, spot_sites}
-use Rattle.sites.specs.Table.{body_with, functions_of}
+use Rattle.defined_functions.specs.Functions.{functions_of}
+use Rattle.sites.specs.Table.{body_with}
 use Rattle.sites.specs.Visible.{slot_of}
 use Rattle.sites.specs.Wanted.{all_schemes}
 use Rattle.sites_laws.specs.Partners.{partners_in}

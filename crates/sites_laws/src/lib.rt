@@ -1,4 +1,4 @@
-//! Which sites a text has, in the words of its tree.
+//! The site table in the words of the abstract syntax: which sites a text has.
 #![tactic(auto)]
 
 mod laws;

@@ -19,7 +19,8 @@ use Rattle.probes.proofs.Growing.{AllGrewByPrefix-whole}
 use Rattle.ranking.specs.Ranked.{IsRankingOf}
 use Rattle.ranking.specs.Ranking.{ranking_text}
 use Rattle.report_file.specs.declared.report.Report.{Report}
-use Rattle.sites.specs.Table.{functions_of, sites_of}
+use Rattle.defined_functions.specs.Functions.{functions_of}
+use Rattle.sites.specs.Table.{sites_of}
 use Rattle.sites.specs.Wanted.{all_schemes}
 use Rattle.study_runs.specs.declared.plan.StudyPlan.{StudyPlan}
 use Rattle.study_runs.specs.declared.runs.StudyRuns.{StudyRuns}

@@ -1,4 +1,4 @@
-//! Suspicious lines: the places of a program by the strength of their best predicates over the runs of a collection.
+//! Fault localisation: the lines of a program by the strength of their best predicates over the runs of a collection.
 #![tactic(auto)]
 
 mod laws;

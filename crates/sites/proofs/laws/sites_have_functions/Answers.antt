@@ -1,5 +1,5 @@
 use Rattle.std.proofs.Common.{length, arith}
-use Rattle.sites.specs.Table.{functions_of}
+use Rattle.defined_functions.specs.Functions.{functions_of}
 use Rattle.sites.proofs.Owners.{owned}
 use Rattle.sites.proofs.laws.sites_have_functions.Goals as goal
 

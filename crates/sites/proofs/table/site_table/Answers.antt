@@ -12,7 +12,8 @@ use Rattle.sites.specs.declared.noted.Noted.{Noted}
 use Rattle.flow.specs.declared.choice.Schemes.{Schemes}
 use Rattle.sites.specs.Noted.{IsNotedFor}
 use Rattle.sites.specs.Standing.{StandAtTokens, StandFrom, begins_at, item_spots}
-use Rattle.sites.specs.Table.{defined_by, defined_in, functions_of, item_sites, items_sites, sites_of}
+use Rattle.defined_functions.specs.Functions.{defined_by, defined_in, functions_of}
+use Rattle.sites.specs.Table.{item_sites, items_sites, sites_of}
 use Rattle.sites.proofs.Owners.{owned}
 use Rattle.sites.proofs.Standing.{AreToCome, behind, next_is, noted_there, others, tokens}
 use Rattle.sites.proofs.table.site_table.Goals as goal

@@ -1,7 +1,8 @@
 use Rattle.std.proofs.Common.{◌≡◌, ◌++◌, length, map, drop}
 use Rattle.c_syntax.specs.Plain.{plain_item}
 use Rattle.c_types.specs.Answers.{known_of, tree_of}
-use Rattle.sites.specs.Table.{defined_in, functions_of, items_sites, sites_of}
+use Rattle.defined_functions.specs.Functions.{defined_in, functions_of}
+use Rattle.sites.specs.Table.{items_sites, sites_of}
 use Rattle.sites.proofs.Standing.{AreToCome}
 use Rattle.sites.proofs.table.site_table.Given as goal
 

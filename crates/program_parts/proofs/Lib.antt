@@ -1,0 +1,10 @@
+pub mod Numbers
+pub mod Visits
+pub mod Faults
+pub mod Steps
+pub mod Lists
+pub mod Runs
+pub mod Programs
+pub mod Whole
+pub mod Once
+pub mod Counts

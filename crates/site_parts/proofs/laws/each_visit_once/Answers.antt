@@ -1,5 +1,0 @@
-use Rattle.site_parts.proofs.Once.{seen_once}
-use Rattle.site_parts.proofs.laws.each_visit_once.Goals as goal
-
-pub returns : goal.returns
-returns c = seen_once
