@@ -2,7 +2,7 @@
 
 A program of table/ says behind its text what it does: `refused LINE WORDS`, or what it reads, its words, what it
 writes and its status (or trap), and files that it may open. Without these it writes nothing and ends with 0. `memory cells` or `memory bytes` says
-how its memory is kept, and `flags` what gcc is told more.
+how its memory is kept, and `flags` what gcc is told more. `seen by cells` and `seen by bytes` name the places of which pairs see the values with `--values all`.
 """
 import ast
 import os
@@ -43,6 +43,7 @@ class Due:
         self.memory = (re.search(r"(?m)^/\* memory (cells|bytes) \*/$", text) or ["", ""])[1]
         self.flags = shlex.split((re.search(r"(?m)^/\* flags (.*) \*/$", text) or ["", ""])[1])
         self.trap = int(written[3]) if written and written[2] == "trap" else None
+        self.seen = {memory: set(texts.split("; ")) for memory, texts in re.findall(r"(?m)^/\* seen by (cells|bytes) (.*) \*/$", text)}
 
 
 class Programs(Case):
@@ -95,6 +96,49 @@ class Programs(Case):
                         self.assertEqual("bytes" if any("as bytes" in it for it in ported.liberties) else "cells", due.memory, name)
                     self.hold(name, text, ported)
 
+    def test_values(self):
+        """Programs of whose members, elements and dereferences pairs see the values do what they do without that, and the places are those that stand there."""
+        for name in sorted(os.listdir(TABLE)):
+            if not name.startswith("values_seen_"):
+                continue
+            with open(os.path.join(TABLE, name), encoding="latin-1") as file:
+                text = file.read()
+            due = Due(text)
+            self.assertIn("bytes", due.seen, name)
+            for memory, places in due.seen.items():
+                with self.subTest(name, memory=memory):
+                    ported = cbi_port.port([os.path.join(TABLE, name)], args=due.words, memory=memory, values="all")
+                    self.assertEqual({author for seen, author in ported.names.items() if seen.startswith("cbi_seen_")}, places)
+                    self.hold(name, text, ported)
+
+    def seen_with(self, name, values, **more):
+        """The text with a way of values, and the places that are seen."""
+        ported = cbi_port.port([name], values=values, **more)
+        return ported, {author for seen, author in ported.names.items() if seen.startswith("cbi_seen_")}
+
+    def test_values_near_conditions(self):
+        """How far a place is from a condition: a is read in one, b of another function too, c is handed to a call, and d is only stored."""
+        name = self.write("near.c", "struct s { int a, b, c, d; };\nstatic int is(struct s *x) { return x->b ? 1 : 0; }\nint main(void)\n{\n    struct s y = { 1, 2, 3, 4 };\n"
+                          "    y.b = 3;\n    y.c = 4;\n    y.d = 5;\n    if (y.a && is(&y))\n        return abs(y.c);\n    return y.d;\n}\n")
+        near = {"x->b", "y.b", "y.a"}
+        for memory in ("cells", "bytes"):
+            self.assertEqual([self.seen_with(name, values, memory=memory)[1] for values in ("none", "some", "all")], [set(), near, near | {"y.c", "y.d"}])
+
+    def test_values_within_limits(self):
+        """Where the sites would be too many, places that no condition reads are left out first; that is reported, and the text is taken."""
+        rows = [f"int v{number};" for number in range(120)] + ["static struct s { int " + ", ".join(f"m{number}" for number in range(40)) + "; } s;", "int main(void)", "{"]
+        rows += [f"    s.m{20 + number % 20} = {number % 5};" for number in range(120)] + [f"    if (s.m{number % 20} > 7) v{number % 120}++;" for number in range(240)] + ["    return v3;", "}"]
+        name = self.write("many.c", "\n".join(rows) + "\n")
+        ported, seen = self.seen_with(name, "all")
+        self.assertLess(seen, {f"s.m{number}" for number in range(20)})
+        self.assertTrue(seen)
+        self.assertEqual(ported.liberties, [f"of 40 values of members, elements and dereferences {len(seen)} are seen, since the text or its sites would be too many with more"])
+        self.write("many.ported.c", ported.text)
+        out, _ = self.call("cbi", "transform", "--mode", "full", "many.ported.c")
+        sites = int(re.search(r"(?m)^sites (\d+)$", out)[1])
+        self.assertLess(sites, 65537)
+        self.assertGreater(sites, 50000)
+
     def test_lines(self):
         """Each line of a program is its own in the text: what it has there is a part of it, or was added on the first one."""
         name = os.path.join(TABLE, "statements_of_all_kinds.c")
@@ -118,6 +162,16 @@ class Programs(Case):
             found = [ported.lines[number] for number, row in enumerate(ported.text.decode("latin-1").split("\n")) if "if (c == 'a')" in row]
             self.assertEqual(found, [cbi_port.Line(name, 5, False)])
 
+    def test_operators_that_jumps_leave(self):
+        """`&&`, `||` and `?:` with a call that `longjmp` may leave are statements in the text, with a note of the operator."""
+        name = self.write("joined.c", "#include <setjmp.h>\nint getchar(void);\nint puts(const char *);\nstatic jmp_buf out;\n"
+                          "static int checked(int n) { if (n > 90) longjmp(out, n); return n; }\nint main(void)\n{\n    int c = getchar();\n    if (setjmp(out))\n        return 1;\n"
+                          "    if (c > 'a' && checked(c) < 'f')\n        puts(\"between\");\n    if (c == 'x' || checked(c))\n        puts(\"one\");\n    c = c ? checked(c) : 0;\n    return c;\n}\n")
+        for memory in ("cells", "bytes"):
+            ported = cbi_port.port([name], memory=memory)
+            signs = [(note.line, note.kind, note.text) for note in ported.notes if note.text in ("&&", "||", "?")]
+            self.assertEqual(signs, [(11, "head", "&&"), (13, "turned", "||"), (15, "head", "?")])
+
     def test_lines_of_copies(self):
         """The copies of a function that gives memory have its lines: six types are asked of `xmalloc`."""
         name = os.path.join(TABLE, "memory_by_wrappers.c")
@@ -126,6 +180,15 @@ class Programs(Case):
         made = [row for row, line in zip(rows, ported.lines) if line == cbi_port.Line(name, 11, False) and "p = " in row]
         self.assertEqual(len(made), 6, made)
         self.assertFalse([it for it in ported.added if "xmalloc" in it])
+
+    def test_lines_of_functions_within_functions(self):
+        """A function that stood within another one has its own lines, and the one around it has none of these."""
+        name = os.path.join(TABLE, "functions_within_functions.c")
+        ported = cbi_port.port([name])
+        rows = ported.text.decode("latin-1").split("\n")
+        self.assertEqual([line for row, line in zip(rows, ported.lines) if "asked_" in row and "++" in row], [cbi_port.Line(name, 18, False)])
+        self.assertEqual([line for row, line in zip(rows, ported.lines) if "= &asked" in row], [cbi_port.Line(name, 21, False)])
+        self.assertFalse([it for it in ported.added if "compare" in it])
 
 
 class Worked(Case):
@@ -218,6 +281,47 @@ class Files(Case):
             ported = cbi_port.port([main, more, third], ["-I" + self.room], memory=memory)
             checked = check.compare(builds.Files([main, more, third], ["-I" + self.room]), ported, [("none", b"")], CBI, None, TURNS)
             self.assertEqual(checked.equal, 1, checked.differences)
+
+    def test_what_runs_before_main_in_each_file(self):
+        """Those of a lesser number first, whichever file has them; those of one number in the order of the files."""
+        main = self.write("main.c", "#include <stdio.h>\nextern int known[4], count;\nstatic void own(void) __attribute__((constructor));\n"
+                          "static void own(void) { known[count++] = 1; }\n"
+                          "int main(void)\n{\n    for (int i = 0; i < count; i++)\n        printf(\"%d \", known[i]);\n    puts(\"main\");\n    return 0;\n}\n")
+        more = self.write("more.c", "#include <stdio.h>\nint known[4], count;\n__attribute__((constructor)) static void own(void) { known[count++] = 2; }\n"
+                          "__attribute__((constructor(101))) static void first(void) { known[count++] = 3; }\n"
+                          "__attribute__((destructor)) static void last(void) { puts(\"last\"); }\n")
+        ported = cbi_port.port([main, more])
+        native = builds.run_native(builds.compiled([main, more], [], self.room, "built", ["-O0"]), [], b"")
+        self.assertEqual((native.output, native.status), (b"3 1 2 main\nlast\n", 0))
+        checked = check.compare(builds.Files([main, more]), ported, [("none", b"")], CBI, None, TURNS)
+        self.assertEqual(checked.equal, 1, checked.differences)
+
+    def test_other_names_in_each_file(self):
+        """A name that stands for another does so in all files; one that a file defines is what it defines there."""
+        main = self.write("main.c", "#include <stdio.h>\nint shown(int), own(int);\nextern int number;\nint main(void)\n{\n    number = 4;\n    printf(\"%d \", shown(1));\n"
+                          "    printf(\"%d\\n\", own(2));\n    return number;\n}\nint own(int n) { return 100 * n; }\n")
+        more = self.write("more.c", "static int hidden;\nstatic int kept(int n) { return n + hidden; }\nint shown(int) __attribute__((alias(\"kept\")));\n"
+                          "int own(int) __attribute__((weak, alias(\"kept\")));\nextern int number __attribute__((alias(\"hidden\")));\n")
+        native = builds.run_native(builds.compiled([main, more], [], self.room, "built", ["-O0"]), [], b"")
+        self.assertEqual((native.output, native.status), (b"5 200\n", 4))
+        for files in ([main, more], [more, main]):
+            checked = check.compare(builds.Files(files), cbi_port.port(files), [("none", b"")], CBI, None, TURNS)
+            self.assertEqual(checked.equal, 1, checked.differences)
+
+    def test_what_stands_within_structs_of_headers(self):
+        """Enumerators and tags within a struct of a header are declared in each file that has it, also where the header's path is written otherwise."""
+        os.mkdir(self.path("more"))
+        self.write("undo.h", "typedef struct state *handle;\ntypedef struct { enum { ADD = 5, DEL } kind; struct place { int at; } where; } undo_t;\nint told(undo_t *, handle);\n")
+        main = self.write("more/main.c", "#include <stdio.h>\n#include \"undo.h\"\nhandle made(int);\nint main(void)\n{\n    undo_t u = { DEL, { 3 } };\n    struct place p = { 7 };\n"
+                          "    printf(\"%d %d %d\\n\", told(&u, made(20)), p.at, ADD);\n    return 0;\n}\n")
+        more = self.write("more.c", "#include <stdlib.h>\n#include \"undo.h\"\nstruct state { int n; };\nhandle made(int n)\n{\n    handle h = malloc(sizeof *h);\n    h->n = n;\n    return h;\n}\n"
+                          "int told(u, h) undo_t *u; handle h;\n{\n    struct place p = u->where;\n    return (u->kind == DEL ? 100 * p.at : ADD) + h->n;\n}\n")
+        for memory in ("cells", "bytes"):
+            ported = cbi_port.port([main, more], ["-I" + self.path("more/..")], memory=memory)
+            checked = check.compare(builds.Files([main, more], ["-I" + self.path("more/..")]), ported, [("none", b"")], CBI, None, TURNS)
+            self.assertEqual(checked.equal, 1, checked.differences)
+            self.transform(ported.text.decode("latin-1"))
+            self.assertEqual(self.call("cbi", "run", "prog.cbi")[0], "320 7 5\n")
 
     def test_what_is_told_of_the_system(self):
         """`perror` writes glibc's texts where stderr is joined, and that there is no environment is told."""

@@ -410,6 +410,11 @@ int main(void)
 }
 """
 
+    def test_a_text_without_room_for_marks_is_reported_with_its_size(self):
+        rows = ["int main(void) {", "int n = 0;", *["n++;"] * 30000, "return n;", "}", ""]
+        self.assertRegex(marks.Marked(rows).too_large(1), r"^the marks that tell them make the text [23]\d\d,\d\d\d tokens of 90,015, and 100,000 is the most$")
+        self.assertEqual(marks.Marked(rows[:100] + rows[-3:]).too_large(1), "")
+
     def test_a_text_with_marks_does_what_it_did(self):
         text = self.FORMS.replace("    switch_like: n;\n", "")
         marked = marks.Marked(text.split("\n"))

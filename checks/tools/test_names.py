@@ -196,6 +196,37 @@ int main(void)
     return 0;
 }
 """
+MEMBERS = """\
+#include <stdio.h>
+struct table { int live, filled; };
+static void drop(struct table *t, int c)
+{
+    t->filled--;
+    t->live -= 1 + (c == 'q');
+}
+int main(void)
+{
+    struct table t = { 40, 40 };
+    int c;
+    while ((c = getchar()) != EOF)
+        drop(&t, c);
+    putchar("ab"[(t.live < t.filled) * 9]);
+    return 0;
+}
+"""
+ELEMENTS = """\
+#include <stdio.h>
+int main(void)
+{
+    char text[20];
+    int i;
+    if (!fgets(text, 20, stdin))
+        return 1;
+    for (i = 0; text[i]; i++)
+        putchar("ab"[text[i] / 113 * 9]);
+    return 0;
+}
+"""
 TEXTS = {"inner.c": INNER, "items.c": ITEMS, "floats.c": FLOATS, "pointers.c": POINTERS, "labels.c": LABELS, "left.c": LEFT, "copies.c": COPIES}
 # What isn't in the words of the tool: what ran, of which files, and what gcc says.
 ASIDE = re.compile(r"^(smallest failing input|its output|the run again|failing inputs|page|ported|gcc's sanitizers say|used here|memory is kept).*$|\\(\d+|.)", re.MULTILINE)
@@ -277,6 +308,20 @@ class Shown(PortedCase):
         self.assertEqual(self.titles(out), ["items.c:11 in add: p->text = c == 'z' ? NULL : strchr(\"abcdefghijklm\", c) stored NULL"])
         self.assertIn("items.c:22 in main, in strcmp: if (strcmp(p->text, \"m\") != 0)", out)
         self.assertIn("line 22, main: p->text was NULL", out)
+
+    def test_values_of_members(self):
+        """A member beside another one, as pairs of two variables are shown."""
+        out = self.hunted({"table.c": MEMBERS}, "--values", "all", "--memory", "cells")
+        self.assertEqual(self.titles(out), ["table.c:6 in drop: t->live < t->filled after t->live -= 1 + (c == 'q')"])
+
+    def test_values_of_members_in_bytes(self):
+        out = self.hunted({"table.c": MEMBERS}, "--values", "all", "--memory", "bytes")
+        self.assertEqual(self.titles(out), ["table.c:6 in drop: t->live < t->filled after t->live -= 1 + (c == 'q')"])
+
+    def test_values_of_elements(self):
+        """An element that a condition reads, beside a constant: no letter comes behind `q`, so `>=` is true where `==` is, and has the smaller number."""
+        out = self.hunted({"element.c": ELEMENTS}, "--values", "some")
+        self.assertEqual(self.titles(out), ["element.c:8 in main: text[i] >= 113 'q' when read in for (i = 0; text[i]; i++)"])
 
     def test_floats(self):
         self.assertEqual(self.titles(self.hunted({"floats.c": FLOATS})), ["floats.c:4 in over: a > b was true"])

@@ -104,7 +104,10 @@ class Tracer:
         heed_now()
         with open(self.text, "wb") as file:
             file.write(encoded(marked.text(escape, start, end), files.read_bytes(self.source)))
-        call_to(self.program, [self.hunt.plan.cbi, "transform", "--mode=plain", "--", self.text])
+        try:
+            call_to(self.program, [self.hunt.plan.cbi, "transform", "--mode=plain", "--", self.text])
+        except Fault as fault:
+            raise Fault(marked.too_large(escape) or str(fault))
         hangs = self.ran.outcome == "cut turns"
         turns = min(MOST_TURNS, MARKS_A_TURN * self.hunt.plan.turns) if hangs else MOST_TURNS
         words = [self.hunt.plan.cbi, "run", f"--input={self.ran.path}", f"--turns={turns}", f"--report={self.report}", "--", self.program]

@@ -14,6 +14,7 @@ TYPES = ("void", "char", "int", "unsigned", "struct")
 AT, IN, OUT, LOOP, UNLOOP = range(5)
 TICK = 4096           # events between two ticks
 MOST_LOOPS = 2000     # of all active calls
+MOST_TOKENS = 100000  # of a text (docs/reference/LANGUAGE.md)
 WIDTH = 600           # active calls; a machine has 512
 RECENT = 256          # statements that are remembered, also those of the port's own functions
 PRELUDE = """\
@@ -80,6 +81,11 @@ class Marked:
 
     def at(self, place: int) -> str:
         return self.call(AT, self.source.tokens[place].line)
+
+    def too_large(self, escape: int) -> str:
+        """What is said where the text has no room for the marks; nothing where it has."""
+        size, plain = (len(Source(text.split("\n")).tokens) for text in (self.text(escape, 0, 0), self.source.text))
+        return f"the marks that tell them make the text {size:,} tokens of {plain:,}, and {MOST_TOKENS:,} is the most" if size > MOST_TOKENS else ""
 
     def text(self, escape: int, start: int, end: int) -> str:
         """The whole text, which writes between two counts, or nothing but ticks where there is no first one."""

@@ -56,7 +56,7 @@ def text_of(chosen: argparse.Namespace, cbi: str, kept: Kept, inputs: Inputs) ->
             os.remove(kept.path(name))
     import cbi_port
     why = None
-    if len(chosen.texts) == 1 and not chosen.cpp and chosen.args is None and chosen.memory == "auto" and not chosen.stderr and not cbi_port.wraps(chosen):
+    if len(chosen.texts) == 1 and not chosen.cpp and chosen.args is None and chosen.memory == "auto" and not chosen.stderr and not cbi_port.wraps(chosen) and chosen.values == "none":
         try:
             transform(chosen, cbi, chosen.text, kept.path("program"))
             shutil.copyfile(chosen.text, kept.path("source.c"))
@@ -77,7 +77,7 @@ def lacking(chosen: argparse.Namespace, why: Optional[str], missing: Exception) 
     """What to do where the porter lacks something, first; and then what of the text asks for the porter."""
     no_parser = isinstance(missing, ImportError) or "pycparser" in str(missing)
     first = f"cbi-hunt: no pycparser for {sys.executable}: {cure()}" if no_parser else f"cbi-hunt: {missing}"
-    asking = "Several files, options of the preprocessor, --args, --memory, --stderr and --wrap ask for the porter, which needs it."
+    asking = "Several files, options of the preprocessor, --args, --memory, --stderr, --wrap and --values ask for the porter, which needs it."
     return f"{first}\n" + (asking if why is None else f"The porter, which translates what the dialect lacks, needs it. Without it this is refused:\n{refused(chosen.text, why)}")
 
 
@@ -109,7 +109,7 @@ def ported_text(chosen: argparse.Namespace, cbi: str, kept: Kept, inputs: Inputs
     limit = sys.getrecursionlimit()
     sys.setrecursionlimit(max(limit, DEEP))
     try:
-        ported = cbi_port.port(chosen.texts, chosen.cpp, words_of(chosen), chosen.stderr, chosen.memory, wrap=cbi_port.wraps(chosen))
+        ported = cbi_port.port(chosen.texts, chosen.cpp, words_of(chosen), chosen.stderr, chosen.memory, wrap=cbi_port.wraps(chosen), values=chosen.values)
     except cbi_port.Refused as problems:
         raise Refused(gcc_says(chosen.texts, chosen.cpp) or str(problems))
     except (cbi_port.Missing, ImportError) as missing:

@@ -4,7 +4,7 @@ import re
 from typing import Callable, List
 
 from cbi_show import files
-from cbi_port import for_preprocessor
+from cbi_port import VALUES, for_preprocessor
 
 MOST_NUMBER = 4294967295  # of a run
 TURNS = 1000000
@@ -87,6 +87,7 @@ def arguments(words: List[str]) -> argparse.Namespace:
     parser.add_argument("--args", metavar="WORDS", help="the arguments of main: words, or first-line for those of the input's first line; the text is ported")
     parser.add_argument("--cflags", default="", metavar="FLAGS", help="the flags of your own build, which a ported text is compared with; -fwrapv there is --wrap too")
     parser.add_argument("--wrap", action="store_true", help="signed integers wrap where they overflow, as with gcc's -fwrapv; the text is ported")
+    parser.add_argument("--values", choices=VALUES, default=VALUES[0], help="of how many members, elements and dereferences pairs see the values; the text is ported unless it is none")
     parser.add_argument("--no-check", dest="check", action="store_false", help="doesn't compare a ported text with what gcc makes of the files")
     parser.add_argument("--inputs", metavar="DIR", required=True, help="the inputs: a folder of files, or a file of lines")
     judges = parser.add_mutually_exclusive_group()

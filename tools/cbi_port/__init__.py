@@ -7,6 +7,7 @@ import argparse
 from typing import Callable, Dict, Iterator, List, NamedTuple, Optional, Sequence, Tuple, Union
 
 WRAPPING = {"-fwrapv", "-fno-strict-overflow"}   # flags of gcc
+VALUES = ("none", "some", "all")                  # of how many members, elements and dereferences pairs see the values
 
 
 class Line(NamedTuple):
@@ -119,7 +120,7 @@ def read_map(text: str) -> Map:
 
 
 def pair(row: str) -> Tuple[str, str]:
-    name, author = row.split(" ")
+    name, author = row.split(" ", 1)
     return name, author
 
 
@@ -147,13 +148,14 @@ def wraps(chosen: argparse.Namespace) -> bool:
 
 
 def port(files: Sequence[str], cpp: Sequence[str] = (), args: Optional[Union[str, Sequence[str]]] = None,
-         stderr: bool = False, memory: str = "auto", named: Sequence[Tuple[str, Optional[bytes]]] = (), wrap: bool = False) -> Ported:
+         stderr: bool = False, memory: str = "auto", named: Sequence[Tuple[str, Optional[bytes]]] = (), wrap: bool = False, values: str = "none") -> Ported:
     """The files as one text of the dialect.
 
     `cpp` are options of the preprocessor (`-I`, `-D`). `args` are the words behind the program's name: a list, or
     "first-line" for those of the first line of the input. `stderr` joins what goes to stderr to the output. `named` are the
-    files that the text may open, by their names; the one without bytes is the one input. `wrap` lets signed numbers wrap.
+    files that the text may open, by their names; the one without bytes is the one input. `wrap` lets signed numbers wrap. `values` says
+    of how many members, elements and dereferences pairs see the values: "none", "some" or "all".
     Raises `Refused`, `Missing` for want of a tool, and OSError for a file that can't be read.
     """
     from cbi_port.files import port_files
-    return port_files(files, list(cpp), args, stderr, memory, named, wrap)
+    return port_files(files, list(cpp), args, stderr, memory, named, wrap, values)

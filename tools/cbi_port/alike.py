@@ -1,7 +1,8 @@
 """Types by the cells that hold them: how many these are, and which types look at the same cells in the same way."""
-from typing import Tuple
+import re
+from typing import FrozenSet, Tuple
 
-from cbi_port.types import Array, CType, Int, List_, Pointer, Struct, is_long, same, size_of, spread, to_function
+from cbi_port.types import Array, CType, Function, Int, List_, Pointer, Struct, is_long, same, size_of, spread, to_function
 
 
 def cells(type_: CType) -> int:
@@ -55,6 +56,31 @@ def begins_with(struct: CType, type_: CType) -> bool:
             return True
         struct = first
     return False
+
+
+def one_type(left: CType, right: CType, given: FrozenSet[Tuple[int, int]] = frozenset()) -> bool:
+    """Whether types of two files are one: structs of the same tag whose members have the same names and types (6.2.7)."""
+    if isinstance(left, Struct) and isinstance(right, Struct):
+        pair = (id(left), id(right))
+        if left is right or pair in given or not left.complete and not right.complete and tag_of(left) == tag_of(right):
+            return True
+        if (tag_of(left), left.union, left.size, len(left.members)) != (tag_of(right), right.union, right.size, len(right.members)):
+            return False
+        return all((one.name, one.at, one.bits, one.shift) == (other.name, other.at, other.bits, other.shift) and one_type(one.type, other.type, given | {pair})
+                   for one, other in zip(left.members, right.members))
+    if isinstance(left, Pointer) and isinstance(right, Pointer):
+        return one_type(left.to, right.to, given)
+    if isinstance(left, Array) and isinstance(right, Array):
+        return left.count == right.count and one_type(left.of, right.of, given)
+    if isinstance(left, Function) and isinstance(right, Function):
+        return (len(left.parameters), left.more, left.known) == (len(right.parameters), right.more, right.known) and one_type(
+            left.result, right.result, given) and all(one_type(one, other, given) for one, other in zip(left.parameters, right.parameters))
+    return same(left, right)
+
+
+def tag_of(struct: Struct) -> str:
+    """The tag that the text gives a struct; of the second one of a name the port has a number behind it."""
+    return re.sub(r"_\d+$", "", struct.tag)
 
 
 def is_prefix(short: Struct, long: Struct) -> bool:

@@ -3,8 +3,9 @@ from typing import Any, Dict, List, Sequence, Tuple
 
 from cbi_port.blocks import Declarator, Declare, Definition, Evaluate, Head, If, Record, Return, Statement
 from cbi_port.byte_objects import BASE, STACK, ByteObjects
-from cbi_port.images import runs
-from cbi_port.nodes import Assign, Binary, Braces, Call, Name, Node, Number, Part
+from cbi_port.images import MOST_LISTED, runs
+from cbi_port.nodes import Assign, Binary, Braces, Call, Name, Node, Number, Part, String
+from cbi_port.system import quoted
 from cbi_port.types import CHAR, INT, UINT, VOID, Function, Pointer
 from cbi_port.values import Value, word
 
@@ -155,7 +156,10 @@ class Bytes(ByteObjects):
         data = self.image.rstrip(b"\0")
         words = runs([int.from_bytes(data[at:at + 4].ljust(4, b"\0"), "little") for at in range(0, len(data), 4)])
         helpers.heads.insert(0, Declare(Declarator(UINT, "unsigned", 0, "cbi_m", (self.words,))))
-        if words:
+        if len(words) > MOST_LISTED:
+            bytes_ = b"".join(it.to_bytes(4, "little") for it in words)
+            self.start.append(Evaluate(Call(VOID, "cbi_begin_text", (String(Pointer(CHAR), quoted(bytes_)), word(len(words))))))
+        elif words:
             helpers.heads.insert(1, table("cbi_image", words))
             self.begin("cbi_begin", "cbi_image", len(words))
         for name, at in (("cbi_stack_begin", end), ("cbi_heap_begin", end + STACK), ("cbi_heap_end", 4 * self.words)):

@@ -6,8 +6,8 @@ from cbi_port.nodes import Call, Node
 from cbi_port.operators import Operators
 from cbi_port.scopes import BUILTIN, Symbol, plain_name
 from cbi_port.trees import kind
-from cbi_port.types import (DOUBLE, FLOAT, INT, UINT, VOID, Array, CType, Function, Int, List_, Pointer, Quals, Struct, exactly, is_long, is_pointer,
-                            is_whole, promoted, size_of, spelled)
+from cbi_port.types import (DOUBLE, FLOAT, INT, UINT, VOID, Array, CType, Function, Int, List_, Pointer, Quals, Struct, align_alone, align_of, exactly, is_long,
+                            is_pointer, is_whole, promoted, size_of, spelled)
 from cbi_port.values import Value, retyped, word
 
 
@@ -122,13 +122,17 @@ class Calls(Operators):
         if type_.known and (len(values) < len(type_.parameters) or len(values) > len(type_.parameters) and not type_.more):
             raise self.refuse(node, f"{len(values)} arguments where {len(type_.parameters)} are wanted", "an argument for each parameter")
         kinds = list(type_.parameters) if type_.known else [self.by_default(it) for it in values]
-        name = self.dispatcher(type_, kinds)
+        gives = self.givers.may_give(type_)
+        name = "" if gives else self.dispatcher(type_, kinds)
         given = [self.room(type_.result)] if is_whole(type_.result) else []
         given.append(value.code)
         for it, parameter in zip(values, kinds):
             given.append(self.passed(it, parameter, node).code)
         if type_.more:
             given.append(self.more(values[len(kinds):], node))
+        if gives:
+            made: Value = self.givers.called(value, type_, kinds, given, node, arguments)
+            return made
         return Value(type_.result, Call(type_.result, name, tuple(given), None, self.place_of(node)), pure=False)
 
     def dispatcher(self, type_: Function, kinds: Sequence[CType]) -> str:
@@ -175,10 +179,11 @@ class Calls(Operators):
         if name == "__cbi_same_types":
             left, right = (self.type_under_sizeof(argument.expr) for argument in arguments)
             return number(int(exactly(left, right)))
-        if name == "__cbi_align":
-            from cbi_port.types import align_of
+        if name.startswith("__cbi_align"):
             inner = arguments[0].expr
-            return number(max(align_of(self.type_under_sizeof(inner)), self.said_alignment(inner)), UINT)
+            type_ = self.type_under_sizeof(inner)
+            alone = name == "__cbi_align_alone" and kind(inner) != "StructRef"
+            return number(max(align_alone(type_) if alone else align_of(type_), self.said_alignment(inner)), UINT)
         if name.startswith("__cbi_statement"):
             return self.statement_value(node, name, used)
         if name == "__cbi_range":
@@ -190,7 +195,7 @@ class Calls(Operators):
             self.label_owner.wanted_labels.setdefault(label, self.place_of(node))
             at = self.label_segment(label)
             return Value(Pointer(VOID), retyped(Pointer(VOID), word(at)), at)
-        raise self.refuse(node, "a jump to a label that is reckoned, within an expression", "a `switch`", True)
+        raise self.refuse(node, "a jump to a computed label, within an expression", "a `switch`", True)
 
     def offset(self, node: Any, arguments: Sequence[Any]) -> Value:
         type_ = self.resolve(arguments[0].type)

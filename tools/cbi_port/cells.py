@@ -1,9 +1,10 @@
 """Memory as the dialect has it (C99 6.2.6, 6.3.2): a cell for each scalar, which gives back what was stored in it."""
 from typing import Any, Dict, List, Optional, Tuple
 
-from cbi_port.alike import all_words, begins_with, cells, innermost, is_address, is_prefix, like_char
+from cbi_port.alike import all_words, begins_with, cells, innermost, is_address, is_prefix, like_char, one_type
 from cbi_port.blocks import Declarator, Record
 from cbi_port.conversions import number
+from cbi_port.kinds import WAS_VOID, counts_bytes
 from cbi_port.nodes import (ADD, ASSIGN, EQUAL, POSTFIX, UNARY, Assign, Behind, Binary, Call, Cast, Group, Index, Name, Node, Null, Number, Part, String,
                             Unary, held, level, product, sequence, walk)
 from cbi_port.scopes import Symbol
@@ -105,7 +106,8 @@ class Cells:
     def target(self, pointer: Value, node: Any = None) -> Place:
         """The place to which a pointer points."""
         to = pointer.type.to
-        if isinstance(to, Void):
+        if isinstance(to, Void) or WAS_VOID in pointer.type.quals:
+            self.program.kinds.hide(to)
             raise self.program.refuse(node, "`*` of a `void *`", "a pointer to a type", True)
         if isinstance(to, Array):
             return Place(to, pointer.code, pointer.pure, flat=True, quals=pointer.type.quals)
@@ -238,7 +240,9 @@ class Cells:
 
     def address(self, place: Place, node: Any = None) -> Value:
         if place.union is not None:
-            raise self.program.refuse(node, "`&` of a union's member", "a struct with a member for each kind of value", True)
+            if not self.program.unions.is_told(place.union[0]):
+                raise self.program.refuse(node, "`&` of a union's member", "a struct with a member for each kind of value", True)
+            place = self.within(place, STORED)      # what points to it may store there
         if place.member is not None:
             raise self.program.refuse(node, "`&` of a bit-field", "a member without a width")
         type_ = place.type
@@ -306,6 +310,8 @@ class Cells:
             return value.as_type(type_)
         if value.null:
             return self.null(type_)
+        handed = self.program.kinds.characters.is_handed_on(value.code, type_.to)
+        self.program.kinds.flows(value, type_, handed)
         if to_function(from_) != to_function(type_):
             if isinstance(type_.to, (Void, Function)) or isinstance(from_.to, (Void, Function)):
                 raise self.program.refuse(node, "a pointer to a function as another pointer", "a pointer to a function", True)
@@ -319,16 +325,17 @@ class Cells:
             self.program.fresh_types.add(self.spell(type_.to) if not isinstance(type_.to, Array) else "array")
             return Value(type_, retyped(type_, value.fresh(spread(type_.to)[0] if is_open(type_.to) else type_.to)), pure=False)
         if isinstance(type_.to, Void):
-            self.generic(from_, value)
+            if not handed:
+                self.generic(from_, value, type_)
             if implicit or isinstance(from_.to, Void):
                 return value.as_type(type_)
             return Value(type_, Cast(type_, "void *", value.code), pure=value.pure)
         if isinstance(from_.to, Void):
+            made = value.as_type(type_) if implicit else Value(type_, Cast(type_, self.spell(type_), value.code), pure=value.pure)
             if like_char(type_.to) and not self.program.in_prelude:  # which takes characters alone
-                self.program.from_generic.append(self.program.place_of(node) if node is not None else -1)
-            if implicit:
-                return value.as_type(type_)
-            return Value(type_, Cast(type_, self.spell(type_), value.code), pure=value.pure)
+                self.program.from_generic.append(from_.to)
+                self.program.kinds.characters.look(made.code, from_.to, self.program.refuse(node, "", "").at)
+            return made
         if not self.alike(from_.to, type_.to):
             raise self.program.refuse(node, f"a `{spelled(from_)}` as a `{spelled(type_)}`",
                                       "the right kind from the beginning, or `void *` between the two", True)
@@ -336,10 +343,10 @@ class Cells:
             return value.as_type(type_)
         return Value(type_, self.cast(type_, value.code), pure=value.pure)
 
-    def generic(self, from_: Any, value: Value) -> None:
-        """Notes a pointer to characters that was reckoned and becomes a `void *`."""
+    def generic(self, from_: Any, value: Value, type_: Any) -> None:
+        """Notes a pointer to characters that was computed and becomes a `void *`."""
         if like_char(from_.to) and level(value.code) in (ADD, UNARY, ASSIGN) and not any(isinstance(it, String) for it in walk(value.code)):
-            self.program.to_generic.append(self.program.last_place)
+            self.program.to_generic.append((self.program.last_place, type_.to))
 
     def alike(self, from_: CType, to: CType) -> bool:
         """Whether memory of one type may be looked at as another, cell by cell."""
@@ -351,7 +358,7 @@ class Cells:
         if isinstance(left, Pointer) and isinstance(right, Pointer):
             return not to_function(left) and not to_function(right) and self.alike_ends(left, right)
         if isinstance(left, Struct) and isinstance(right, Struct):
-            return not left.complete or not right.complete or is_prefix(left, right) or is_prefix(right, left) or begins_with(
+            return not left.complete or not right.complete or one_type(left, right) or is_prefix(left, right) or is_prefix(right, left) or begins_with(
                 left, right) or begins_with(right, left)
         if isinstance(left, Struct) or isinstance(right, Struct):
             struct: Any = left if isinstance(left, Struct) else right
@@ -364,7 +371,8 @@ class Cells:
 
     def add(self, pointer: Value, index: Value, sign: str, node: Any = None) -> Value:
         to = pointer.type.to
-        if isinstance(to, (Void, Function)) or not is_complete(to) and not isinstance(to, Array):
+        self.program.kinds.want(to, CHAR)
+        if isinstance(to, (Void, Function)) or not is_complete(to) and not isinstance(to, Array) or counts_bytes(pointer.type):
             raise self.program.refuse(node, "a moved `void *`", "a `char *`, or a pointer to what is there", True)
         by = index.code
         if isinstance(to, Array):
@@ -376,7 +384,9 @@ class Cells:
         if not self.spell(left.type) == self.spell(right.type):
             right = self.to_pointer(right, left.type, False, node)
         to = left.type.to
-        if isinstance(to, Void):
+        for it in (left.type, right.type):
+            self.program.kinds.want(it.to, CHAR)
+        if isinstance(to, Void) or counts_bytes(left.type) or counts_bytes(right.type):
             raise self.program.refuse(node, "a difference of two `void *`", "pointers to what is there", True)
         code = Binary(INT, "-", left.code, right.code)
         _, count, lengths = spread(to)
@@ -386,6 +396,7 @@ class Cells:
         return Value(INT, code, pure=left.pure and right.pure)
 
     def compared(self, sign: str, left: Value, right: Value, node: Any = None) -> Value:
+        self.program.kinds.characters.compared(left.code, right.code)
         if to_function(left.type) or to_function(right.type):
             left, right = (it._replace(code=Number(it.type, 0)) if it.null else it for it in (left, right))
             return Value(INT, Binary(INT, sign, left.code, right.code), pure=left.pure and right.pure)
@@ -429,6 +440,7 @@ class Cells:
         return Unary(type_, "*", Cast(Pointer(type_), self.spell(type_) + "*", Cast(type_, "void *", at)))
 
     def next_argument(self, place: Place, type_: CType, node: Any) -> Value:
+        self.program.kinds.hide(type_)
         if is_whole(type_):
             count = Number(INT, cells(type_))
             before = Binary(VALIST, "-", place.code, count)

@@ -5,7 +5,7 @@ import sys
 from typing import List, Optional, Tuple
 
 from cbi_show.files import NOT_PROVED, TROUBLE, Words
-from cbi_port import Missing, Ported, Refused, for_preprocessor, port, wraps
+from cbi_port import VALUES, Missing, Ported, Refused, for_preprocessor, port, wraps
 
 ABOUT = """Writes one text of the dialect of cbi that does what the C files do, on their lines; docs/PORTING.md says what it takes.
 What can't be kept is refused: a line for each on err, with file, line, the construct, and what to write in its place."""
@@ -24,6 +24,7 @@ def words(arguments: List[str]) -> argparse.Namespace:
     parser.add_argument("--stderr", action="store_true", help="what goes to stderr goes to out")
     parser.add_argument("--memory", choices=["auto", "cells", "bytes", "flat"], default="auto", help="how memory is kept (docs/PORTING.md)")
     parser.add_argument("--wrap", action="store_true", help="signed integers wrap where they overflow, as with gcc's -fwrapv")
+    parser.add_argument("--values", choices=VALUES, default="none", help="of how many members, elements and dereferences pairs see the values (docs/PORTING.md)")
     parser.add_argument("--quiet", action="store_true", help="nothing on err but refusals")
     parser.add_argument("--dump-typed", action="store_true", help="write the typed tree in place of the text: a node a line, with its type and place")
     parser.add_argument("--check", action="store_true", help="compare the text with the files as gcc builds them")
@@ -81,7 +82,7 @@ def main() -> int:
         print(f"cbi-port: --file: {wrong}", file=sys.stderr)
         return TROUBLE
     try:
-        ported = port(said.files, options, args, said.stderr, said.memory, named, wraps(said))  # type: ignore[arg-type]
+        ported = port(said.files, options, args, said.stderr, said.memory, named, wraps(said), said.values)  # type: ignore[arg-type]
     except Refused as refused:
         for problem in refused.problems:
             print(f"cbi-port: {problem}", file=sys.stderr)

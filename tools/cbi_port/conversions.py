@@ -116,6 +116,7 @@ class Conversions(Context):
         """A scalar that is zero where the value is; 0 or 1 where `one`."""
         if isinstance(value.type, (Struct, Void)):
             raise self.refuse(None, f"a {spelled(value.type)} as a condition", "a number or a pointer")
+        self.kinds.characters.compared(value.code)
         if is_float(value.type):
             return self.float_truth(value, one)
         if is_long(value.type):

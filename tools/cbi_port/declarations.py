@@ -3,7 +3,7 @@ from typing import TYPE_CHECKING, Any, Dict, List, Optional, Sequence, Set, Tupl
 
 from cbi_port.blocks import Statement
 from cbi_port.dispatch import Dispatch
-from cbi_port.lines import Refusal, Sheet, Token
+from cbi_port.lines import Refusal, Sheet, Token, real_file
 from cbi_port.nodes import Assign, Name, Node, Part, product
 from cbi_port.reader import HEADERS
 from cbi_port.scopes import Names, Scope, Symbol
@@ -34,6 +34,7 @@ class Context:
     structs: List[Struct]
     function: "Body"
     in_prelude: bool
+    words: Set[str]
     wrap: bool
     begins = False              # where what lives as long as the program begins
     externals: Dict[str, Symbol]
@@ -90,6 +91,8 @@ class Context:
     dispatch: Dispatch
     label_owner: Any
     makers_of_text: Any         # Wrappers
+    givers: Any                 # Makers, of functions that are called by pointers
+    kinds: Any                  # Kinds
 
     def value(self, node: Any, used: bool = True) -> Value:
         raise NotImplementedError
@@ -194,7 +197,8 @@ class Declarations(Context):
         if what == "IdentifierType":
             return self.named_type(node)
         if what == "PtrDecl":
-            return Pointer(self.resolve(node.type), self.quals_of(node.type))
+            found: CType = self.kinds.pointer(node, self.resolve(node.type), self.quals_of(node.type))
+            return found
         if what == "ArrayDecl":
             return self.array_type(node)
         if what == "FuncDecl":
@@ -375,7 +379,7 @@ class Declarations(Context):
     def spot_of(self, node: Any) -> Tuple[str, str, int]:
         """A struct's name, and where it stands."""
         token = self.tokens[max(self.place_of(node), 0)]
-        return node.name, token.file, token.line
+        return node.name, real_file(token.file), token.line
 
     def named_before(self, node: Any) -> Optional[Struct]:
         """A struct that a header names before it is defined, and that another file has by that place. It is the same one, unless
@@ -398,16 +402,26 @@ class Declarations(Context):
         if token is None:
             return None
         names = tuple(str(getattr(decl, "name", None)) for decl in node.decls)
-        key = (node.name, hint, token.file, token.line, names)
+        key = (node.name, hint, real_file(token.file), token.line, names)
         row: Tuple[Optional[Struct], Any] = self.headers.get(key, (None, None))
         known, unit = row
         if known is not None and unit is not self.unit and known.complete:
             if node.name:
                 self.scope.tags[node.name] = known
             self.by_node[id(node)] = known
+            self.declare_within(node)
             return known
         self.pending_key = key
         return None
+
+    def declare_within(self, node: Any) -> None:
+        """Declares the enumerators and tags that stand within a struct of a header, in a further file that has it."""
+        for decl in node.decls:
+            inner: Any = getattr(decl, "type", None)
+            while kind(inner) in ("ArrayDecl", "PtrDecl", "TypeDecl"):
+                inner = inner.type
+            if kind(inner) == "Enum" and inner.values is not None or kind(inner) in ("Struct", "Union") and inner.decls is not None:
+                self.resolve(inner)
 
     def members(self, struct: Struct, node: Any) -> None:
         found: List[Asked] = []
@@ -434,6 +448,11 @@ class Declarations(Context):
             if isinstance(target, Struct) and not target.complete and target is not struct:
                 struct.forward.add(name or "")
             found.append(Asked(name or "", type_, bits, False, self.said_alignment(Nameless(decl.type)), self.quals_of(decl.type)))
+        said = {self.constant(decl.type.dim) for decl in node.decls if getattr(decl, "name", None) == "__cbi_packed"} | {1 for it in found if it.packed}
+        if max(said, default=1) > 1 and 1 in said and any(it.bits is not None for it in found):
+            raise self.refuse(node, "bit-fields that `packed` and `#pragma pack` speak of", "one of the two")
+        if said and any(it.bits is not None and it.align for it in found):
+            raise self.refuse(node, "a bit-field with an alignment of its own in a packed struct", "a member of its whole type")
         lay_out(struct, found)
         struct.members = [it._replace(type=INT if it.type.signed else UINT) if it.bits is not None and it.bits <= 32 and is_long(it.type) else it
                           for it in struct.members]
@@ -444,7 +463,7 @@ class Declarations(Context):
     def signed_layout(self, struct: Struct, found: "List[Asked]", what: str, amount: int) -> None:
         """What an attribute says of a struct, or of the member before it."""
         if what == "__cbi_packed":
-            struct.pack = amount
+            struct.pack = min(struct.pack or amount, amount)
         elif what == "__cbi_aligned":
             struct.align = max(struct.align, amount)
         elif found:

@@ -1,10 +1,10 @@
 """Pointers to functions (C99 6.5.2.2): they are numbers, and each kind of call gets a function that goes through those that it may be."""
-from typing import Any, Dict, List, NamedTuple, Sequence, Tuple
+from typing import Any, Dict, List, NamedTuple, Optional, Sequence, Tuple
 
 from cbi_port.blocks import Block, Declarator, Definition, Evaluate, Head, If, Return, Statement
-from cbi_port.nodes import Binary, Call, Name, Number
+from cbi_port.nodes import Binary, Call, Name, Node, Number
 from cbi_port.scopes import Symbol
-from cbi_port.types import INT, UCHAR, UINT, VALIST, VOID, CType, Function, Int, Void, is_float, is_long, is_pointer, is_whole, same
+from cbi_port.types import INT, UCHAR, UINT, VALIST, VOID, CType, Function, Int, Pointer, Void, is_float, is_long, is_pointer, is_whole, same, to_function
 
 FUNCTION = "cbi_function"   # the parameter that says which function is meant
 
@@ -32,10 +32,12 @@ def signature(model: Any, name: str, type_: Function, kinds: Sequence[CType], na
 
 
 class Kind(NamedTuple):
-    """A kind of calls: the function that goes through all, and the types of the function that is called and of the arguments."""
+    """A kind of calls: the function that goes through all, and the types of the function that is called and of the arguments. `object` is what memory is to hold
+    that the function gives, where the call says it."""
     name: str
     type: Function
     arguments: List[CType]
+    object: Optional[CType] = None
 
 
 class Dispatch:
@@ -45,20 +47,29 @@ class Dispatch:
         self.model = model
         self.numbers: Dict[Symbol, int] = {}
         self.kinds: Dict[Any, Kind] = {}
+        self.made = 0   # how many kinds there have been
 
     def number(self, symbol: Symbol) -> int:
         """The number that stands for a function's address."""
         return self.numbers.setdefault(symbol, len(self.numbers) + 1)
 
-    def kind(self, type_: Function, arguments: Sequence[CType]) -> str:
+    def kind(self, type_: Function, arguments: Sequence[CType], object_: Optional[CType] = None) -> str:
         """The name of the function for calls of a kind."""
         key = (head_of(self.model, type_.result), is_float(type_.result),
-               tuple((self.model.base(it), is_whole(it), is_float(it)) for it in arguments), type_.more)
-        return self.kinds.setdefault(key, Kind(f"cbi_call_{len(self.kinds) + 1}", type_, list(arguments))).name
+               tuple((self.model.base(it), is_whole(it), is_float(it)) for it in arguments), type_.more, object_)
+        if key not in self.kinds:
+            self.made += 1
+            self.kinds[key] = Kind(f"cbi_call_{self.made}", type_, list(arguments), object_)
+        return self.kinds[key].name
+
+    def keep(self, kinds: Sequence[Kind]) -> None:
+        """Leaves out all other kinds."""
+        self.kinds = {key: it for key, it in self.kinds.items() if it in kinds}
 
     def meant(self, kind: Kind) -> List[Symbol]:
         """The functions that a call of a kind may be."""
-        return [symbol for symbol in self.numbers if self.may_be(symbol.type, kind)]
+        known = self.model.program.makers_of_text.known     # whose memory no call drops
+        return [symbol for symbol in self.numbers if self.may_be(symbol.type, kind) and not (isinstance(kind.type.result, Void) and symbol in known)]
 
     def may_be(self, other: Any, kind: Kind) -> bool:
         type_, model = kind.type, self.model
@@ -82,18 +93,28 @@ class Dispatch:
             return True
         if isinstance(from_, Int) and isinstance(to, Int):
             return is_float(from_) == is_float(to)
-        return in_bytes or is_pointer(from_) and is_pointer(to) and (isinstance(from_.to, Void) or isinstance(to.to, Void))
+        return in_bytes or is_pointer(from_) and is_pointer(to) and not to_function(from_) and not to_function(to) and bool(self.model.alike_ends(from_, to))
+
+    def given(self, from_: CType, to: CType, name: str) -> Node:
+        """An argument as a parameter takes it: pointers to different pointers want a cast."""
+        code = Name(from_, name)
+        if self.model.in_bytes or not is_pointer(from_) or not is_pointer(to) or "void *" in (self.model.spell(from_), self.model.spell(to)):
+            return code
+        cast: Node = code if self.model.base(from_) == self.model.base(to) else self.model.cast(to, code)
+        return cast
 
     def definition(self, kind: Kind) -> Definition:
         """The function that goes through all that a call of a kind may be."""
         type_, in_bytes = kind.type, self.model.in_bytes
         names = [f"cbi_{place}" for place in range(len(kind.arguments))]
         function = Name(UINT if in_bytes else INT, FUNCTION)
+        type_ = type_ if kind.object is None else type_._replace(result=Pointer(kind.object))
         rows: List[Statement] = []
         for symbol in self.meant(kind):
             result = [Name(type_.result, "cbi_result")] * is_whole(type_.result)
-            given = [Name(it, word) for it, word in zip(kind.arguments, names[:len(symbol.type.parameters)])]
-            call = Call(type_.result, symbol.text, (*result, *given, *[Name(VALIST, "cbi_more")] * type_.more), symbol)
+            given = [self.given(it, to, word) for it, to, word in zip(kind.arguments, symbol.type.parameters, names)]
+            symbol_of = symbol if kind.object is None else self.model.program.makers_of_text.made_for(symbol, kind.object)
+            call = Call(type_.result, symbol_of.text, (*result, *given, *[Name(VALIST, "cbi_more")] * type_.more), symbol_of)
             test = Binary(INT, "==", function, Number(INT, self.numbers[symbol], in_bytes))
             rows.append(If(test, Block((Evaluate(call), Return())) if isinstance(type_.result, Void) else Return(call)))
         rows.append(Evaluate(Call(VOID, "cbi_no_function", (function,))))

@@ -2,6 +2,7 @@
 from typing import Any, Optional, Tuple
 
 from cbi_port.conversions import number
+from cbi_port.kinds import counts_bytes
 from cbi_port.nodes import Assign, Behind, Binary, Call, Cast, Choice, Comma, Group, Name, Node, Number, Part, Unary, Wide, bare, sequence
 from cbi_port.places import Places
 from cbi_port.scopes import BUILTIN, Symbol, plain_name
@@ -81,7 +82,8 @@ class Expressions(Places):
         return symbol
 
     def use(self, symbol: Symbol) -> None:
-        if not self.function.quiet:
+        """Asks for a function; of one that gives memory the calls say which copies there are."""
+        if not self.function.quiet and symbol not in self.makers_of_text.known:
             symbol.used = True
 
     def of_CompoundLiteral(self, node: Any, used: bool) -> Value:
@@ -200,7 +202,7 @@ class Expressions(Places):
         type_ = place.type
         natural = not place.memory and place.member is None and not place.stored and not self.wraps(type_) and (
             isinstance(type_, Int) and not is_float(type_) and (type_.rank >= 3 and type_.size == 4 or type_.size == 1 and type_.rank == 1)
-            or is_pointer(type_) and not isinstance(type_.to, (Void, Function, Array)) and not self.model.in_bytes)
+            or is_pointer(type_) and not isinstance(type_.to, (Void, Function, Array)) and not self.model.in_bytes and not counts_bytes(type_))
         if isinstance(type_, (Void, Struct, Array)):
             raise self.refuse(node, f"`{sign}{sign}` of a `{spelled(type_)}`", "a number or a pointer")
         if natural:
@@ -328,7 +330,7 @@ class Expressions(Places):
     def compound(self, place: Place, sign: str, value: Value, used: bool, node: Any) -> Value:
         type_ = place.type
         if is_pointer(type_):
-            natural = not place.memory and not self.model.in_bytes and not place.stored and not isinstance(type_.to, (Void, Array, Function))
+            natural = not place.memory and not self.model.in_bytes and not place.stored and not isinstance(type_.to, (Void, Array, Function)) and not counts_bytes(type_)
             if natural and is_complete(type_.to):
                 place = self.model.within(place, CHANGED)
                 return Value(type_, Assign(type_, place.code, self.index(value).code, sign + "="), pure=False)

@@ -1,9 +1,11 @@
 """From files to one text: what can't be kept in one way is tried in the other, and all refusals are told at once."""
 import re
-from typing import Any, Dict, List, Optional, Sequence, Tuple
+from typing import Any, Callable, Dict, List, Optional, Sequence, Tuple
 
-from cbi_port import Ported, Problem, Refused
+from cbi_port import Ported, Problem, Refused, cleanups, nested, unreached
+from cbi_port.beginnings import put_before_main
 from cbi_port.compiler import in_its_words
+from cbi_port.kinds import Concluded, rounds
 from cbi_port.lines import Refusal, Token
 from cbi_port.long_jumps import JUMPS, rewrite
 from cbi_port.program import Program
@@ -14,7 +16,7 @@ from cbi_port.system import Named
 MOST_TOKENS, MOST_BYTES = 100000, 1048576
 
 
-def port_files(files: Sequence[str], options: List[str], args: Any, stderr: bool, memory: str, named: Named = (), wrap: bool = False) -> Ported:
+def port_files(files: Sequence[str], options: List[str], args: Any, stderr: bool, memory: str, named: Named = (), wrap: bool = False, values: str = "none") -> Ported:
     """See `cbi_port.port`."""
     tokens: List[Token] = [Token("mark", "", files[0] if files else "", 1)]
     missing: List[Problem] = []
@@ -24,30 +26,57 @@ def port_files(files: Sequence[str], options: List[str], args: Any, stderr: bool
         problems: List[Refusal] = []
         try:
             units.append(read(file, options, tokens, problems, missing))
+            unread.append((file, problems))
         except PreprocessorFailed as failed:
             missing.extend(told_by_preprocessor(failed))
-        unread.append((file, problems))
+    units, left = unreached.leave_out(units, tokens, unread, not missing)
     if missing or any(problems for _, problems in unread):
         raise Refused(of_the_rest(missing, unread, units, tokens, options, args, stderr))
     unwound: List[Refusal] = []
+    written_out(units, unwound)
     if any(token.text in JUMPS for token in tokens):
         rewrite(units, unwound)
     size = len(tokens)
     first: Optional[Program] = None
-    for way in ("cells", "bytes", "flat") if memory == "auto" else ("bytes", "flat") if memory == "bytes" else (memory,):
+
+    def made(way: str, concluded: Optional[Concluded] = None) -> Tuple[Program, Ported]:
         del tokens[size:]
-        program = Program(units, tokens, way, args, stderr, named, wrap)
+        program = Program(units, tokens, way, args, stderr, named, wrap, values, concluded)
         program.problems.extend(unwound)
-        ported = run(program)
+        return program, run(program)
+
+    for way in ("cells", "bytes", "flat") if memory == "auto" else ("bytes", "flat") if memory == "bytes" else (memory,):
+        program, ported = made(way) if way != "cells" else with_kinds(made, rounds(tokens))
         large = [] if program.problems else too_large(ported, tokens)
         if not program.problems and not large:
-            return ported._replace(liberties=notes_of_memory(way, memory, first, tokens) + ported.liberties)
+            return ported._replace(liberties=notes_of_memory(way, memory, first, tokens) + left + ported.liberties)
         if way == "cells" and memory == "auto" and any(it.bytes_do for it in program.problems):
             # What else is refused may come of what bytes do.
             first = program
         elif not (way == "bytes" and large):
             raise Refused(ordered(large or [it for it in program.problems if not it.bytes_do] or program.problems, tokens, files))
     raise AssertionError("no model of memory")
+
+
+def with_kinds(made: Callable[..., Tuple[Program, Ported]], times: int) -> Tuple[Program, Ported]:
+    """A translation into cells, again with what it concluded of pointers where it fails without, or where memory has looser bounds without."""
+    program, ported = made("cells")
+    for _ in range(times):
+        concluded, fails = program.kinds.concluded(), any(it.bytes_do for it in program.problems)
+        if len(concluded) == len(program.kinds.before) or not (fails or not program.problems and program.kinds.is_loose()):
+            break
+        another, text = made("cells", concluded)
+        if another.problems and not program.problems:
+            break
+        program, ported = another, text
+    return program, ported
+
+
+def written_out(units: Sequence[Unit], problems: List[Refusal]) -> None:
+    """Brings what GNU C has beside C99 to statements of C99, once for all ways to keep memory."""
+    nested.bind(units, problems)
+    cleanups.write_out(units, problems)
+    put_before_main(units, problems)
 
 
 def notes_of_memory(way: str, asked: str, first: Optional[Program], tokens: Sequence[Token]) -> List[str]:
@@ -70,6 +99,7 @@ def of_the_rest(missing: Sequence[Problem], unread: Sequence[Tuple[str, List[Ref
         if not missing:
             found.extend(in_its_words([it for it in problems if it.span != (0, 0)], tokens, file, flags_of(options)))
     if units:
+        written_out(units, [])
         program = Program(units, tokens, "bytes", args, stderr)
         program.partial = True
         run(program)
@@ -96,7 +126,7 @@ def too_large(ported: Ported, tokens: Sequence[Token]) -> List[Refusal]:
     """A text that `cbi` would refuse for its size."""
     if len(ported.text) <= MOST_BYTES and (len(ported.text) <= MOST_TOKENS or len(pieces(ported.text.decode("latin-1"), "")) <= MOST_TOKENS):
         return []
-    return [Refusal(0, what_is_too_large(ported), "fewer files, without what nothing calls; a table that can be read goes into a file of its own (`--file NAME=PATH`)")]
+    return [Refusal(0, what_is_too_large(ported), "fewer files, or less in them; a table that can be read goes into a file of its own (`--file NAME=PATH`)")]
 
 
 def what_is_too_large(ported: Ported) -> str:

@@ -143,7 +143,7 @@ class Floats(Conversions):
             raise self.refuse(node, f"`{sign}` of a `{(left if is_float(left.type) else right).type.name}`", "a whole number")
         type_ = common(left.type, right.type)
         left, right = (self.as_double(self.to_float(it, type_)) for it in (left, right))
-        known = self.reckoned_float(sign, left, right, type_)
+        known = self.computed_float(sign, left, right, type_)
         if known is not None:
             return known
         pure = left.pure and right.pure
@@ -154,13 +154,13 @@ class Floats(Conversions):
         result = self.by_prelude("double_" + NAMES[sign], DOUBLE, pure, *given)
         return self.to_float(result, type_)
 
-    def reckoned_float(self, sign: str, left: Value, right: Value, type_: Int) -> Optional[Value]:
+    def computed_float(self, sign: str, left: Value, right: Value, type_: Int) -> Optional[Value]:
         """What an operator gives of two constants, where that is a number."""
         if left.constant is None or right.constant is None:
             return None
         a, b = number_of(left.constant, DOUBLE), number_of(right.constant, DOUBLE)
         if not math.isfinite(a) or not math.isfinite(b) or sign == "/" and b == 0:
-            # As gcc reckons where a variable begins: a NaN has no sign there, and one that is reckoned as the program runs has.
+            # As gcc computes where a variable begins: a NaN has no sign there, and one that is computed as the program runs has.
             invalid = a != a or b != b or sign == "/" and a == b == 0
             return number(0x7fc00000 if type_ == FLOAT else 0x7ff8000000000000, type_) if self.begins and sign in "+-*/" and invalid else None
         if sign not in "+-*/":

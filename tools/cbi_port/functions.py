@@ -6,6 +6,7 @@ from cbi_port.body import Body
 from cbi_port.dispatch import signature
 from cbi_port.late import left
 from cbi_port.library import Library
+from cbi_port.nested import is_moved
 from cbi_port.nodes import Name, Null, Number
 from cbi_port.reader import Unit
 from cbi_port.scopes import Scope, Symbol
@@ -58,7 +59,7 @@ class Functions(Unwinding, Library):
         symbol.emitted = True
         if symbol.unit == "prelude":
             self.sheet.tail.append(found)
-        elif symbol.object is not None or symbol in self.makers_of_text.known:
+        elif symbol.object is not None or symbol in self.makers_of_text.known or is_moved(symbol.name):
             self.sheet.apart.append((file, found))
         else:
             self.sheet.put(file, found)

@@ -2,11 +2,13 @@
 import re
 from typing import Dict, List, Sequence, Set, Tuple
 
+from cbi_port import aliases, beginnings, cleanups, modes, nested
 from cbi_port.constants import plain_string, wide_character, wide_prefix
+from cbi_port.left_out import typedef_names, with_int
 from cbi_port.lines import Refusal, Token
 from cbi_port.scopes import BUILTIN
 from cbi_port.neighbours import (OPENS, case_end, closes_struct, closing, declared_name, is_declared, like, literal_begin,
-                                 TYPE_WORDS, moves, range_within, sign, split, unary_place, within_struct)
+                                 TYPE_WORDS, moves, names_around, range_within, sign, split, unary_place, within_struct)
 
 SPELLINGS = {
     "__const": "const", "__const__": "const", "__volatile": "volatile", "__volatile__": "volatile",
@@ -22,8 +24,10 @@ LATER_C = {"_Atomic", "_Alignas", "_Generic", "__auto_type"}
 KEPT = {"__builtin_va_list", "__builtin_va_start", "__builtin_va_end", "__builtin_va_copy", "__builtin_va_arg",
         "__builtin_types_compatible_p", "__builtin_assert", "__builtin_constant_p", "__builtin_choose_expr", "__builtin_expect"}
 # Attributes that change what a program does, or how its memory is laid out.
-WEIGHTY = {"vector_size", "mode", "constructor", "destructor", "alias", "cleanup", "scalar_storage_order", "ifunc", "weakref",
-           "transparent_union", "ms_struct", "gcc_struct", "no_instrument_function_x", "naked", "interrupt", "bitwidth"}
+WEIGHTY = {"vector_size", "scalar_storage_order", "ifunc", "weakref",
+           "transparent_union", "ms_struct", "no_instrument_function_x", "naked", "interrupt", "bitwidth"}
+# Attributes by which gcc keeps what nothing mentions: a linker may find it by its section.
+KEPT_BY = {"used", "retain", "section"}
 
 
 class Rewriter:
@@ -38,8 +42,12 @@ class Rewriter:
         self.packs = [0]
         self.alignments: Dict[str, List[List[Token]]] = {}
         self.pending: List[Token] = []      # what is said of a struct before its brace
-        self.of_member: List[Token] = []    # what is said of a member before its end
+        self.of_member: List[Token] = []    # what is said of a member, or of a variable, before its end
         self.literals: List[Token] = []     # the braces of compound literals
+        self.runs: List[beginnings.Run] = []
+        self.aliases: List[aliases.Alias] = []
+        self.kept: Set[str] = set()         # what an attribute keeps though nothing may mention it
+        self.inner = 0                      # how many expressions with statements are open
 
     def pack(self, token: Token, out: List[Token]) -> None:
         """`#pragma pack`: members of structs stand closer."""
@@ -100,7 +108,7 @@ class Rewriter:
         if text == "{" and len(out) > 1 and (out[-1].text in ("struct", "union") or out[-2].text in ("struct", "union")):
             out.append(token)
             out.extend(self.pending)
-            if self.packs[-1] in (1, 2):
+            if self.packs[-1]:
                 out.extend(sign(token, "packed", [like(token, str(self.packs[-1]), "number")]))
             self.pending = []
             return at + 1
@@ -191,7 +199,10 @@ class Rewriter:
             out.extend(like(token, it.text, it.kind) for it in self.greatest(self.alignments[tokens[at + 2].text], token))
             return at + 4
         if text == "_Alignof" and after == "(":
-            text = "__cbi_align"
+            # GNU C's own asks for what an object alone gets, C11's for the least (C11 6.5.3.4).
+            text = "__cbi_align" if token.text == "_Alignof" else "__cbi_align_alone"
+            if any(it.text.strip("_") == "aligned" for it in tokens[at + 2:closing(tokens, at + 1)]):
+                self.refuse(token, "an alignment in the name of a type", "a `typedef` with it", out)
             out.extend([like(token, text, "name"), like(token, "("), like(token, "sizeof", "name")])
             close = closing(tokens, at + 1)
             out.extend(self.run(tokens[at + 1:close + 1]))
@@ -227,9 +238,7 @@ class Rewriter:
 
     def attribute(self, within: Sequence[Token], token: Token, tokens: Sequence[Token], close: int, out: List[Token]) -> None:
         names = {it.text.strip("_") for it in within if it.kind == "name"}
-        wrong = sorted(names & WEIGHTY)
-        if wrong:
-            self.refuse(token, f"`__attribute__(({wrong[0]}))`", "the declaration without it, where that does the same", out)
+        self.meaning(names, within, token, tokens[close + 1:close + 1000], out)
         signs = sign(token, "packed", [like(token, "1", "number")]) if "packed" in names else []
         amounts: List[List[Token]] = []
         for at, it in enumerate(within):
@@ -248,6 +257,33 @@ class Rewriter:
         elif "packed" not in names:
             for amount in amounts:
                 self.aligned(token, amount, out, tokens[close + 1:close + 40])
+
+    def meaning(self, names: Set[str], within: Sequence[Token], token: Token, behind: Sequence[Token], out: List[Token]) -> None:
+        """What an attribute says of what a program does."""
+        wrong = sorted(names & WEIGHTY)
+        if wrong:
+            self.refuse(token, f"`__attribute__(({wrong[0]}))`", "the declaration without it, where that does the same", out)
+        for run in beginnings.runs_of(within, out, behind[:60]):
+            if run is None:
+                self.kept |= names_around(out, behind)
+                self.refuse(token, "a `constructor` or `destructor` of this form", "`__attribute__((constructor(NUMBER)))` at a function", out)
+            else:
+                self.runs.append(run)
+        if names & KEPT_BY:
+            self.kept |= names_around(out, behind)
+        if "mode" in names and not modes.put(within, out, behind[:1]):
+            self.refuse(token, "`__attribute__((mode))`", "a type of that size", out)
+        if "alias" in names:
+            alias = aliases.said(within, out)
+            if alias is None:
+                self.refuse(token, "an `alias` of this form", "a declaration of one name alone, outside functions", out)
+            else:
+                self.aliases.append(alias)
+        if "cleanup" in names:
+            marks = cleanups.marks(within, out, behind, self.inner > 0)
+            if marks is None:
+                self.refuse(token, "a `cleanup` in the head of a `for`, or of this form", "a declaration of the variable alone, in a block", out)
+            self.of_member += marks or []
 
     def aligned(self, token: Token, amount: List[Token], out: List[Token], behind: Sequence[Token]) -> None:
         """An alignment of a variable, which its address shows, or of a function."""
@@ -341,15 +377,16 @@ class Rewriter:
         return close + 1
 
     def choices(self, within: Sequence[Token], token: Token) -> List[Token]:
-        """The parts of a `_Generic`: types are written as `sizeof(T)`, which keeps them."""
-        out: List[Token] = []
-        for part in split(within, ","):
-            pair = split(part, ":")
-            if len(pair) == 2 and part[0].text != "default":
-                out.extend([like(token, "sizeof", "name"), like(token, "("), *self.run(pair[0]), like(token, ")"), like(token, ",")])
-            elif len(pair) == 2:
+        """The parts of a `_Generic` (C11 6.5.1.1): types are written as `sizeof(T)`, which keeps them. A `:` in the first part, or a later one in another, is that of a `?:`."""
+        first, *entries = split(within, ",")
+        out: List[Token] = [*self.run(first), like(token, ",")]
+        for entry in entries:
+            head = split(entry, ":")[0]
+            if entry[0].text == "default":
                 out.extend([like(token, "__cbi_default", "name"), like(token, ",")])
-            out.extend([*self.run(pair[-1]), like(token, ",")])
+            else:
+                out.extend([like(token, "sizeof", "name"), like(token, "("), *self.run(head), like(token, ")"), like(token, ",")])
+            out.extend([*self.run(entry[len(head) + 1:]), like(token, ",")])
         return out[:-1]
 
     def typeof(self, tokens: Sequence[Token], at: int, out: List[Token]) -> int:
@@ -385,7 +422,10 @@ class Rewriter:
     def statement_expression(self, tokens: Sequence[Token], at: int, out: List[Token]) -> int:
         close = closing(tokens, at)
         name = self.name("statement")
+        behind, self.of_member = self.of_member, []
+        self.inner += 1
         self.holds(name, self.run(tokens[at + 2:close - 1]), tokens[at])
+        self.inner, self.of_member = self.inner - 1, behind
         out.extend([like(tokens[at], name, "name"), like(tokens[at], "("), like(tokens[at], ")")])
         return close + 1
 
@@ -395,53 +435,10 @@ class Rewriter:
         self.behind.extend([like(token, it, "name") for it in head] + list(body) + [like(token, "}")])
 
 
-STORAGE = {"static", "extern", "register", "auto", "inline"}
-KEYWORDS = STORAGE | {"void", "char", "short", "int", "long", "float", "double", "signed", "unsigned", "struct", "union", "enum", "const", "volatile",
-                      "typedef", "return", "if", "else", "while", "for", "do", "switch", "case", "default", "break", "continue", "goto", "sizeof",
-                      "_Bool", "restrict"}
-
-
-def with_int(tokens: Sequence[Token], types: Set[str]) -> List[Token]:
-    """The tokens with the `int` that C90 lets be left out (6.5.2)."""
-    out: List[Token] = []
-    depth = 0
-    for at, token in enumerate(tokens):
-        before = out[-1].text if out else ";"
-        after = tokens[at + 1].text if at + 1 < len(tokens) else ""
-        named = token.kind == "name" and token.text not in KEYWORDS and token.text not in types
-        if before in STORAGE and len(out) > 1 and out[-2].text == "}" and closes_struct(out[:-1]):
-            named = False
-        if named and (depth == 0 and after == "(" and (before in (";", "}") or before in STORAGE)
-                      or before in STORAGE and after in ("=", ";", ",", "[")):
-            out.append(like(token, "int", "name"))
-        elif before == "typedef" and token.kind == "name" and token.text not in KEYWORDS and after == ";":
-            out.append(like(token, "int", "name"))
-        elif token.text == "*" and before in ("static", "extern", "register", "auto") and token.kind == "mark":
-            out.append(like(token, "int", "name"))
-        depth += (token.text in OPENS and token.kind == "mark") - (token.text in (")", "]", "}") and token.kind == "mark")
-        out.append(token)
-    return out
-
-
-def typedef_names(tokens: Sequence[Token]) -> Set[str]:
-    """Names that a `typedef` may declare."""
-    found: Set[str] = {"__builtin_va_list"}
-    at = 0
-    while at < len(tokens):
-        depth = 0
-        if tokens[at].text == "typedef":
-            while at < len(tokens) and (tokens[at].text != ";" or depth):
-                depth += (tokens[at].text == "{") - (tokens[at].text == "}")
-                if depth == 0 and tokens[at].kind == "name" and tokens[at].text not in KEYWORDS and tokens[at - 1].text not in ("struct", "union", "enum"):
-                    found.add(tokens[at].text)
-                at += 1
-        at += 1
-    return found
-
-
-def rewrite(tokens: Sequence[Token], first: int, problems: List[Refusal]) -> Tuple[List[Token], Set[str], Dict[str, str]]:
+def rewrite(tokens: Sequence[Token], first: int, problems: List[Refusal]) -> Tuple[List[Token], Set[str], Dict[str, str], List[aliases.Alias], Set[str]]:
     """The tokens as pycparser reads them, the names of the functions that were added behind them, and of those that hold the alignments that
-    are asked for, by the names of the variables."""
+    are asked for, by the names of the variables; names that stand for others; and names that an attribute keeps."""
+    tokens = nested.lifted(tokens)
     types = typedef_names(tokens)
     rewriter = Rewriter(first, problems, types)
     main = with_int(rewriter.run(tokens), types)
@@ -450,7 +447,7 @@ def rewrite(tokens: Sequence[Token], first: int, problems: List[Refusal]) -> Tup
     early: List[Token] = []
     for name in ["__builtin_va_list", *rewriter.early]:
         early.extend(Token("name", it, file, line) for it in ("typedef", "int", name, ";"))
-    whole = early + main + rewriter.behind
+    whole = early + main + rewriter.behind + beginnings.functions(rewriter.runs, first)
     places: Dict[Tuple[str, int], int] = {}
     for index, token in enumerate(whole):
         places.setdefault((token.file, token.line), first + index)
@@ -460,4 +457,4 @@ def rewrite(tokens: Sequence[Token], first: int, problems: List[Refusal]) -> Tup
             problem.at = places.get((asked.file, asked.line), first)
             if whole and whole[problem.at - first].line != asked.line:
                 problem.construct += f" (line {asked.line})"
-    return whole, rewriter.bodies, alignments
+    return whole, rewriter.bodies, alignments, rewriter.aliases, rewriter.kept

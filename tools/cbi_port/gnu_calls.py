@@ -6,11 +6,11 @@ from cbi_port.nodes import Assign, Call, Comma, Number, sequence
 from cbi_port.scopes import Symbol
 from cbi_port.switches import Switches
 from cbi_port.trees import kind
-from cbi_port.types import INT, LLONG, LONG, UINT, ULLONG, ULONG, VOID, Int, Pointer, spelled
+from cbi_port.types import INT, LLONG, LONG, UINT, ULLONG, ULONG, VOID, Int, Pointer, Struct, Void, is_float, spelled
 from cbi_port.values import Value, retyped
 
 KINDS = {"add": 0, "sub": 1, "mul": 2}
-# What each function of overflows reckons, the type of its operands where its name says it, and whether it only asks.
+# What each function of overflows computes, the type of its operands where its name says it, and whether it only asks.
 OVERFLOWS: Dict[str, Tuple[int, Optional[Int], bool]] = {}
 for _word, _number in KINDS.items():
     OVERFLOWS[f"{_word}_overflow"] = (_number, None, False)
@@ -64,7 +64,7 @@ class GnuCalls(Switches):
         room = self.long_room(ULLONG)
         bits = values[2].bits or values[2].wide or 8 * target.size if asks else 1 if target.rank == 0 else 8 * target.size
         given = [(wide[0], Number(INT, signs[0])), (wide[1], Number(INT, signs[1])), (Number(INT, what), Number(INT, bits), Number(INT, int(target.signed)))]
-        call = Call(INT, "cbi_reckoned", (room, *(it for row in given for it in row)))
+        call = Call(INT, "cbi_computed", (room, *(it for row in given for it in row)))
         if asks:
             return Value(INT, call, pure=False)
         before, place = self.model.pin(self.model.target(values[2], node))
@@ -91,6 +91,17 @@ class GnuCalls(Switches):
 
     def lib___builtin_choose_expr(self, node: Any, arguments: Sequence[Any], used: bool) -> Value:
         return self.value(arguments[1] if self.constant(arguments[0]) else arguments[2], used)
+
+    def lib_classify_type(self, node: Any, arguments: Sequence[Any], used: bool) -> Value:
+        """Which kind of type a value has, by gcc's numbers (typeclass.h)."""
+        quiet, self.function.quiet = self.function.quiet, True
+        try:
+            type_ = self.value(arguments[0]).type
+        finally:
+            self.function.quiet = quiet
+        if isinstance(type_, Struct):
+            return number(13 if type_.union else 12)
+        return number(0 if isinstance(type_, Void) else 5 if isinstance(type_, Pointer) else 8 if is_float(type_) else 1)
 
     def lib_unreachable(self, node: Any, arguments: Sequence[Any], used: bool) -> Value:
         return Value(VOID, Call(VOID, "abort", ()), pure=False)

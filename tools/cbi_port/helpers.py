@@ -10,10 +10,11 @@ from cbi_port.dispatch import signature
 from cbi_port.dump import dumped
 from cbi_port.late import decided
 from cbi_port.lines import Refusal
-from cbi_port.names import names_of
+from cbi_port.names import named_early, named_records, names_of, words_of
 from cbi_port.nodes import Call, Node, Number
 from cbi_port.raw import files_of, wanted
 from cbi_port.types import INT, VOID, Struct, Void, is_whole
+from cbi_port.values_chosen import seen
 
 def name_of(found: Any) -> str:
     """The name of a function."""
@@ -48,11 +49,16 @@ class Helpers:
         every = [symbol for symbol, _, _ in program.definitions + [it for it in program.waiting if it[0].unit == "prelude" or it[0].object is not None]]
         heads = [signature(model, symbol.text, symbol.type, symbol.type.parameters, [""] * len(symbol.type.parameters))
                  for symbol in every if symbol.emitted and symbol.text != "main"]
-        structs = [model.record(struct) for struct in program.structs] if not model.in_bytes else []
-        raw = wanted(files_of(model), names_of(*sheet.every(), *self.tails, *heads, *program.globals, *structs))
+        records = [model.record(struct) for struct in program.structs] if not model.in_bytes else []
+        raw = wanted(files_of(model), names_of(*sheet.every(), *self.tails, *heads, *program.globals, *records))
+        rest = [Template(name, f"{it.head} {it.text}") for name, it in raw.items()]
+        structs = named_records(records, words_of(*sheet.every(), *self.heads, *self.tails, *heads, *program.globals, *rest))
         raw_structs, raw_heads = ([Template(name, it.head) for name, it in raw.items() if it.is_struct == wants] for wants in (True, False))
-        sheet.head = [*raw_structs, *structs, *raw_heads, *self.heads, *heads, *program.globals]
+        early = named_early([*sheet.every(), *self.tails])
+        declared = [it for it in [*self.heads, *heads] if not isinstance(it, Head) or it.name in early]
+        sheet.head = [*raw_structs, *structs, *raw_heads, *declared, *program.globals]
         sheet.tail += [*self.tails, *(Template(name, it.text) for name, it in raw.items() if it.text)]
+        seen(program, sheet.tail, program.globals)
         text, lines = sheet.laid()
         added = sorted({name for name in map(name_of, sheet.tail) if name.startswith("cbi_")} | set(program.added))
         if any(name_of(it) == "main" for it in sheet.tail):

@@ -1,6 +1,7 @@
 """What memory as bytes begins with, as a list that leaves out long runs of zeros."""
 from typing import List, Sequence
 
+MOST_LISTED = 1000   # words that stand as numbers, of two tokens each; more are one string
 FEW = 8   # zeros that stand within a run: two numbers are what a new one takes
 
 

@@ -9,7 +9,7 @@ from cbi_port.lines import Refusal
 from cbi_port.nodes import Assign, Call, Cast, Comma, Name, Node, Number, Unary, marked, spot
 from cbi_port.scopes import Scope, Symbol
 from cbi_port.switches import Switches
-from cbi_port.trees import CONTROL, cases_within, holds, is_cut, is_jump, kind
+from cbi_port.trees import CONTROL, Cuts, is_jump, kind
 from cbi_port.types import INT, Array, Function, Struct, Void, is_complete, is_long
 from cbi_port.values import Value
 
@@ -22,8 +22,8 @@ class Jumps(Switches):
 
     def prepare(self, item: Any) -> None:
         body = self.function
-        if not holds(item.body, lambda it: is_jump(it) or kind(it) == "Label") and not holds(
-                item.body, lambda it: kind(it) == "Switch" and cases_within(it)):
+        self.cuts = Cuts(item.body)
+        if not self.cuts.any:
             return
         self.count("functions with jumps")
         body.flat = self.lasting_scalar(INT, "int")
@@ -79,7 +79,7 @@ class Jumps(Switches):
 
     def must_cut(self, node: Any) -> bool:
         """Whether a statement is cut into segments."""
-        return is_cut(node)
+        return self.cuts.is_cut(node)
 
     # Statements at the level of the segments.
 
@@ -101,11 +101,12 @@ class Jumps(Switches):
 
     at_level = True
     jumping: Any = None
+    cuts: Cuts
 
     def st_expression(self, node: Any) -> None:
         if is_jump(node) and kind(node) == "FuncCall":
             if self.function.flat is None or not self.model.in_bytes:
-                raise self.refuse(node, "a jump to a label that is reckoned", "a `switch`", True)
+                raise self.refuse(node, "a jump to a computed label", "a `switch`", True)
             value = self.value(node.args.exprs[0])
             self.add(Block((Evaluate(Assign(INT, self.function.flat, Cast(INT, "int", value.code))), Continue()), self.place_of(node)))
             return

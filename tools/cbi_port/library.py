@@ -12,7 +12,7 @@ from cbi_port.objects import ROUNDED
 from cbi_port.reader import HEADERS
 from cbi_port.scan_calls import ScanCalls
 from cbi_port.scopes import Symbol
-from cbi_port.system import TOLD, VARIABLES
+from cbi_port.system import SET_ALONE, SETS_VARIABLES, TOLD, VARIABLES
 from cbi_port.trees import kind, without_casts
 from cbi_port.types import (CHAR, INT, LONG, UINT, VOID, Array, CType, Function, Int, Pointer, Struct, Void, is_float, is_long, is_pointer, same, size_of,
                             spelled)
@@ -58,10 +58,10 @@ class Library(GnuCalls):
         return found if found is not None and found.kind == "function" and found.defined else None
 
     def raw_function(self, name: str, node: Any) -> Symbol:
-        """A function of memory as a value, where memory is bytes."""
-        if not self.model.in_bytes:
+        """A function of memory as a value: of the text that is added, or of the prelude (makers.py)."""
+        symbol: Optional[Symbol] = self.wrappers.get(name) if self.model.in_bytes else self.givers.of_library(name)
+        if symbol is None and not self.model.in_bytes:
             raise self.refuse(node, f"`{name}` as a value", "a function of your own that calls it", True)
-        symbol = self.wrappers.get(name)
         if symbol is None:
             text, type_ = RAW[name]
             self.names.authors.setdefault(text, name)
@@ -147,7 +147,7 @@ class Library(GnuCalls):
     def library_used(self, name: str) -> None:
         if not self.in_prelude:
             if name in TOLD:
-                self.liberties[TOLD[name]] = None
+                self.liberties[TOLD[name] if name != "getenv" or not self.words & SETS_VARIABLES else SET_ALONE] = None
             self.library_names.add(name)
             self.counts["library functions"] = len(self.library_names)
 
@@ -259,8 +259,6 @@ class Library(GnuCalls):
         form = re.sub(r"%(?:l|z|t)?([diucs%])", lambda it: "%" + ("d" if it[1] == "i" else it[1]), form)
         return Value(INT, Call(INT, "printf", (String(Pointer(CHAR), form), *given), None, self.place_of(node)), pure=False)
 
-    lib_atexit_count = 0
-
     def lib_clock(self, node: Any, arguments: Sequence[Any], used: bool) -> Value:
         self.library_used("clock")
         return number(0, LONG)
@@ -294,6 +292,7 @@ class TypedCalls(ScanCalls):
     def known(self, node: Any, name: str, *pointers: CType) -> CType:
         """The type that all pointers point to."""
         first = pointers[0]
+        self.program.kinds.asked(pointers)
         for type_ in pointers:
             if isinstance(type_, (Void, Function)) or isinstance(type_, Struct) and not type_.complete:
                 raise self.program.refuse(node, f"`{name}` of a `void *`", "a pointer to the type that is there", True)
@@ -332,6 +331,7 @@ class TypedCalls(ScanCalls):
         value, to = self.pointer(arguments[0])
         if value.null:
             return self.call_malloc(node, arguments[1:], used)
+        program.kinds.want(to)
         if isinstance(to, Void):
             raise program.refuse(node, "`realloc` of a `void *`", "a pointer to the type that is there", True)
         inner, per = innermost(to)
@@ -409,23 +409,24 @@ class TypedCalls(ScanCalls):
         return self.result(Value(to.type, retyped(to.type, code), pure=False), arguments, used, node)
 
     def call_bzero(self, node: Any, arguments: Sequence[Any], used: bool) -> Value:
-        raise self.program.refuse(node, "`bzero`", "`memset`", True)
+        from pycparser import c_ast
+        return self.call_memset(node, [arguments[0], c_ast.Constant("int", "0", node.coord), arguments[1]], used)
 
     def call_memcmp(self, node: Any, arguments: Sequence[Any], used: bool) -> Value:
-        program = self.program
         left, one = self.pointer(arguments[0])
         right, other = self.pointer(arguments[1])
         type_ = self.known(node, "memcmp", one, other)
         inner, per = innermost(type_)
         if not like_char(inner):
-            raise program.refuse(node, f"`memcmp` of a `{spelled(inner)}`", "a comparison of each value", True)
-        count = program.converted(program.value(arguments[2]), UINT, True, node)
+            raise self.program.refuse(node, f"`memcmp` of a `{spelled(inner)}`", "a comparison of each value", True)
+        count = self.program.converted(self.program.value(arguments[2]), UINT, True, node)
         return Value(INT, Call(INT, "cbi_compare_char", (left.code, right.code, count.code)), pure=False)
 
     call_bcmp = call_memcmp
 
     def call_memchr(self, node: Any, arguments: Sequence[Any], used: bool) -> Optional[Value]:
         _, type_ = self.pointer(arguments[0])
+        self.program.kinds.want(type_, CHAR)
         if not like_char(innermost(type_)[0]):
             raise self.program.refuse(node, "`memchr` of what isn't characters", "a loop that compares each element", True)
         return None
@@ -451,6 +452,7 @@ class TypedCalls(ScanCalls):
         if isinstance(inner, Struct):
             program.model.copier(inner)
         compare = program.value(arguments[3])
+        program.kinds.compares(compare.type, type_, type_, VOID)
         given = [self.any_cells(to, inner), program.converted(program.value(arguments[1]), UINT, True, node).code, compare.code]
         more = [program.converted(program.value(it), Pointer(VOID), True, node).code for it in arguments[4:5]]
         program.order_by(len(more))
@@ -458,7 +460,8 @@ class TypedCalls(ScanCalls):
 
     def call_bsearch(self, node: Any, arguments: Sequence[Any], used: bool) -> Value:
         program = self.program
-        key = program.converted(program.value(arguments[0]), Pointer(VOID), True, node)
+        wanted = program.value(arguments[0])
+        key = program.converted(wanted, Pointer(VOID), True, node)
         base, type_ = self.pointer(arguments[1])
         self.known(node, "bsearch", type_)
         inner, per = innermost(type_)
@@ -467,12 +470,14 @@ class TypedCalls(ScanCalls):
         program.searchers.setdefault(program.model.maker_name(inner), inner)
         program.order_by(0)
         compare = program.value(arguments[4])
+        program.kinds.compares(compare.type, wanted.type.to if is_pointer(wanted.type) else VOID, type_)
         count = program.converted(program.value(arguments[2]), UINT, True, node)
         return Value(Pointer(VOID), Call(Pointer(VOID), f"cbi_search_{program.model.maker_name(inner)}", (key.code, self.any_cells(base, inner), count.code, compare.code)), pure=False)
 
     def of_characters(self, node: Any, name: str, argument: Any) -> Optional[Value]:
         """Refuses what is read or written byte by byte and has no characters; else the call is one of the prelude."""
         _, type_ = self.pointer(argument)
+        self.program.kinds.want(type_, CHAR)
         if not like_char(innermost(type_)[0]):
             raise self.program.refuse(node, f"`{name}` of what isn't characters", "an array of characters, and each value from its bytes", True)
         return None

@@ -1,10 +1,18 @@
 """Where a piece of text stands (C99 5.1.1.2): tokens know their file and line, and what is written carries the numbers of tokens."""
+import os
+from functools import lru_cache
 from typing import Any, Dict, Iterator, List, NamedTuple, Sequence, Tuple
 
 from cbi_port import Line, Problem
 from cbi_port.writer import outer, plain
 
 NOTE = "note "   # how the kind of a token begins that says what the author wrote (authors.py)
+
+
+@lru_cache(maxsize=None)
+def real_file(name: str) -> str:
+    """One name for a file that the preprocessor names in several ways (`a.h`, `./a.h`)."""
+    return os.path.realpath(name)
 
 
 class Token(NamedTuple):
@@ -46,10 +54,6 @@ class Sheet:
         """All trees that are there."""
         yield from self.users()
         yield from self.tail
-
-    def take_back(self, file: str) -> None:
-        """Leaves the last text of a file out."""
-        self.parts[file].pop()
 
     def users(self) -> List[Any]:
         """The trees of what the files have."""

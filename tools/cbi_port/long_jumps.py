@@ -8,7 +8,7 @@ from typing import Any, Dict, Iterator, List, NamedTuple, Sequence, Set
 from pycparser import c_ast
 
 from cbi_port.lines import Refusal
-from cbi_port.trees import LOOPS, kind
+from cbi_port.trees import LOOPS, kind, mentions
 
 SETS = {"setjmp", "_setjmp", "sigsetjmp"}
 JUMPS = {"longjmp", "_longjmp", "siglongjmp"}
@@ -144,6 +144,11 @@ class Rewriter:
                 if getattr(node, name) is not None:
                     setattr(node, name, self.block(getattr(node, name)))
             return self.with_mark(node, node.cond)
+        if what == "Decl" and node.init is not None and kind(node.init) != "InitList" and mentions(node.init, node.name) and holds_jump(node.init, self.reach):
+            # Calls come before the declaration, which they may name (6.2.1p7).
+            value, node.init = node.init, None
+            later = c_ast.Assignment("=", c_ast.ID(node.name, node.coord), value, node.coord)
+            return [node, *self.with_mark(later, later)]
         return self.with_mark(node, node)
 
     def loop(self, node: Any) -> Any:

@@ -1,5 +1,5 @@
 """What stands around a token: what it closes, and what it is part of."""
-from typing import List, Optional, Sequence, Tuple
+from typing import List, Optional, Sequence, Set, Tuple
 
 from cbi_port.lines import Token
 
@@ -126,6 +126,15 @@ def declared_name(out: Sequence[Token]) -> str:
     before = out[end - 2].text if end > 1 else ";"
     declares = at is not None and at.kind == "name" and (before in ("*", "}") or end > 1 and out[end - 2].kind == "name" and before not in ("struct", "union", "enum"))
     return at.text if at is not None and declares and at.text not in TYPE_WORDS else ""
+
+
+def names_around(out: Sequence[Token], behind: Sequence[Token]) -> Set[str]:
+    """The names of the declaration in which an attribute stands, those of its types too."""
+    begin = len(out)
+    while begin and out[begin - 1].text not in (";", "{", "}"):
+        begin -= 1
+    end = next((at for at, it in enumerate(behind) if it.text in (";", "{", "=")), len(behind))
+    return {it.text for it in [*out[begin:], *behind[:end]] if it.kind == "name"}
 
 
 def moves(within: Sequence[Token]) -> Tuple[List[Tuple[List[Token], List[Token]]], List[List[Token]]]:

@@ -172,13 +172,22 @@ class Later(Node):
 
 
 @dataclass(frozen=True)
+class Look(Node):
+    """A value that a variable of its own gets too, so that pairs see it (values_seen.py)."""
+    name: str
+    value: Node
+    note: int = field(default=-1, compare=False)    # the token that says what the author wrote
+    at: int = field(default=-1, compare=False)
+
+
+@dataclass(frozen=True)
 class Braces(Node):
     """What an array begins with."""
     items: Tuple[Node, ...]
     at: int = field(default=-1, compare=False)
 
 
-LOOSE = {Comma: COMMA, Assign: ASSIGN, Choice: COND, Unary: UNARY, Cast: UNARY}
+LOOSE = {Comma: COMMA, Assign: ASSIGN, Look: ASSIGN, Choice: COND, Unary: UNARY, Cast: UNARY}
 
 
 def level(node: Node) -> int:

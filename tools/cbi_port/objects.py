@@ -163,7 +163,8 @@ class Objects(Cells):
         ends = self.program.function.ends
         if not ends:
             return placed(row, at)
-        if value is None:
+        if value is None or isinstance(bare(value[0]), Number):
+            # What is done before it changes no constant.
             return Block((*ends, row), at)
         code, type_ = value
         if is_whole(type_):

@@ -13,7 +13,7 @@ def divided(left: int, right: int) -> int:
     return abs(left) // abs(right) * (1 if (left < 0) == (right < 0) else -1)
 
 
-def reckoned(sign: str, left: int, right: int, type_: Int) -> Optional[int]:
+def computed(sign: str, left: int, right: int, type_: Int) -> Optional[int]:
     """What an operator gives of two constants of a type; None where C leaves it undefined."""
     if sign in ("/", "%"):
         if right == 0:
@@ -72,7 +72,7 @@ class Operators(Expressions):
         if sign in ("<", ">", "<=", ">=", "==", "!="):
             return self.ordered(sign, left, right, type_, at)
         if left.constant is not None and right.constant is not None:
-            found = reckoned(sign, type_.wrap(left.constant), type_.wrap(right.constant), type_)
+            found = computed(sign, type_.wrap(left.constant), type_.wrap(right.constant), type_)
             if found is not None:
                 return number(found, type_)
         if is_long(type_):
@@ -82,7 +82,7 @@ class Operators(Expressions):
         return Value(type_, Binary(type_, sign, left.code, right.code, at), None, left.pure and right.pure)
 
     def of_width(self, found: Value, sign: str, left: Value, right: Value) -> Value:
-        """gcc reckons with bit-fields of more than 32 bits in their own width."""
+        """gcc computes with bit-fields of more than 32 bits in their own width."""
         widths = [it.wide or 64 for it in (left, right) if is_long(it.type)]
         if max(widths) == 64:
             return found
@@ -101,7 +101,7 @@ class Operators(Expressions):
         if is_long(right.type):
             right = self.converted(right, INT)
         if left.constant is not None and right.constant is not None:
-            found = reckoned(sign, left.constant, right.constant, type_)
+            found = computed(sign, left.constant, right.constant, type_)
             if found is not None:
                 return number(found, type_)
         if is_long(type_):

@@ -7,8 +7,9 @@ from cbi_port.constants import bytes_of, characters_of, written_name
 from cbi_port.conversions import number
 from cbi_port.declarations import Declarations
 from cbi_port.floats import Floats
+from cbi_port.kinds import counts_bytes
 from cbi_port.nodes import Index, Number, marked
-from cbi_port.scopes import Symbol
+from cbi_port.scopes import AROUND, Symbol
 from cbi_port.trees import kind
 from cbi_port.types import (CHAR, INT, LLONG, LONG, UCHAR, UINT, ULLONG, ULONG, Array, CType, Function, Int, Pointer, Struct, Void, is_complete, is_float,
                             is_long, is_pointer, size_of, spelled)
@@ -135,7 +136,7 @@ class Places(Authors, Floats, Declarations):
             if node.name == "__cbi_errors" and not self.in_prelude and not self.stderr:
                 self.liberties["what is written to stderr is left out (--stderr joins it)"] = None
         if symbol is None:
-            if self.partial:
+            if self.partial or node.name.startswith(AROUND):
                 raise self.follow(node)
             raise self.refuse(node, f"`{node.name}`, which isn't declared", "its declaration before that line, or `#include` of the header that has it")
         symbol = self.variable_of_library(symbol)
@@ -177,7 +178,7 @@ class Places(Authors, Floats, Declarations):
         if not is_pointer(pointer.type) or not isinstance(index.type, Int):
             raise self.refuse(node, "`[]` without a pointer", "an array or a pointer, and a number")
         index = self.index(index)
-        if not self.model.in_bytes and not isinstance(pointer.type.to, (Array, Void)) and is_complete(pointer.type.to):
+        if not self.model.in_bytes and not isinstance(pointer.type.to, (Array, Void)) and is_complete(pointer.type.to) and not counts_bytes(pointer.type):
             return Place(pointer.type.to, Index(pointer.type.to, pointer.code, index.code), pointer.pure and index.pure, quals=pointer.type.quals)
         return self.model.target(self.model.add(pointer, index, "+", node), node)
 

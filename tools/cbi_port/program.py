@@ -3,7 +3,7 @@ import re
 from dataclasses import replace
 from typing import Any, Dict, List, Optional, Sequence, Set, Tuple
 
-from cbi_port import Ported, forms
+from cbi_port import Ported, aliases, forms
 from cbi_port.blocks import Declare
 from cbi_port.body import Body
 from cbi_port.bounds import BoundedBytes
@@ -12,7 +12,9 @@ from cbi_port.dispatch import Dispatch
 from cbi_port.functions import Functions
 from cbi_port.helpers import Helpers
 from cbi_port.late import Choice
+from cbi_port.kinds import Concluded, Kinds
 from cbi_port.lines import Refusal, Sheet, Token
+from cbi_port.makers import Makers
 from cbi_port.names import names_of
 from cbi_port.objects import Objects
 from cbi_port.reader import HEADERS, Unit, prelude_index, read_prelude
@@ -37,8 +39,9 @@ def prelude_text(name: str) -> str:
 class Program(Functions):
     """A translation of files into one text, with one model of memory."""
 
-    def __init__(self, units: Sequence[Unit], tokens: List[Token], memory: str, args: Any, stderr: bool, named: Named = (), wrap: bool = False) -> None:
-        self.tokens, self.units = tokens, units
+    def __init__(self, units: Sequence[Unit], tokens: List[Token], memory: str, args: Any, stderr: bool, named: Named = (), wrap: bool = False,
+                 values: str = "none", concluded: Optional[Concluded] = None) -> None:
+        self.tokens, self.units, self.values = tokens, units, values
         self.sheet = Sheet(tokens, units[0].file if units else "")
         self.problems: List[Refusal] = []
         self.liberties, self.counts = {}, {}
@@ -51,7 +54,7 @@ class Program(Functions):
             token.kind == "number" and token.text[:2] not in ("0x", "0X") and re.search("[.eE]", token.text) for token in tokens)
         self.asked = asked(tokens, self.words, args, stderr, named)
         self.liberties.update(dict.fromkeys(self.asked.told + [WRAPS] * wrap))
-        self.prelude_parts = (["FLOATS"] if self.floats else []) + forms.parts_of(tokens, self.floats) + self.asked.parts
+        self.prelude_parts = ["FLOATS"] * self.floats + ["BYTES"] * (memory != "cells") + forms.parts_of(tokens, self.floats) + self.asked.parts
         self.lengths = {}
         self.structs, self.externals, self.by_node, self.headers, self.forwards = [], {}, {}, {}, {}
         self.statics: Dict[str, Dict[str, Symbol]] = {}
@@ -70,13 +73,15 @@ class Program(Functions):
         self.union_helpers: Set[Any] = set()
         self.unions = Unions(self)
         self.later: List[Choice] = []
-        self.from_generic: List[int] = []
-        self.to_generic: List[int] = []
+        self.from_generic: List[CType] = []                     # what becomes a pointer to characters
+        self.to_generic: List[Tuple[int, CType]] = []           # what a pointer to characters becomes that was computed, and where
         self.fresh_types: Set[str] = set()
         self.globals: List[Declare] = []     # those that stand on the first line
         self.library_names: Set[str] = set()
         self.wrappers: Dict[str, Symbol] = {}
         self.makers_of_text = Wrappers(self)
+        self.givers = Makers(self)
+        self.kinds = Kinds(self, concluded or {})
         self.exit_functions = bool(self.words & {"atexit"})
         self.wrapped: Set[str] = self.asked.wrapped
         self.keeps_sizes = "realloc" in self.words
@@ -94,7 +99,6 @@ class Program(Functions):
         self.scopes: Dict[str, Scope] = {}
         self.definitions: List[Tuple[Symbol, Any, Unit]] = []
         self.added: List[str] = []
-        self.mentioned: Dict[str, int] = {}
         self.wide_strings: Dict[int, Symbol] = {}
 
     # The names of whole files.
@@ -162,6 +166,8 @@ class Program(Functions):
             known = {decl.name: self.adjusted(self.resolve(decl.type)) for decl in item.param_decls or []}
             names = [it.name for it in item.decl.type.args.params] if item.decl.type.args is not None else []
             self.count("functions with types behind their parameters")
+            for it in known.values():
+                self.kinds.hide(it)
             return Function(type_.result, tuple(known.get(name, INT) for name in names), False, False)
         if item.decl.type.args is None:
             return Function(type_.result, (), False, False)
@@ -184,7 +190,9 @@ class Program(Functions):
             symbol.unit = unit.file
             symbol.text = self.outer_name(name, what, table)
             table[name] = symbol
-        elif isinstance(symbol.type, Array) and symbol.type.count is None or isinstance(type_, Function) and type_.known and not symbol.type.known and not symbol.defined:
+        else:
+            self.kinds.one(symbol.type, type_)
+        if isinstance(symbol.type, Array) and symbol.type.count is None or isinstance(type_, Function) and type_.known and not symbol.type.known and not symbol.defined:
             symbol.type = type_
         symbol.quals = self.quals_of(node.type)
         self.scope.names[name] = symbol
@@ -212,7 +220,9 @@ class Program(Functions):
             symbol.text = self.outer_name(node.name, "variable", self.externals)
             symbol.quals = self.quals_of(node.type)
             self.externals[node.name] = symbol
-        elif isinstance(symbol.type, Array) and symbol.type.count is None:
+        else:
+            self.kinds.one(symbol.type, type_)
+        if isinstance(symbol.type, Array) and symbol.type.count is None:
             symbol.type = type_
         return symbol
 
@@ -274,6 +284,7 @@ class Program(Functions):
         for unit in self.units:
             if unit.tree is not None:
                 self.survey(unit)
+        aliases.put(self)
         self.begin_main()
         self.find_jumps()
         if not self.model.in_bytes:
@@ -318,31 +329,11 @@ class Program(Functions):
         self.function = self.first
 
     def define_or_wait(self, symbol: Symbol, item: Any, unit: Unit) -> None:
-        """A static function of a header waits until it is called; one that nobody calls may be left out."""
+        """A static function of a header waits until it is called."""
         if symbol.static and not self.is_users(item) or symbol in self.makers_of_text.known:
             self.waiting.append((symbol, item, unit))
             return
-        if symbol.static and self.mentions_of(symbol.name) < 2:
-            before = len(self.problems)
-            try:
-                self.define(symbol, item, unit)
-            except Refusal as refusal:
-                self.tell(refusal)
-            if len(self.problems) > before:
-                del self.problems[before:]
-                if symbol.emitted:
-                    self.sheet.take_back(self.tokens[self.place_of(item.decl)].file)
-                symbol.emitted = False
-                self.liberties[f"the function {symbol.name}, which nothing calls, is left out"] = None
-            return
         self.define(symbol, item, unit)
-
-    def mentions_of(self, name: str) -> int:
-        if not self.mentioned:
-            for token in self.tokens:
-                if token.kind == "name":
-                    self.mentioned[token.text] = self.mentioned.get(token.text, 0) + 1
-        return self.mentioned.get(name, 0)
 
     def is_here(self, symbol: Symbol, item: Any) -> bool:
         """Whether a global's declaration is the one at which it is written."""
@@ -384,18 +375,18 @@ class Program(Functions):
                     self.function = self.first
                     self.scope = Scope()
                     self.begin_static(symbol, symbol.init, symbol.node)
-            before = sum(symbol.used for symbol, _, _ in self.waiting)
-            for symbol in {it for kind_ in self.dispatch.kinds.values() for it in self.dispatch.meant(kind_)}:
-                symbol.used = True
-            more = more or before != sum(symbol.used for symbol, _, _ in self.waiting)
+            more = self.givers.use(self.givers.live()) or more
         for symbol in list(self.externals.values()) if not self.partial else []:
             if symbol.kind == "variable" and symbol.used and not symbol.defined:
                 self.problems.append(Refusal(symbol.at, f"`{symbol.name}`, which is declared and never defined", DEFINITION))
             if symbol.kind == "function" and symbol.used and not symbol.defined:
                 self.problems.append(Refusal(symbol.at, f"`{symbol.name}`, which isn't defined", DEFINITION))
-        if not self.model.in_bytes and self.from_generic and self.to_generic:
-            self.problems.append(Refusal(max(self.to_generic[0], 0), "a reckoned `char *` that becomes a `void *`", "a pointer to what is there", True))
-        self.problems.extend(self.unions.problems())
+        self.kinds.settle()
+        moved = [at for at, type_ in self.to_generic if not self.kinds.is_text(type_)]
+        if not self.model.in_bytes and moved and not all(map(self.kinds.is_text, self.from_generic)):
+            self.problems.append(Refusal(max(moved[0], 0), "a computed `char *` that becomes a `void *`", "a pointer to what is there", True))
+        self.problems.extend([] if self.model.in_bytes else self.kinds.characters.problems())
+        self.problems.extend([*self.unions.problems(), *self.givers.finish()])
         self.in_prelude = False
 
     def plan_helpers(self) -> None:

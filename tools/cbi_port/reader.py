@@ -8,11 +8,14 @@ import re
 import shutil
 import subprocess
 import tempfile
-from typing import Any, Dict, Iterator, List, NamedTuple, Optional, Sequence, Tuple
+from typing import AbstractSet, Any, Dict, Iterator, List, NamedTuple, Optional, Sequence, Tuple
 
 from cbi_port import Missing, Problem
+from cbi_port.aliases import Alias
 from cbi_port.gnu import rewrite
 from cbi_port.lines import Refusal, Token
+from cbi_port.neighbours import TYPE_WORDS
+from cbi_port.trees import CONTROL, holds, is_statements, kind
 
 HEADERS = os.path.join(os.path.dirname(os.path.dirname(os.path.abspath(__file__))), "headers")
 PIECE = re.compile(r"""
@@ -35,12 +38,15 @@ MACHINE = ["__i386__", "__i386", "i386", "__i686__", "__i686", "__pentium4__", "
 
 class Unit(NamedTuple):
     """A file as it was read: its tree, and the trees of what stood within an expression. `defined` has the tokens at which structs and unions
-    are defined outside functions, by their names."""
+    are defined outside functions, by their names; `kept` are the names that an attribute keeps, and `span` is where its tokens begin and end."""
     file: str
     tree: Any
     bodies: Dict[str, Any]
     alignments: Dict[str, str]
     defined: Dict[str, int]
+    aliases: Sequence[Alias] = ()
+    kept: AbstractSet[str] = frozenset()
+    span: Tuple[int, int] = (0, 0)
 
 
 def preprocessor() -> List[str]:
@@ -196,7 +202,7 @@ def opens_struct(tokens: Sequence[Token], begin: int) -> bool:
 def read(file: str, options: Sequence[str], table: List[Token], problems: List[Refusal], missing: List[Problem]) -> Unit:
     """A file's tree. Its tokens are added to the table; what it can't be read for is added to the problems, and headers that aren't there to what is missing."""
     tokens = pieces(preprocessed(file, options, missing), file)
-    tokens, bodies, alignments = rewrite(tokens, len(table), problems)
+    tokens, bodies, alignments, other_names, kept = rewrite(tokens, len(table), problems)
     first = len(table)
     trees: Dict[str, Any] = {}
     tree = None
@@ -218,7 +224,8 @@ def read(file: str, options: Sequence[str], table: List[Token], problems: List[R
         tree.ext = [item for item in tree.ext if not (type(item).__name__ == "FuncDef" and item.decl.name in bodies)]
         for root in [tree, *trees.values()]:
             unwrap(root, trees)
-    return Unit(file, tree, trees, alignments, dict(defined_structs(tree)) if tree is not None else {})
+        tree.ext = [item for item in tree.ext if not (kind(item) == "Decl" and any(item.name == it.name for it in other_names))]
+    return Unit(file, tree, trees, alignments, dict(defined_structs(tree)) if tree is not None else {}, other_names, kept, (first, first + len(tokens)))
 
 
 def defined_structs(node: Any) -> Iterator[Tuple[str, int]]:
@@ -230,15 +237,30 @@ def defined_structs(node: Any) -> Iterator[Tuple[str, int]]:
             yield from defined_structs(child)
 
 
+def without_void(node: Any) -> Any:
+    """What is cast to `void`, as a statement."""
+    while kind(node) == "Cast" and getattr(node.to_type.type.type, "names", None) == ["void"]:
+        node = node.expr
+    return node
+
+
+def with_branches(node: Any, bodies: Dict[str, Any]) -> bool:
+    """Whether a part of an expression is nothing but statements within one, of which some branch."""
+    inner = without_void(node)
+    return is_statements(inner) and inner.name.name in bodies and holds(bodies[inner.name.name], lambda it: kind(it) in CONTROL and kind(it) != "Compound")
+
+
 def unwrapped(node: Any, bodies: Dict[str, Any]) -> Any:
-    """A statement that is nothing but statements within an expression is a block."""
-    inner = node
-    while type(inner).__name__ == "Cast" and getattr(inner.to_type.type.type, "names", None) == ["void"]:
-        inner = inner.expr
-    if type(inner).__name__ == "FuncCall" and type(inner.name).__name__ == "ID" and inner.name.name in bodies:
-        from pycparser import c_ast
-        body = bodies[inner.name.name]
-        return c_ast.Compound(body.block_items, node.coord)
+    """A statement that is nothing but statements within an expression is a block; one that evaluates such, with branches in them, or something else, is an `if`."""
+    from pycparser import c_ast
+    inner = without_void(node)
+    if is_statements(inner) and inner.name.name in bodies:
+        return c_ast.Compound(bodies[inner.name.name].block_items, node.coord)
+    if kind(inner) == "TernaryOp" and (with_branches(inner.iftrue, bodies) or with_branches(inner.iffalse, bodies)):
+        return c_ast.If(inner.cond, unwrapped(inner.iftrue, bodies), unwrapped(inner.iffalse, bodies), node.coord)
+    if kind(inner) == "BinaryOp" and inner.op in ("&&", "||") and with_branches(inner.right, bodies):
+        condition = inner.left if inner.op == "&&" else c_ast.UnaryOp("!", inner.left, inner.left.coord)
+        return c_ast.If(condition, unwrapped(inner.right, bodies), None, node.coord)
     return node
 
 
@@ -262,6 +284,8 @@ def unread(tokens: Sequence[Token], begin: int, at: int, first: int) -> Refusal:
         depth += (text == "{") - (text == "}")
     if depth > 0 and tokens[at].text == "{" or depth > 1 and tokens[at - 1].text == ")":
         return Refusal(first + at, "a function within a function", "a function of its own, with what it uses as parameters")
+    if depth > 0 and tokens[at - 1].text == ")" and tokens[at].text in TYPE_WORDS:
+        return Refusal(first + at, "a function within a function, with the types of its parameters behind `)`", "the types before the names")
     if tokens[at].text == "_Generic":
         return Refusal(first + at, "`_Generic`", "the function that is meant")
     near = " ".join(token.text for token in tokens[max(begin, at - 3):at + 2])

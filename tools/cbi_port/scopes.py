@@ -11,6 +11,8 @@ TAKEN = {"char", "do", "else", "for", "if", "int", "return", "sizeof", "struct",
 
 # What stands before the name of a function that was called as `__builtin_NAME`, so that no function of the text is taken for it.
 BUILTIN = "__cbi_builtin_"
+# How the pointers begin by which a function finds the variables of those around it: a parameter, or a variable outside functions.
+AROUND = ("cbi_up_", "cbi_of_")
 
 
 def plain_name(name: str) -> str:

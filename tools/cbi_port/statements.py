@@ -8,7 +8,7 @@ from cbi_port.lines import Refusal
 from cbi_port.nodes import Assign, Call, Name, Node, Null, Number, Part
 from cbi_port.scopes import Scope, Symbol
 from cbi_port.trees import direct_of, ends_by_itself, goes_before, kind, leading
-from cbi_port.types import INT, UCHAR, Array, CType, Function, Int, Struct, Void, is_complete, is_long, is_open, spelled
+from cbi_port.types import INT, UCHAR, Array, CType, Function, Int, Pointer, Struct, Void, is_complete, is_long, is_open, spelled
 from cbi_port.values import Value, word
 
 
@@ -254,6 +254,8 @@ class Statements(Initialisers):
 
     def local_function(self, node: Any, type_: Function) -> None:
         symbol = self.externals.get(node.name) or self.unit_symbol(node.name)
+        if symbol is not None:
+            self.kinds.one(symbol.type, type_)
         if symbol is None:
             if self.library_function(node.name, node) is not None:
                 return
@@ -292,6 +294,8 @@ class Statements(Initialisers):
                 return
             symbol = Symbol(node.name, "variable", type_, self.local_name(node.name))
             symbol.align, symbol.quals = self.said_alignment(node), self.quals_of(node.type)
+            if isinstance(type_, Pointer):
+                self.kinds.characters.mark(self.kinds.characters.variables, type_.to)
             self.scope.names[node.name] = symbol
             if isinstance(type_, Array) and type_.count is None:
                 type_, found = self.leaves(type_, node.init)

@@ -15,6 +15,8 @@ READS = {"fopen", "open", "stat", "lstat", "access"}
 REDIRECTS = {"freopen", "dup2"}
 # Functions that look at bytes ahead, or at how reading ended: with one of them all input goes by the prelude.
 AHEAD = {"ungetc", "scanf", "fscanf", "vscanf", "vfscanf", "feof"}
+# What puts something into the environment.
+SETS_VARIABLES = {"setenv", "putenv"}
 # Variables of the library that texts declare for themselves too.
 VARIABLES = {"optarg", "optind", "opterr", "optopt", "daylight", "timezone"}
 
@@ -24,6 +26,7 @@ DAYS = "the time zone is UTC, whatever the environment has"
 PROCESS = "process and user are made up: process 1, user 1000 named user, in /"
 NOTHING_RUNS = "system and popen run nothing, and fail"
 WAITS = "sleep and its kin take no time"
+SET_ALONE = "getenv gives what the program has set, and else NULL, whatever the environment has"
 TOLD: Dict[str, str] = {
     **dict.fromkeys(["signal", "ssignal", "sigaction", "alarm", "sigprocmask"], SIGNALS),
     **dict.fromkeys(["time", "clock", "gettimeofday", "clock_gettime"], TIMES),
@@ -55,7 +58,7 @@ def input_name(args: Any, named: Named) -> Optional[str]:
 
 def asked(tokens: Sequence[Token], words: Set[str], args: Any, stderr: bool, named: Named) -> Asked:
     """What a text asks for by the names that stand in it."""
-    parts = ["STDERR"] * stderr
+    parts = ["STDERR"] * stderr + ["ENVIRONMENT"] * bool(words & SETS_VARIABLES)
     wrapped = {"getchar"} if words & AHEAD else set()
     name = input_name(args, named) if words & READS else None
     by_words = args == "first-line" and not any(data is None for _, data in named) and bool(words & READS)

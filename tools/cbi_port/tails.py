@@ -71,7 +71,7 @@ class Tails(Jumps):
         """The calls in place of which the function may begin again, by their statements."""
         name, count = item.decl.name, len(self.own_parameters(item))
         symbol = self.scope.find(name)
-        if symbol is None or name == "main" or symbol in self.makers_of_text.known or not self.is_bare(item, symbol):
+        if symbol is None or symbol.kind != "function" or name == "main" or symbol in self.makers_of_text.known or not self.is_bare(item, symbol):
             return {}
 
         def is_tail(call: Any) -> bool:

@@ -1,5 +1,5 @@
 """What a tree of C holds: names, jumps, and statements within expressions."""
-from typing import Any, List, Set
+from typing import Any, Dict, List, NamedTuple, Set
 
 LOOPS = ("While", "DoWhile", "For")
 CONTROL = (*LOOPS, "If", "Compound", "Return", "Switch", "Goto", "Label", "Break", "Continue")
@@ -21,6 +21,15 @@ def holds(node: Any, wanted: Any) -> bool:
     if node is None:
         return False
     return wanted(node) or any(holds(child, wanted) for _, child in node.children())
+
+
+def replace(node: Any, name: str, child: Any) -> None:
+    """Puts a child in the place of another one, by the name that `children` gives it."""
+    if name.endswith("]"):
+        head, _, index = name[:-1].partition("[")
+        getattr(node, head)[int(index)] = child
+    else:
+        setattr(node, name, child)
 
 
 def mentions(node: Any, name: str) -> bool:
@@ -145,6 +154,41 @@ def leaves_loop(node: Any) -> bool:
     if kind(node) in (*LOOPS, "Switch"):
         return holds(node, is_jump)
     return any(leaves_loop(child) for _, child in node.children())
+
+
+class Look(NamedTuple):
+    """What a tree has somewhere in it: labels, jumps, jumps within loops, labels of a `switch` within other statements, and labels of one that is around it."""
+    label: bool
+    jump: bool
+    leaves: bool
+    cased: bool
+    stray: bool
+
+
+class Cuts:
+    """Which statements of a function have to be cut into segments: its tree is looked at once, from the leaves on."""
+
+    def __init__(self, body: Any) -> None:
+        self.body = body
+        self.known: Dict[int, bool] = {}
+        found = self.look(body)
+        self.any = found.label or found.jump or found.cased
+
+    def look(self, node: Any) -> Look:
+        rows = [self.look(child) for _, child in node.children()]
+        what = kind(node)
+        label, jump, leaves, cased, stray = map(any, zip(*rows)) if rows else (False,) * 5
+        jump = jump or is_jump(node)
+        if what in LOOPS or what == "Switch":
+            leaves = jump
+        found = Look(label or what == "Label", jump, leaves, cased or what == "Switch" and cases_within(node), what != "Switch" and (stray or what in ("Case", "Default")))
+        self.known[id(node)] = found.label or found.leaves or found.cased or found.stray
+        return found
+
+    def is_cut(self, node: Any) -> bool:
+        """Whether a statement has to be cut; one that stands elsewhere is looked at by itself."""
+        found = self.known.get(id(node))
+        return is_cut(node) if found is None else found
 
 
 def is_cut(node: Any) -> bool:

@@ -10,7 +10,18 @@ PLAIN: Quals = frozenset()
 
 
 class Void(NamedTuple):
+    """`at` is the declarator of the pointer to it, where that says which `void *` it is (kinds.py)."""
     name: str = "void"
+    at: Any = None
+
+    def __eq__(self, other: object) -> bool:
+        return isinstance(other, Void)
+
+    def __ne__(self, other: object) -> bool:
+        return not self == other
+
+    def __hash__(self) -> int:
+        return hash(Void)
 
 
 class Int(NamedTuple):
@@ -214,6 +225,13 @@ def align_of(type_: CType) -> int:
     return type_.align if isinstance(type_, Struct) else 4
 
 
+def align_alone(type_: CType) -> int:
+    """What an object of a type is aligned to that is no member of another: i386 has numbers of 64 bits at 8 bytes there."""
+    if isinstance(type_, Array):
+        return align_alone(type_.of)
+    return 8 if isinstance(type_, Int) and type_.size == 8 and type_ != LDOUBLE else align_of(type_)
+
+
 def is_open(type_: CType) -> bool:
     """An array of which some length is found out as the program runs."""
     return isinstance(type_, Array) and (isinstance(type_.count, Length) or is_open(type_.of))
@@ -253,7 +271,7 @@ def lay_out(struct: Struct, members: Sequence[Asked]) -> None:
         if struct.union:
             at = 0
         if bits is not None:
-            at = lay_bits(struct, at, Asked(name, type_, bits), align, said)
+            at = lay_bits(struct, at, Asked(name, type_, bits, most > 0), align, said)
             continue
         struct.align = max(struct.align, align)
         at = -(-at // (8 * align)) * 8 * align
@@ -266,12 +284,11 @@ def lay_out(struct: Struct, members: Sequence[Asked]) -> None:
 
 
 def lay_bits(struct: Struct, at: int, asked: Asked, align: int, said: int) -> int:
-    """Gives a bit-field its place; where the next one may begin."""
-    name, type_, bits = asked.name, asked.type, asked.bits or 0
+    """Gives a bit-field its place; where the next one may begin. Where anything is said of how members are packed, one follows the other without a gap."""
+    name, type_, bits, tight = asked.name, asked.type, asked.bits or 0, asked.packed
     unit = 8 * align_of(type_)
     if bits == 0:
         return int(-(-at // unit) * unit)
-    tight = align < align_of(type_)
     if said:
         at = -(-at // (8 * said)) * 8 * said
     if not tight and -(-(at % unit + bits) // unit) > 8 * size_of(type_) // unit:

@@ -3,6 +3,7 @@
 Such calls come before the rest of their expression, each into a name of its own, since nothing may be done behind one that a jump has left. C
 leaves the order of operands open; where it doesn't (`&&`, `||`, `?:` and commas), statements stand in place of the operators.
 """
+from dataclasses import replace
 from typing import Any, Dict, List, Optional, Sequence, Set
 
 from cbi_port.blocks import Block, Continue, Evaluate, If, Return, Statement
@@ -145,8 +146,14 @@ class Unwinding(Tails):
         room = self.lasting_scalar(INT, "int")
         self.lead_side(node.left, room, node)
         rows = self.function.gathered(lambda: self.lead_side(node.right, room, node))
-        self.add(If(room if node.op == "&&" else Unary(INT, "!", room), Block(rows), None, self.place_of(node)))
+        joined = If(room if node.op == "&&" else Unary(INT, "!", room), Block(rows), None, self.place_of(node))
+        self.add(self.noted_as(joined, node, "head" if node.op == "&&" else "turned", node.op))
         self.function.replaced[id(node)] = Value(INT, room)
+
+    def noted_as(self, row: If, node: Any, kind_: str, sign: str) -> Statement:
+        """A statement in place of an operator, with a note that says which one the author wrote."""
+        said: int = self.note(node, kind_, sign)
+        return replace(row, note=said) if said >= 0 else row
 
     def lead_side(self, side: Any, room: Node, node: Any) -> None:
         """Keeps whether one side of `&&` or `||` isn't zero."""
@@ -162,7 +169,7 @@ class Unwinding(Tails):
         room = None if isinstance(type_, Void) else self.room_for(type_)
         condition = self.truth(self.value(node.cond)).code
         arms = [Block(self.function.gathered(lambda: self.lead_arm(arm, type_, room, node))) for arm in (node.iftrue, node.iffalse)]
-        self.add(If(condition, arms[0], arms[1], self.place_of(node)))
+        self.add(self.noted_as(If(condition, arms[0], arms[1], self.place_of(node)), node, "head", "?"))
         self.function.replaced[id(node)] = Value(VOID, Number(VOID, 0)) if room is None else Value(type_, room)
 
     def lead_arm(self, arm: Any, type_: Any, room: Optional[Node], node: Any) -> None:

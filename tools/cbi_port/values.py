@@ -20,7 +20,7 @@ class Value(NamedTuple):
     fresh: Optional[Callable[[Optional[CType]], Node]] = None
     null: bool = False
     origin: Any = None
-    wide: Optional[int] = None  # the width of a bit-field of more than 32 bits, in which gcc reckons
+    wide: Optional[int] = None  # the width of a bit-field of more than 32 bits, in which gcc computes
 
     def as_type(self, type_: Any) -> "Value":
         """The value in a type that is kept in the same way."""

@@ -9,11 +9,12 @@ from typing import Any, Callable, Dict, List, NamedTuple, Optional, Set, Tuple
 from cbi_port.nodes import Call, Node
 from cbi_port.objects import goes_on, is_sum
 from cbi_port.scopes import Symbol
-from cbi_port.trees import kind, without_casts
-from cbi_port.types import CType, Function, Pointer, Void, spelled
+from cbi_port.trees import kind, replace, without_casts
+from cbi_port.types import CHAR, CType, Function, Pointer, Void, spelled, to_function
 from cbi_port.values import Value
 
 MAKERS = {"malloc", "calloc", "realloc"}
+IN_PRELUDE = "__cbi_value_"   # how the prelude names the functions that stand for those of the library
 OBJECT = "cbi_object"  # how a copy names the type of what it holds
 NULLS = ("0", "NULL")
 
@@ -31,9 +32,9 @@ class Wrapper(NamedTuple):
         return [getattr(it, "name", None) or "" for it in args.params] if args is not None else []
 
 
-def is_generic(type_: Any) -> bool:
-    """Whether a declarator is that of a `void *`."""
-    return kind(type_) == "PtrDecl" and kind(type_.type) == "TypeDecl" and getattr(type_.type.type, "names", None) == ["void"]
+def is_generic(type_: Any, word: str = "void") -> bool:
+    """Whether a declarator is that of a `void *`, or of a pointer to another type that is named by one word."""
+    return kind(type_) == "PtrDecl" and kind(type_.type) == "TypeDecl" and getattr(type_.type.type, "names", None) == [word]
 
 
 def declared(node: Any) -> List[Any]:
@@ -45,7 +46,7 @@ def declared(node: Any) -> List[Any]:
 class Reader:
     """Says whether a function does nothing with the memory that it gives but make it, ask whether there is any, and hand it on."""
 
-    def __init__(self, held: Set[str], makes: Callable[[str], bool], takes: Callable[[str, int], bool]) -> None:
+    def __init__(self, held: Set[str], makes: Callable[[Any], bool], takes: Callable[[str, int], bool]) -> None:
         self.held, self.makes, self.takes = held, makes, takes
         self.made = False
 
@@ -57,7 +58,7 @@ class Reader:
         if what == "Constant":
             return node.value in NULLS
         if what == "FuncCall":
-            return kind(node.name) == "ID" and self.makes(node.name.name)
+            return self.makes(node.name)
         if what == "Assignment":
             return node.op == "=" and kind(node.lvalue) == "ID" and node.lvalue.name in self.held and self.is_memory(node.rvalue)
         return what == "TernaryOp" and self.is_memory(node.iftrue) and self.is_memory(node.iffalse)
@@ -80,14 +81,15 @@ class Reader:
 
     def clean_call(self, node: Any) -> bool:
         """A call: memory goes to parameters alone that take memory of any type."""
+        by_name = kind(node.name) == "ID"
         for place, argument in enumerate(node.args.exprs if node.args is not None else []):
             inner = without_casts(argument)
             if kind(inner) == "ID" and inner.name in self.held:
-                if not self.takes(node.name.name if kind(node.name) == "ID" else "", place):
+                if not self.takes(node.name.name if by_name else "", place):
                     return False
             elif not self.clean(argument):
                 return False
-        return kind(node.name) == "ID"
+        return by_name or self.makes(node.name)
 
     def clean(self, node: Any) -> bool:
         """Whether a statement or a value does with memory what is said above."""
@@ -116,6 +118,7 @@ class Wrappers:
         self.program = program
         self.known: Dict[Symbol, Wrapper] = {}
         self.copies: Dict[Tuple[Symbol, CType], Symbol] = {}
+        self.cast: Optional[Set[str]] = None
 
     def find(self) -> None:
         """Finds those that the text defines; one may call another."""
@@ -131,14 +134,28 @@ class Wrappers:
 
     def may_be(self, symbol: Symbol, item: Any) -> bool:
         type_ = symbol.type
-        return isinstance(type_, Function) and type_.known and not type_.more and isinstance(type_.result, Pointer) and isinstance(
-            type_.result.to, Void) and not item.param_decls
+        if not isinstance(type_, Function) or not type_.known or type_.more or not isinstance(type_.result, Pointer) or item.param_decls:
+            return False
+        return isinstance(type_.result.to, Void) or type_.result.to == CHAR and symbol.name in self.are_cast()
+
+    def are_cast(self) -> Set[str]:
+        """The functions of which a call is cast to a pointer to what is no character: one that gives a `char *` may give memory of any type by that."""
+        if self.cast is None:
+            self.cast, stack = set(), [unit.tree for unit in self.program.units if unit.tree is not None]
+            while stack:
+                node = stack.pop()
+                if kind(node) == "Cast" and kind(node.expr) == "FuncCall" and kind(node.expr.name) == "ID" and kind(node.to_type.type) == "PtrDecl" and not any(
+                        is_generic(node.to_type.type, word) for word in ("char", "void")):
+                    self.cast.add(node.expr.name.name)
+                stack.extend(child for _, child in node.children())
+        return self.cast
 
     def held_by(self, item: Any) -> Set[str]:
-        """The names of `void *` by which memory may be held: variables, and parameters that are made longer or given back."""
-        held = {it.name for it in declared(item.body) if is_generic(it.type) and "static" not in (it.storage or [])}
+        """The names of `void *` by which memory may be held (of `char *`, where such a one is given): variables, and parameters that are made longer or given back."""
+        words = ("void", "char") if is_generic(item.decl.type.type, "char") else ("void",)
+        held = {it.name for it in declared(item.body) if any(is_generic(it.type, word) for word in words) and "static" not in (it.storage or [])}
         args = item.decl.type.args
-        generic = {it.name for it in (args.params if args is not None else []) if kind(it) == "Decl" and is_generic(it.type)}
+        generic = {it.name for it in (args.params if args is not None else []) if kind(it) == "Decl" and any(is_generic(it.type, word) for word in words)}
         stack = [item.body]
         while stack:
             node = stack.pop()
@@ -163,9 +180,20 @@ class Wrappers:
         wrapper = self.known.get(symbol)
         return wrapper is not None and wrapper.parameters[place:place + 1] != [] and wrapper.parameters[place] in wrapper.held
 
-    def makes(self, name: str) -> bool:
-        symbol = self.of_text(name)
-        return name in MAKERS if symbol is None else symbol in self.known
+    def makes(self, callee: Any) -> bool:
+        """Whether what is called may give memory: a function that does, or a pointer to one."""
+        if kind(callee) != "ID":
+            return bool(self.program.givers.are_named())
+        symbol = self.of_text(callee.name)
+        if symbol is not None:
+            return symbol in self.known
+        return callee.name in MAKERS or self.is_pointer(callee.name) and bool(self.program.givers.are_named())
+
+    def is_pointer(self, name: str) -> bool:
+        """Whether a name is that of a variable outside functions that points to a function which gives a `void *`."""
+        tables = [self.program.externals, *self.program.statics.values()]
+        types = [table[name].type for table in tables if name in table and table[name].kind == "variable"]
+        return any(to_function(it) and isinstance(it.to.result, Pointer) and isinstance(it.to.result.to, Void) for it in types)
 
     def takes(self, name: str, place: int) -> bool:
         """Whether an argument may be memory of any type."""
@@ -200,7 +228,7 @@ class Wrappers:
         noted = len(program.to_generic)
         generic = call(symbol)
         del program.to_generic[noted:]
-        return Value(Pointer(Void()), generic, pure=False, fresh=fresh)
+        return Value(Pointer(Void()) if isinstance(type_.result.to, Void) else type_.result, generic, pure=False, fresh=fresh)
 
     def copy_for(self, wrapper: Wrapper, to: Any) -> Symbol:
         """The copy that makes memory for objects of a type."""
@@ -214,11 +242,15 @@ class Wrappers:
                 self.program.waiting.append((made, made.node, wrapper.unit))
         return made
 
+    def made_for(self, symbol: Symbol, to: Any) -> Symbol:
+        """The copy of a wrapper for a type; of another function itself."""
+        return self.copies.get((symbol, to), symbol)
+
     def copied(self, wrapper: Wrapper, to: Any) -> Symbol:
         symbol, pointer = wrapper.symbol, Pointer(to)
         parameters = tuple(pointer if name in wrapper.held else it for name, it in zip(wrapper.parameters, symbol.type.parameters))
         word = "".join(letter if letter.isalnum() else "p" if letter == "*" else "_" for letter in spelled(to).replace("struct ", "").replace(" ", ""))
-        made = Symbol(symbol.name, "function", Function(pointer, parameters, False, True), self.program.names.take(f"{symbol.text}_{word}", symbol.name))
+        made = Symbol(symbol.name, "function", Function(pointer, parameters, False, True), self.program.names.take(f"{symbol.text}_{word}", symbol.name.rpartition(IN_PRELUDE)[2]))
         made.outer = made.static = made.defined = True
         made.unit, made.object = symbol.unit, to
         made.node = copy.deepcopy(wrapper.item)
@@ -229,7 +261,7 @@ class Wrappers:
         """Declares what holds the memory as a pointer to the object, and leaves out its casts to other pointers."""
         for name, child in node.children():
             inner = without_casts(child)
-            makes = kind(inner) == "FuncCall" and kind(inner.name) == "ID" and self.makes(inner.name.name)
+            makes = kind(inner) == "FuncCall" and self.makes(inner.name)
             if inner is not child and (makes or kind(inner) == "ID" and inner.name in held):
                 replace(node, name, inner)
             if kind(child) == "Decl" and child.name in held:
@@ -240,12 +272,3 @@ class Wrappers:
         """Says which wrappers are called where no type is known: these stay as they are. `names` are those that the text has so far."""
         for symbol in self.known:
             symbol.used = symbol.used or symbol.text in names
-
-
-def replace(node: Any, name: str, child: Any) -> None:
-    """Puts a child in the place of another one, by the name that `children` gives it."""
-    if name.endswith("]"):
-        head, _, index = name[:-1].partition("[")
-        getattr(node, head)[int(index)] = child
-    else:
-        setattr(node, name, child)

@@ -90,6 +90,7 @@ FORMS: Dict[Any, Callable[[Any], List[Piece]]] = {
     nodes.Index: lambda it: [*operand(it.base, POSTFIX), "[", *written(it.index), "]"],
     nodes.Part: lambda it: [*operand(it.base, POSTFIX), ("->" if it.arrow else ".") + it.name],
     nodes.SizeOf: lambda it: [f"sizeof({it.word})"],
+    nodes.Look: lambda it: [it.name + " ", *marks(it.note), "= ", *operand(it.value, ASSIGN)],
     nodes.Braces: lambda it: ["{ ", *arguments(it.items), " }"],
 }
 

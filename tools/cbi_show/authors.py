@@ -2,7 +2,7 @@
 from typing import Dict, List, NamedTuple, Optional
 
 from cbi_show.files import Site
-from cbi_show.source import ASSIGNMENTS, BYTES_READ, NUMBERS, POINTERS, Fact, Source, clipped, with_character
+from cbi_show.source import AFTER, ASSIGNMENTS, BYTES_READ, NUMBERS, POINTERS, READ_IN, Fact, Source, clipped, with_character
 from cbi_show.where import OF_PORT, Where
 
 HEADS = ("if", "while", "for", "do")
@@ -53,8 +53,16 @@ class Authors:
             code = self.expression(note, source, spot.line) if note else None
             return returned_by(note, code or self.same_call(place, site, source) or "", site, text, line, self.compiled)
         if site.scheme == "pairs":
-            return Fact(with_character("pairs", self.named(text)), f"after {clipped(self.assignment(place, source, spot.line, site)) or line}")
+            return Fact(self.named(with_character("pairs", text)), self.when(place, note, source, site, line))
         return self.branch(place, site, text, source, line)
+
+    def when(self, place: int, note: Optional[Noted], source: Source, site: Site, line: str) -> str:
+        """When a variable has its value: after the assignment, or when what the porter has seen in its place is read. `line` is said where the assignment isn't known."""
+        at = self.where.spot(site.line, site.function).line
+        if note and note.kind == "read":
+            return READ_IN + line
+        code = source.stored(note.text, at, at + AROUND) if note and note.kind == "stored" else self.assignment(place, source, at, site)
+        return AFTER + (clipped(code) or line)
 
     def branch(self, place: int, site: Site, text: str, source: Source, line: str) -> Fact:
         spot, word, truth = self.where.spot(site.line, site.function), site.names[0], text.split(" ")[-1]
@@ -62,7 +70,7 @@ class Authors:
         if note and note.kind in ("head", "turned"):
             theirs = self.same_head(place, note, source, spot.line, site)
             truth = {"true": "false", "false": "true"}[truth] if note.kind == "turned" else truth
-            return source.branch(theirs, note.text, truth) if theirs is not None else Fact(line, f"(a condition there) is {truth}")
+            return source.branch(theirs, "?:" if note.text == "?" else note.text, truth) if theirs is not None else Fact(line, f"(a condition there) is {truth}")
         if word in HEADS and self.compiled.head(place) == LEFT:
             return Fact(line, "is left by longjmp" if truth == "true" else "is not left by longjmp")
         labels = source.found(note.text, spot.line, spot.line + MOST_SWITCH, False) if note else None

@@ -39,8 +39,8 @@ def marked(text: str) -> str:
 def fact(said: Fact, past: bool = False) -> str:
     """A fact with the pieces of the text in its letters: `c == 97 after c = getchar()` has two of them."""
     says = said.past()[len(said.code):].strip() if past else said.says
-    before, after, statement = says.partition("after ")
-    return (unbroken(said.code) if said.code else "") + (f" after {unbroken(statement)}" if after and not before else f" {escaped(says)}" if says else "")
+    when = said.when()
+    return (unbroken(said.code) if said.code else "") + (f" {when}{unbroken(says[len(when):])}" if when else f" {escaped(says)}" if says else "")
 
 
 def anchor(spot: Spot, where: Where) -> str:

@@ -23,6 +23,8 @@ MOST_TEXT = 60
 # How the names begin of functions that go through all those that a pointer may stand for.
 CALL = "cbi_call_"
 BYTES_READ = ("getchar", "getc", "fgetc")   # they return a byte or EOF
+# What stands before the statement of a fact of a variable, or of what the porter has seen in its place.
+AFTER, READ_IN = WHEN = ("after ", "when read in ")
 # An expression that may be called as it stands.
 POSTFIX = r"[\w.\[\]]+(->[\w.\[\]]+)*"
 
@@ -41,6 +43,10 @@ class Fact(NamedTuple):
 
     def text(self) -> str:
         return " ".join(part for part in (self.code, self.says) if part)
+
+    def when(self) -> str:
+        """What stands before the statement behind which a variable has its value; nothing in other facts."""
+        return next((when for when in WHEN if self.says.startswith(when)), "")
 
     def past(self) -> str:
         return Fact(self.code, re.sub(r"(^|\) )is ", r"\1was ", self.says)).text()
@@ -280,6 +286,15 @@ class Source:
         ours = self.words_from(first, last)
         ends = list(self.ends_of(words[:sign + 1], ours, str.__eq__))
         return self.whole(ends[0][0], self.end_of_assignment(ends[0][1])) if len(ends) == 1 else None
+
+    def stored(self, place: str, first: int, last: int) -> str:
+        """The one assignment, `++` or `--` of a place that begins on the first of these lines, or else on any; nothing where there is none, or more than one."""
+        for end in (first, last):
+            found = [code for sign in sorted(ASSIGNMENTS) for code in [self.found_assignment(f"{place} {sign}", first, end)] if code]
+            found += [code for step in (f"{place}++", f"{place}--", f"++{place}", f"--{place}") for code in [self.found(step, first, end, False)] if code]
+            if found:
+                return found[0] if len(found) == 1 else ""
+        return ""
 
     def whole(self, first: int, last: int) -> str:
         """The text from one token to another, with the parentheses that are open there."""

@@ -41,7 +41,7 @@ class Wording:
     def statement(self, site: Site) -> str:
         """The condition, call or assignment that a site stands at."""
         said = self.of_site(site, site.predicates()[0][0])
-        return said.says[len("after "):] if said.says.startswith("after ") else said.code
+        return said.says[len(said.when()):] if said.when() else said.code
 
     def of_site(self, site: Site, text: str) -> Fact:
         place = self.source.place_of(site) if self.source else None

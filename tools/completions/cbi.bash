@@ -20,6 +20,7 @@ _cbi_value() {
     --status | --changed) value='ignore fail' ;;
     --format) value='text html sarif quickfix' ;;
     --memory) value='auto cells bytes flat' ;;
+    --values) value='none some all' ;;
     --rate) value='1 2 5 10 20 50 100 1000' ;;
     --part | --parts | --turns | --run | --runs | --first | --count | --seed | --stream | --jobs | --oracle | --oracle-shell | --oracle-timeout | --mutate | --neighbours | --most | --apart | --also | --args | -D | -U) value=' ' ;;
     --bank | --input | --expect | --report | --program | --whole | --inputs | --keep | --hunt | --html | --farm | --cbi | --source | --lines | --cards | --pairs | --reports | --output | --sites | --tool | --since | -I | -include | -o) ;;
@@ -61,7 +62,7 @@ _cbi() {
 }
 
 _cbi_hunt() {
-    _cbi_options '--inputs -I -D -U -include --memory --stderr --args --wrap --cflags --no-check --expect --oracle --oracle-shell --oracle-timeout --hangs --status --since --changed --minimize --mutate --neighbours --rate --runs --seed --turns --schemes --jobs --policy --keep --all --html --farm --parts --cbi --version --help'
+    _cbi_options '--inputs -I -D -U -include --memory --stderr --args --wrap --values --cflags --no-check --expect --oracle --oracle-shell --oracle-timeout --hangs --status --since --changed --minimize --mutate --neighbours --rate --runs --seed --turns --schemes --jobs --policy --keep --all --html --farm --parts --cbi --version --help'
 }
 
 _cbi_show() {
@@ -73,7 +74,7 @@ _cbi_explain() {
 }
 
 _cbi_port() {
-    _cbi_options '-I -D -U -include -o --args --file --stderr --memory --wrap --quiet --dump-typed --check --cflags --inputs --tool --turns --version --help'
+    _cbi_options '-I -D -U -include -o --args --file --stderr --memory --wrap --values --quiet --dump-typed --check --cflags --inputs --tool --turns --version --help'
 }
 
 complete -o filenames -F _cbi cbi

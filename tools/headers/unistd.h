@@ -12,6 +12,9 @@
 extern char *optarg;
 extern int optind, opterr, optopt;
 extern char **environ;
+#define _PC_NAME_MAX 3
+#define _PC_PATH_MAX 4
+#define _PC_PIPE_BUF 5
 #define STDIN_FILENO 0
 #define STDOUT_FILENO 1
 #define STDERR_FILENO 2

@@ -35,6 +35,9 @@ int main(int argc, char **argv)
     a = unlink("out.txt"); b = access("out.txt", F_OK); c = access("table.txt", R_OK); printf("%d %d %d\n", a, b, c);
     h = tmpfile(); fprintf(h, "%05d", 42); rewind(h); n = fscanf(h, "%d", &a); printf("%d %d\n", n, a); fclose(h);
     n = isatty(0); printf("%d %d\n", n, errno == ENOTTY || errno == EINVAL);
+    { struct stat in, table, again, by; n = stat(argv[1], &in) | stat("table.txt", &table) | stat("./table.txt", &again);
+      c = open("table.txt", O_RDONLY); n |= fstat(c, &by); close(c);
+      printf("%d %d %d %d %d\n", n, in.st_dev == table.st_dev, in.st_ino == table.st_ino, table.st_ino == again.st_ino, table.st_ino == by.st_ino); }
     return 0;
 }
 /* words in.txt -x */
@@ -79,4 +82,5 @@ written
 0 -1 0
 1 42
 0 1
+0 1 0 1 1
 status 0 */

@@ -29,7 +29,7 @@ int main(void) {
     h.give(text);
     return 0;
 }
-/* memory bytes */
+/* memory cells */
 /* writes
 0 1
 x

@@ -33,11 +33,11 @@ int main(int argc, char **argv)
     while (mkdir(argv[1], 0755))
         puts(environ[0]);
     signal(SIGINT, stop);
-    return f(0) + (int)wcslen(L"x") + day.tm_year + of_names(2);
+    return f(0) + (int)wcstol(L"1", 0, 10) + day.tm_year + of_names(2);
 }
 /* refused 24 `pipe` */
 /* refused 27 `fork` */
 /* refused 28 `execv` */
 /* refused 33 `mkdir` */
 /* refused 34 `environ` */
-/* refused 36 `wcslen` */
+/* refused 36 `wcstol` */

@@ -12,11 +12,11 @@ double difftime(int to, int from) { return (double)to - from; }
 void tzset(void) { }
 int __cbi_leap(int year) { return year % 4 == 0 && (year % 100 != 0 || year % 400 == 0); }
 int __cbi_month_begins(int month, int leap) { int days = 0; int n; for (n = 0; n < month; n++) days += n == 1 ? 28 + leap : 31 - (n == 3 || n == 5 || n == 8 || n == 10); return days; }
-int __cbi_floor(int a, int b) { int q = a / b; return a % b < 0 ? q - 1 : q; }
+int __cbi_floored(int a, int b) { int q = a / b; return a % b < 0 ? q - 1 : q; }
 // Days from the first of January 1970 to that of a year.
-int __cbi_year_begins(int year) { int y = year - 1; return 365 * (year - 1970) + (__cbi_floor(y, 4) - 492) - (__cbi_floor(y, 100) - 19) + (__cbi_floor(y, 400) - 4); }
+int __cbi_year_begins(int year) { int y = year - 1; return 365 * (year - 1970) + (__cbi_floored(y, 4) - 492) - (__cbi_floored(y, 100) - 19) + (__cbi_floored(y, 400) - 4); }
 struct tm *gmtime_r(const int *at, struct tm *to) {
-    int days = __cbi_floor(*at, 86400); int rest = *at - days * 86400; int year = 1970 + __cbi_floor(days, 366); int month = 0; int day;
+    int days = __cbi_floored(*at, 86400); int rest = *at - days * 86400; int year = 1970 + __cbi_floored(days, 366); int month = 0; int day;
     while (__cbi_year_begins(year + 1) <= days) year++;
     while (__cbi_year_begins(year) > days) year--;
     day = days - __cbi_year_begins(year);
@@ -32,7 +32,7 @@ struct tm *gmtime(const int *at) { return gmtime_r(at, &__cbi_day.day); }
 struct tm *localtime_r(const int *at, struct tm *to) { gmtime_r(at, to); to->tm_zone = "UTC"; return to; }
 struct tm *localtime(const int *at) { return localtime_r(at, &__cbi_day.day); }
 int __cbi_seconds(struct tm *at) {
-    int year = at->tm_year + __cbi_floor(at->tm_mon, 12); int month = at->tm_mon - 12 * __cbi_floor(at->tm_mon, 12); int days; int n;
+    int year = at->tm_year + __cbi_floored(at->tm_mon, 12); int month = at->tm_mon - 12 * __cbi_floored(at->tm_mon, 12); int days; int n;
     long long sum;
     year += 1900;
     if (year < 1800 || year > 2200) { errno = EOVERFLOW; return -1; }
@@ -78,7 +78,7 @@ int __cbi_day_part(char *to, int letter, const struct tm *at, int pad) {
     if (letter == 'A') return sprintf(to, "%s", __cbi_day_name(at->tm_wday));
     if (letter == 'b' || letter == 'h') return sprintf(to, "%.3s", __cbi_month_name(at->tm_mon));
     if (letter == 'B') return sprintf(to, "%s", __cbi_month_name(at->tm_mon));
-    if (letter == 'C') return __cbi_day_digits(to, __cbi_floor(year, 100), 2, zero);
+    if (letter == 'C') return __cbi_day_digits(to, __cbi_floored(year, 100), 2, zero);
     if (letter == 'd') return __cbi_day_digits(to, at->tm_mday, 2, zero);
     if (letter == 'e') return __cbi_day_digits(to, at->tm_mday, 2, blank);
     if (letter == 'H') return __cbi_day_digits(to, at->tm_hour, 2, zero);

@@ -124,7 +124,7 @@ double log1p(double x) {
 double logb(double x) { int k; if (x != x) return x; if (isinf(x)) return fabs(x); if (x == 0) return __cbi_too_great(-1); frexp(x, &k); return k - 1; }
 int ilogb(double x) { int k; if (x == 0 || x != x) { errno = EDOM; return -2147483647 - 1; } if (isinf(x)) { errno = EDOM; return 2147483647; } frexp(x, &k); return k - 1; }
 // 1 for an odd whole number, 2 for an even one, 0 for others.
-int __cbi_parity(double x) {
+int __cbi_evenness(double x) {
     double a = fabs(x);
     if (a >= 9007199254740992.0) return 2;
     if (trunc(a) != a) return 0;
@@ -138,7 +138,7 @@ double __cbi_power_of_edge(double x, double y, int kind) {
     return kind == 1 ? copysign(r, x) : r;
 }
 double pow(double x, double y) {
-    int kind = __cbi_parity(y); double sign = x < 0 && kind == 1 ? -1 : 1; double h; double p; double low;
+    int kind = __cbi_evenness(y); double sign = x < 0 && kind == 1 ? -1 : 1; double h; double p; double low;
     if (y == 0 || x == 1) return 1;
     if (x != x || y != y) return x + y;
     if (isinf(y) || x == 0 || isinf(x)) return __cbi_power_of_edge(x, y, kind);

@@ -30,9 +30,9 @@ char *__cbi_error_text(int number) {
     return text;
 }
 struct __cbi_error_state { char text[26]; };
-struct __cbi_error_state __cbi_error;
+struct __cbi_error_state __cbi_errors_said;
 char *strerror(int number) {
-    char *text = __cbi_error.text; char *at; unsigned n = number; int k;
+    char *text = __cbi_errors_said.text; char *at; unsigned n = number; int k;
     if (number >= 0 && number <= 133 && *(at = __cbi_error_text(number))) return at;
     strcpy(text, "Unknown error ");
     at = text + 14;

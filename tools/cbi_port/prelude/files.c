@@ -15,10 +15,10 @@ int __cbi_no(int number) { errno = number; return -1; }
 char *__cbi_input_name(void) { int n = 1; while (__cbi_word(n)) { if (*__cbi_word(n) != '-') return __cbi_word(n); n++; } return 0; }
 #endif
 // A file that has no room of its own has a constant text.
-struct __cbi_file { char *name; char *text; unsigned length; unsigned room; struct __cbi_file *next; };
+struct __cbi_file { char *name; char *text; unsigned length; unsigned room; int number; struct __cbi_file *next; };
 // What a descriptor is: those below 3 without a file are the input and the outputs, but for closed ones.
 struct __cbi_open { struct __cbi_file *file; unsigned at; int flags; };
-struct __cbi_files_state { struct __cbi_file *first; struct __cbi_open open[64]; int ready; int made; };
+struct __cbi_files_state { struct __cbi_file *first; struct __cbi_open open[64]; int ready; int made; int files; };
 struct __cbi_files_state __cbi_files;
 struct __cbi_file *__cbi_new_file(const char *name, char *text, unsigned length) {
     struct __cbi_file *file = malloc(sizeof(struct __cbi_file));
@@ -26,6 +26,8 @@ struct __cbi_file *__cbi_new_file(const char *name, char *text, unsigned length)
     file->text = text;
     file->length = length;
     file->room = 0;
+    __cbi_files.files++;
+    file->number = __cbi_files.files;
     file->next = __cbi_files.first;
     __cbi_files.first = file;
     return file;
@@ -203,21 +205,24 @@ int mkstemp(char *name) {
     return open(name, O_RDWR | O_CREAT | O_EXCL);
 }
 int fclose(struct __cbi_FILE *f) { int done = close(f->number); if (f != &__cbi_in && f != &__cbi_out && f != &__cbi_errors) free(f); return done; }
-void __cbi_status(struct stat *to, unsigned mode, unsigned length) {
-    to->st_dev = 1; to->st_ino = 1; to->st_mode = mode; to->st_nlink = 1; to->st_uid = 1000; to->st_gid = 1000; to->st_rdev = 0; to->st_size = length;
+// Each file has a number of its own, the folder 2 and a descriptor that is no file one from 3 on.
+void __cbi_status(struct stat *to, unsigned mode, unsigned length, int number) {
+    to->st_dev = 1; to->st_ino = number; to->st_mode = mode; to->st_nlink = 1; to->st_uid = 1000; to->st_gid = 1000; to->st_rdev = 0; to->st_size = length;
     to->st_blksize = 4096; to->st_blocks = (length + 511) / 512; to->st_atime = 0; to->st_mtime = 0; to->st_ctime = 0;
 }
 int stat(const char *name, struct stat *to) {
     struct __cbi_file *file = __cbi_find(name);
-    if (!file) { if (strcmp(name, ".") && strcmp(name, "/")) return __cbi_no(ENOENT); __cbi_status(to, S_IFDIR | 0755, 4096); return 0; }
-    __cbi_status(to, S_IFREG | 0644, file->length);
+    if (!file) { if (strcmp(name, ".") && strcmp(name, "/")) return __cbi_no(ENOENT); __cbi_status(to, S_IFDIR | 0755, 4096, 2); return 0; }
+    __cbi_status(to, S_IFREG | 0644, file->length, 16 + file->number);
     return 0;
 }
 int fstat(int number, struct stat *to) {
+    struct __cbi_file *file;
     __cbi_files_begin();
     if (!__cbi_is_open(number)) return __cbi_no(EBADF);
-    if (__cbi_files.open[number].file) __cbi_status(to, S_IFREG | 0644, __cbi_files.open[number].file->length);
-    else __cbi_status(to, S_IFIFO | 0600, 0);
+    file = __cbi_files.open[number].file;
+    if (file) __cbi_status(to, S_IFREG | 0644, file->length, 16 + file->number);
+    else __cbi_status(to, S_IFIFO | 0600, 0, 3 + number);
     return 0;
 }
 #else
@@ -235,7 +240,7 @@ int fclose(struct __cbi_FILE *f) { return 0; }
 int stat(const char *name, struct stat *to) { return __cbi_no(ENOENT); }
 int fstat(int number, struct stat *to) {
     if (!__cbi_is_open(number)) return __cbi_no(EBADF);
-    to->st_dev = 1; to->st_ino = 1; to->st_mode = S_IFIFO | 0600; to->st_nlink = 1; to->st_uid = 1000; to->st_gid = 1000; to->st_rdev = 0; to->st_size = 0;
+    to->st_dev = 1; to->st_ino = 3 + number; to->st_mode = S_IFIFO | 0600; to->st_nlink = 1; to->st_uid = 1000; to->st_gid = 1000; to->st_rdev = 0; to->st_size = 0;
     to->st_blksize = 4096; to->st_blocks = 0; to->st_atime = 0; to->st_mtime = 0; to->st_ctime = 0;
     return 0;
 }

@@ -4,6 +4,13 @@ int signbit(double x) { return (int)(__cbi_bits(x) >> 63); }
 int isnan(double x) { return __cbi_double_is_nan(__cbi_bits(x)); }
 int isinf(double x) { unsigned long long a = __cbi_bits(x); if (!__cbi_double_is_infinite(a)) return 0; return a >> 63 ? -1 : 1; }
 int isfinite(double x) { return (__cbi_bits(x) >> 52 & 2047) != 2047; }
+int isnanf(float x) { return isnan(x); }
+int isnanl(long double x) { return isnan(x); }
+int isinff(float x) { return isinf(x); }
+int isinfl(long double x) { return isinf(x); }
+int finite(double x) { return isfinite(x); }
+int finitef(float x) { return isfinite(x); }
+int finitel(long double x) { return isfinite(x); }
 double __cbi_inf(void) { return __cbi_of_bits(0x7ff0000000000000ULL); }
 double __cbi_quiet(void) { return __cbi_of_bits(0x7ff8000000000000ULL); }
 double trunc(double x) { unsigned long long a = __cbi_bits(x); int e = (int)(a >> 52 & 2047) - 1023; if (e < 0) return __cbi_of_bits(a & 0x8000000000000000ULL); if (e >= 52) return x; return __cbi_of_bits(a >> (52 - e) << (52 - e)); }

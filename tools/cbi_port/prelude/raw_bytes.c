@@ -16,6 +16,23 @@ void cbi_begin(unsigned *image, unsigned count) {
         }
     }
 }
+unsigned cbi_image_word(char *image, unsigned n) {
+    image = image + 4u * n;
+    return (unsigned)image[0] & 255u | ((unsigned)image[1] & 255u) << 8 | ((unsigned)image[2] & 255u) << 16 | (unsigned)image[3] << 24;
+}
+void cbi_begin_text(char *image, unsigned count) {
+    unsigned n = 0u;
+    unsigned at = 1024u;
+    unsigned end;
+    while (n < count) {
+        at += cbi_image_word(image, n);
+        end = at + cbi_image_word(image, n + 1u);
+        for (n += 2u; at < end; at++) {
+            cbi_m[at] = cbi_image_word(image, n);
+            n++;
+        }
+    }
+}
 void cbi_no_memory(unsigned a) {
     int *nothing = NULL;
     *nothing = a;

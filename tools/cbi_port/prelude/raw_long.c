@@ -30,7 +30,7 @@ struct cbi_long *cbi_long_cut(struct cbi_long *to, struct cbi_long *a, int bits,
 int cbi_long_is(struct cbi_long *a) {
     return (a->low | a->high) != 0;
 }
-int cbi_reckoned(struct cbi_long *to, struct cbi_long *a, int a_signed, struct cbi_long *b, int b_signed, int what, int bits, int is_signed) {
+int cbi_computed(struct cbi_long *to, struct cbi_long *a, int a_signed, struct cbi_long *b, int b_signed, int what, int bits, int is_signed) {
     int a_below = a_signed && a->high >> 31;
     int b_below = b_signed && b->high >> 31;
     int below;

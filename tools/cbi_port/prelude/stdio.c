@@ -187,7 +187,12 @@ int __cbi_format(struct __cbi_sink *to, const char *form, va_list more) {
 #endif
         } else if (*form == 'p') {
             p = va_arg(more, void *);
-            if (p) __cbi_text(to, "0x1000", width, -1, flags & 1); else __cbi_text(to, "(nil)", width, -1, flags & 1);
+#ifdef __CBI_BYTES__
+            if (p) __cbi_narrow(to, (unsigned)p, 'x', "", flags & ~2 | 4, width, most); else
+#else
+            if (p) __cbi_text(to, "0x1000", width, -1, flags & 1); else
+#endif
+                __cbi_text(to, "(nil)", width, -1, flags & 1);
 #ifdef __CBI_FLOATS__
         } else if (*form == 'f' || *form == 'F' || *form == 'e' || *form == 'E' || *form == 'g' || *form == 'G' || *form == 'a' || *form == 'A') {
             if (flags & 8) sign = "+"; else if (flags & 16) sign = " ";

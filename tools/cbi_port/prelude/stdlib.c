@@ -1,5 +1,6 @@
 #include <errno.h>
 #include <stdlib.h>
+#include <string.h>
 struct __cbi_errno_state __cbi_errno;
 int abs(int n) { if (n < 0) return -n; return n; }
 int labs(int n) { if (n < 0) return -n; return n; }
@@ -75,7 +76,46 @@ int rand(void) { if (!__cbi_chance.made) srand(1); return __cbi_chance_next() >>
 int random(void) { return rand(); }
 void srandom(unsigned seed) { srand(seed); }
 int rand_r(unsigned *state) { unsigned next = *state; int result; next = next * 1103515245u + 12345u; result = next / 65536u % 2048u; next = next * 1103515245u + 12345u; result = result << 10; result ^= next / 65536u % 1024u; next = next * 1103515245u + 12345u; result = result << 10; result ^= next / 65536u % 1024u; *state = next; return result; }
+#ifdef __CBI_ENVIRONMENT__
+// What the program itself puts into its environment, which is empty at first.
+struct __cbi_variable { char *text; struct __cbi_variable *next; };
+struct __cbi_environment_state { struct __cbi_variable *first; };
+struct __cbi_environment_state __cbi_environment;
+int __cbi_name_length(const char *text) { int n = 0; while (text[n] && text[n] != '=') n++; return n; }
+struct __cbi_variable *__cbi_variable_of(const char *name) {
+    struct __cbi_variable *it; int length = __cbi_name_length(name);
+    for (it = __cbi_environment.first; it; it = it->next) if (__cbi_name_length(it->text) == length && strncmp(it->text, name, length) == 0) return it;
+    return 0;
+}
+char *getenv(const char *name) { struct __cbi_variable *it = strchr(name, '=') ? 0 : __cbi_variable_of(name); return it ? it->text + strlen(name) + 1 : 0; }
+int unsetenv(const char *name) {
+    struct __cbi_variable *it; struct __cbi_variable *before;
+    if (!*name || strchr(name, '=')) { errno = EINVAL; return -1; }
+    it = __cbi_variable_of(name);
+    if (!it) return 0;
+    before = __cbi_environment.first;
+    if (before == it) __cbi_environment.first = it->next; else { while (before->next != it) before = before->next; before->next = it->next; }
+    return 0;
+}
+int putenv(char *text) {
+    struct __cbi_variable *it;
+    if (!strchr(text, '=')) return unsetenv(text);
+    it = __cbi_variable_of(text);
+    if (!it) { it = malloc(sizeof(struct __cbi_variable)); it->next = __cbi_environment.first; __cbi_environment.first = it; }
+    it->text = text;
+    return 0;
+}
+int setenv(const char *name, const char *value, int again) {
+    char *text;
+    if (!*name || strchr(name, '=')) { errno = EINVAL; return -1; }
+    if (!again && __cbi_variable_of(name)) return 0;
+    text = malloc(strlen(name) + strlen(value) + 2);
+    strcpy(text, name); strcat(text, "="); strcat(text, value);
+    return putenv(text);
+}
+#else
 char *getenv(const char *name) { return 0; }
+#endif
 struct __cbi_exit_state { void (*f[32])(void); int count; };
 struct __cbi_exit_state __cbi_exits;
 int atexit(void (*f)(void)) { if (__cbi_exits.count == 32) return -1; __cbi_exits.f[__cbi_exits.count] = f; __cbi_exits.count++; return 0; }

@@ -59,6 +59,7 @@ int usleep(unsigned most) { return 0; }
 int nanosleep(const struct timespec *now, struct timespec *left) { if (left) { left->tv_sec = 0; left->tv_nsec = 0; } return 0; }
 int system(const char *command) { if (!command) return 0; errno = ENOSYS; return -1; }
 struct __cbi_FILE *popen(const char *command, const char *mode) { errno = ENOSYS; return 0; }
+int __cbi_is_open(int number);
 int pclose(struct __cbi_FILE *f) { errno = ECHILD; return -1; }
 int getpid(void) { return 1; }
 int getppid(void) { return 0; }
@@ -67,6 +68,8 @@ unsigned geteuid(void) { return 1000; }
 unsigned getgid(void) { return 1000; }
 unsigned getegid(void) { return 1000; }
 int getpagesize(void) { return 4096; }
+int pathconf(const char *name, int what) { if (what == _PC_PATH_MAX || what == _PC_PIPE_BUF) return 4096; if (what == _PC_NAME_MAX) return 255; errno = EINVAL; return -1; }
+int ioctl(int number, unsigned what, ...) { errno = __cbi_is_open(number) ? ENOTTY : EBADF; return -1; }
 char *getlogin(void) { return "user"; }
 struct passwd __cbi_user = { "user", "x", 1000, 1000, "", "/", "/bin/sh" };
 struct passwd *getpwuid(unsigned number) { return number == 1000 ? &__cbi_user : 0; }
