@@ -9,7 +9,8 @@ version as gcc builds it: with each visit observed, and with banks of mean dista
 input (10). gcc's build of the same text is run on the same inputs, and gcov tells to which lines each run came. Programs with three faults
 have them all at once, too (1,000 runs), and one of them has its table of rows and faults (allocator, 3,000 and 30,000 runs).
 Results are kept as JSON in FILE, and a second call with the same FILE measures what isn't there yet; what was measured stands in FILE.lines
-at once. With --write the tables and plots of docs/EVIDENCE.md, or what README has of it, are made anew of them. What the columns mean stands there.
+at once. With --write the tables and plots of docs/EVIDENCE.md and docs/reference/FAULTS.md, or what README has of them, are made anew of them. What the
+columns mean stands in docs/EVIDENCE.md.
 With --from they are made of what FILE has, and nothing is measured.
 """
 import argparse

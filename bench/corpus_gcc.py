@@ -2,7 +2,7 @@
 
 A driver runs the program's `main` in a child for each input. Where the child is ended by a signal (also by one that says that it takes
 too long), a handler on a stack of its own writes the coverage first, so that a crash has one as well, and gcov reads it. Of a run that came
-to its end the driver itself reckons the lines from gcc's counters, as `corpus_notes.py` has it from gcc's notes, since a file and a call of gcov
+to its end the driver itself computes the lines from gcc's counters, as `corpus_notes.py` has it from gcc's notes, since a file and a call of gcov
 for each run take ten times as long. The first runs of each program are read by gcov, too: where it says anything else, or the notes aren't
 read, gcov reads all runs.
 """
@@ -15,7 +15,7 @@ from corpus_notes import Counting, NotesError, counting, read_notes
 
 DRIVER = os.path.join(os.path.dirname(os.path.abspath(__file__)), "corpus_driver.c")
 A_CALL = 200  # runs between two calls of gcov
-SURE = 20  # runs of which it is looked whether gcov has the lines that are reckoned
+SURE = 20  # runs of which it is looked whether gcov has the lines that are computed
 
 
 class CoverageError(Exception):
@@ -65,7 +65,7 @@ def outputs(home: str, given: List[str], target: List[str]) -> List[int]:
 
 
 def table_of(home: str) -> Optional[Tuple[str, Counting]]:
-    """Writes the table by which the driver reckons lines, where gcc's notes are read."""
+    """Writes the table by which the driver computes lines, where gcc's notes are read."""
     try:
         with open(os.path.join(home, "program.gcno"), "rb") as file:
             counts = counting(read_notes(file.read(), os.path.join(home, "program.c")))
@@ -97,7 +97,7 @@ class Coverage:
                 os.mkdir(place)
                 os.symlink(os.path.join(home, "program.gcno"), os.path.join(place, "program.gcno"))
 
-    def reckoned(self, marks: str) -> FrozenSet[int]:
+    def computed(self, marks: str) -> FrozenSet[int]:
         if marks not in self.known:
             lines = self.table[1].lines if self.table else ()
             self.known[marks] = frozenset(line for line, mark in zip(lines, marks) if mark == "1")
@@ -110,7 +110,7 @@ class Coverage:
         read = counted(self.home, [os.path.join(place, "program.gcda") for place, _ in zip(self.places, runs)], self.every)
         lines = []
         for number, (run, seen) in enumerate(zip(runs, read)):
-            lines.append(self.reckoned(run.marks) if run.marks else seen)
+            lines.append(self.computed(run.marks) if run.marks else seen)
             if run.marks and number < sure and lines[-1] != seen:
                 raise NotesError(f"gcov has other lines: {sorted(lines[-1] ^ seen)}")
         return [run.status for run in runs], lines

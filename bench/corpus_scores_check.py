@@ -110,6 +110,13 @@ class Words(unittest.TestCase):
 | `lines` | 2 | 2 | 2 |
 | lines by Ochiai over gcov | 1 | 1 | 2 |""")
 
+    def test_aims_that_were_missed_stand_apart(self) -> None:
+        """Of two faults at once one has a row of its own among the first five, as one has a bug of its own; one row is near, so three bugs were wanted that have a place near, and two have."""
+        three = [{"faults": [{"own": 1, "near": 3, "printed": {"own": 6, "named": 1}}, {"own": 9, "near": 8, "printed": {"own": 2, "named": 4}}]}]
+        head = "| Aim | wanted | reached |\n|---|---|---|\n"
+        self.assertEqual(corpus_words.aims([], [], [], three, 10, True), head + "| of 2 faults, three at once: a bug of its own among the first five, as often as a row | 1 | 1 |")
+        self.assertEqual(corpus_words.aims([], [], [], three, 10, False), head + "| the same with one of its places near, three times as often as a row is near | 3 | 2 |")
+
 
 class Kept(unittest.TestCase):
     def loaded(self, text: str) -> corpus_results.Results:

@@ -1,6 +1,6 @@
-"""The tables and plots of docs/EVIDENCE.md, of what was measured.
+"""The tables and plots of docs/EVIDENCE.md and docs/reference/FAULTS.md, of what was measured.
 
-The document has its own words; between `<!-- made: NAME -->` and `<!-- end -->` stands what is made here.
+Each document has its own words; between `<!-- made: NAME -->` and `<!-- end -->` stands what is made here.
 """
 import os
 import re
@@ -391,7 +391,8 @@ def parts(results: Results) -> Dict[str, str]:
         add_turns(fault)
     made = {"three": three_at_once(results), "three summed": three_summed(results), "speeds": speeds(results, most), "corpus": corpus_table(),
             "headline": words.headline(opened, kept, new, three_of(results)[1], runs), "decided": words.decided(new, kept, opened, runs),
-            "aims": words.aims(new, kept, opened, three_of(results)[1], runs), "new counted": counted(new)}
+            "aims": words.aims(new, kept, opened, three_of(results)[1], runs, False), "aims reached": words.aims(new, kept, opened, three_of(results)[1], runs, True),
+            "new counted": counted(new)}
     if words.has(new, f"lines 1 {runs}"):
         made["headline in short"] = words.headline_in_short(new, runs)
     for some, prefix in ((opened, ""), (kept, "kept "), (new, "new ")):

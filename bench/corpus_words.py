@@ -1,4 +1,4 @@
-"""Sentences and small tables of docs/EVIDENCE.md and README that have numbers in them, of what was measured."""
+"""Sentences and small tables of docs/EVIDENCE.md, docs/reference/FAULTS.md and README that have numbers in them, of what was measured."""
 import re
 from math import comb
 from statistics import median
@@ -214,8 +214,8 @@ class Aim(NamedTuple):
     reached: int
 
 
-def aims(new: Faults, kept: Faults, opened: Faults, three: Sequence[Any], runs: int) -> str:
-    """What `lines` and `bugs` were to reach, those aims first that were missed."""
+def aims(new: Faults, kept: Faults, opened: Faults, three: Sequence[Any], runs: int, are_reached: bool) -> str:
+    """What `lines` and `bugs` were to reach: those aims that were reached, or those that were missed."""
     found = [aim for some, which in ((new, "kept back for `lines` and `bugs`"), (kept, "kept back before"), (opened, "open")) if has(some, f"lines 1 {runs}") for aim in aims_of(some, which, runs)]
     every = [fault for one in three for fault in one["faults"] if "printed" in fault]
     if every:
@@ -223,8 +223,7 @@ def aims(new: Faults, kept: Faults, opened: Faults, three: Sequence[Any], runs: 
         bugs_own, bugs_named = (sum(capped(fault["printed"][what]) <= 5 for fault in every) for what in ("own", "named"))
         found += [Aim(f"of {len(every)} faults, three at once: a bug of its own among the first five, as often as a row", rows_own, bugs_own),
                   Aim("the same with one of its places near, three times as often as a row is near", 3 * rows_near, bugs_named)]
-    rows = [[aim.what, f"{aim.wanted}", f"{aim.reached}", "" if aim.reached >= aim.wanted else "missed"] for aim in sorted(found, key=lambda aim: aim.reached >= aim.wanted)]
-    return table(["Aim", "wanted", "reached", ""], rows)
+    return table(["Aim", "wanted", "reached"], [[aim.what, f"{aim.wanted}", f"{aim.reached}"] for aim in found if (aim.reached >= aim.wanted) == are_reached])
 
 
 def aims_of(faults: Faults, which: str, runs: int) -> List[Aim]:

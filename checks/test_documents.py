@@ -1,17 +1,20 @@
 #!/usr/bin/env python3
-"""Looks at the documents: each link in them leads to a file that is there and to a heading of it, and each page of docs/ that anything names is there.
+"""Looks at the documents: each link in them leads to a file that is there and to a heading of it, each page of docs/ that anything names is there, a part that a script
+makes stands on one page, and what people wrote has no more words than house/words allows.
 
     checks/test_documents.py
 """
 import os
 import re
+import subprocess
 import sys
-from typing import Iterator, List, Set
+from typing import Dict, Iterator, List, Set
 
 ROOT = os.path.dirname(os.path.dirname(os.path.realpath(__file__)))
 LINK = re.compile(r"\]\(([^)\s]+)\)")
 # A page of docs/ as scripts, comments and documents name it.
 NAMED = re.compile(r"\bdocs/(?:reference/)?[A-Z]+\.md\b")
+MADE = re.compile(r"<!-- made: (.*?) -->")
 LOOKED_AT = (".md", ".py", ".rt", ".antt", ".edit", ".txt", ".1")
 
 
@@ -61,12 +64,24 @@ def missing_pages() -> Iterator[str]:
                     yield f"{os.path.relpath(file, ROOT)}: there is no {name}"
 
 
+def parts_made_twice() -> Iterator[str]:
+    """A script fills each part in wherever it stands, so one that stands twice says the same thing twice."""
+    first: Dict[str, str] = {}
+    for page in pages():
+        name = os.path.relpath(page, ROOT)
+        for part in MADE.findall(read(page)):
+            if part in first:
+                yield f"{name}: {first[part]} has the part {part} already"
+            first.setdefault(part, name)
+
+
 def main() -> int:
-    found = [line for page in pages() for line in broken_links(page)] + list(missing_pages())
+    found = [line for page in pages() for line in broken_links(page)] + list(missing_pages()) + list(parts_made_twice())
     for line in found:
         print(line)
-    print(f"documents: {len(pages())} pages, {len(found)} links or names that lead nowhere")
-    return 1 if found else 0
+    print(f"documents: {len(pages())} pages, {len(found)} links, names or parts that are wrong", flush=True)
+    too_long = subprocess.run([sys.executable, os.path.join(ROOT, "house", "words"), "--check"], check=False).returncode
+    return 1 if found or too_long else 0
 
 
 if __name__ == "__main__":
