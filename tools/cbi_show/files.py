@@ -13,7 +13,7 @@ import sys
 import tempfile
 from typing import Any, Callable, Dict, IO, Iterator, List, NamedTuple, NoReturn, Optional, Tuple
 
-VERSION = "0.6.0"
+VERSION = "0.7.0"
 NOT_PROVED = "This script is not proved; the executable cbi, which it stands beside, is."
 
 # Statuses of the scripts, as `grep` has them: found, nothing found, trouble.
