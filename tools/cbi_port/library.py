@@ -123,7 +123,7 @@ class Library(GnuCalls):
 
     def missing(self, node: Any, name: str) -> Refusal:
         """The refusal of what the system has and this library hasn't."""
-        found = self.refuse(node, f"`{name}`", NO.get(name, "a function of your own" if name in OF_BESSEL else "a function of your own for it, in one of the files"))
+        found = self.refuse(node, f"`{name}`", NO.get(name, "a function of your own" if name in OF_BESSEL else "a function of your own for it, in one of the files"), name in TYPED)
         found.sure = True
         return found
 

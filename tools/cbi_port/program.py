@@ -13,6 +13,7 @@ from cbi_port.functions import Functions
 from cbi_port.helpers import Helpers
 from cbi_port.late import Choice
 from cbi_port.kinds import Concluded, Kinds
+from cbi_port.library import TYPED
 from cbi_port.lines import Refusal, Sheet, Token
 from cbi_port.makers import Makers
 from cbi_port.names import names_of
@@ -380,7 +381,8 @@ class Program(Functions):
             if symbol.kind == "variable" and symbol.used and not symbol.defined:
                 self.problems.append(Refusal(symbol.at, f"`{symbol.name}`, which is declared and never defined", DEFINITION))
             if symbol.kind == "function" and symbol.used and not symbol.defined:
-                self.problems.append(Refusal(symbol.at, f"`{symbol.name}`, which isn't defined", DEFINITION))
+                typed = symbol.name in TYPED
+                self.problems.append(Refusal(symbol.at, f"`{symbol.name}`" + ("" if typed else ", which isn't defined"), DEFINITION, typed))
         self.kinds.settle()
         moved = [at for at, type_ in self.to_generic if not self.kinds.is_text(type_)]
         if not self.model.in_bytes and moved and not all(map(self.kinds.is_text, self.from_generic)):
